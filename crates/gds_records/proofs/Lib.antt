@@ -1,0 +1,12 @@
+pub mod BytesLaws
+pub mod PartLaws
+pub mod CaseLaws
+pub mod JoinLaws
+pub mod RepeatLaws
+pub mod RefuseLaws
+pub mod UntilLaws
+pub mod ChoiceLaws
+pub mod SpellingLaws
+pub mod PointLists
+pub mod FileLaws
+pub mod StepLaws

@@ -1,0 +1,12 @@
+pub mod PropertyLaws
+pub mod NameLaws
+pub mod ValueLaws
+pub mod LatticeLaws
+pub mod ElementLaws
+pub mod ReferenceLaws
+pub mod FreshLaws
+pub mod ItemLaws
+pub mod LibraryLaws
+pub mod FaultLaws
+pub mod StandLaws
+pub mod NamedLaws

@@ -1,0 +1,25 @@
+//! Reads and writes GDSII stream files.
+#![tactic(auto)]
+
+mod array;
+mod boundary;
+mod fault;
+mod file;
+mod item;
+mod label;
+mod lattice;
+mod laws;
+mod library;
+mod names;
+mod path;
+mod property;
+mod read;
+mod reference;
+mod structure;
+mod transform;
+mod values;
+
+pub use fault::GdsFault;
+pub use laws::{libraries_are_read, libraries_are_unique};
+pub use library::{Element, Library, Prop, Structure};
+pub use read::read_gds;

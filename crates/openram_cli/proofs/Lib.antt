@@ -1,0 +1,5 @@
+mod WorkLaws
+mod WordLaws
+mod EndLaws
+mod PrintLaws
+mod StepLaws

@@ -1,0 +1,25 @@
+-- One step of the work after another.
+use Rattle.std.proofs.Common.{◌≡◌, ℕ, List, Option, Some, None, Result, Ok, Err, inr, subst}
+use Rattle.or_host.specs.Files.{Files}
+use Rattle.openram_cli.specs.declared.reply.Reply.{Reply}
+use Rattle.openram_cli.specs.declared.stop.Stop.{Stop}
+use Rattle.openram_cli.specs.declared.stop.Stop.TheVariants.{Refused, ReadFailed, Memory}
+use Rattle.openram_cli.specs.Answer.{IsThere, OnFile}
+use Rattle.openram_cli.specs.Reply.{refusal_reply}
+use Rattle.openram_cli.specs.Steps.{AnswersBy}
+use Rattle.openram_cli.specs.Told.{IfTold}
+
+-- what leads to one reply leads to another
+pub answers_by : (P Q : Reply → Type 0) (R S : List ℕ → Type 0) → ((reply : Reply) → P reply → Q reply) → ((name : List ℕ) → R name → S name) → (result : Result Reply Stop) → AnswersBy P R result → AnswersBy Q S result
+answers_by P Q R S f g (Ok reply) a = f reply a
+answers_by P Q R S f g (Err (Refused refusal)) a = f (refusal_reply refusal) a
+answers_by P Q R S f g (Err (ReadFailed name)) a = g name.now a
+answers_by P Q R S f g (Err Memory) a = tt
+
+-- what a file's bytes lead to
+pub on_file : (told : Option Files) (name bytes seen : List ℕ) (P : List ℕ → Reply → Type 0) (R S : List ℕ → Type 0) (result : Result Reply Stop) → ((n : List ℕ) → R n → S n) → seen ≡ bytes → IfTold told (λ files. IsThere files name bytes)
+    → AnswersBy (P seen) R result → IfTold told (λ files. AnswersBy (OnFile files name P) S result)
+on_file None name bytes seen P R S result g is there a = tt
+on_file (Some files) name bytes seen P R S result g is there a =
+    let here : AnswersBy (P bytes) R result = subst (λ (b : List ℕ). AnswersBy (P b) R result) is a in
+    answers_by (P bytes) (OnFile files name P) R S (λ reply p. inr (bytes, there, p)) g result here

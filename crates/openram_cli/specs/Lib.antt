@@ -1,0 +1,13 @@
+pub mod Lines
+pub mod Refusals
+pub mod Reply
+pub mod Command
+pub mod CheckWords
+pub mod Answer
+pub mod Told
+pub mod Steps
+pub mod Printed
+pub mod Reads
+pub mod Run
+pub mod Finished
+pub mod Stops

@@ -1,0 +1,51 @@
+//! The program.
+#![tactic(auto)]
+
+mod command;
+mod file;
+mod finding;
+mod finish;
+mod line;
+mod print;
+mod program;
+mod refusal;
+mod reply;
+mod run;
+mod stop;
+#[cfg(test)]
+mod tests;
+mod text;
+mod work;
+
+use crate::run::run;
+use or_host::{FileStore, StreamSink};
+use std::env;
+use std::process::ExitCode;
+
+/// Where the words find no memory.
+const NO_MEMORY: u8 = 5;
+
+/// The words after the program's name. A word that isn't UTF-8 leaves no words, which is no form.
+fn words(rt: &HostRuntime) -> Option<Vec<String>> {
+    let mut words = Vec::new(rt.alloc());
+    let args = match env::args(rt) {
+        Ok(args) => args,
+        Err(_) => return Some(words),
+    };
+    for word in args.skip(1) {
+        match words.push(word) {
+            Ok(()) => {}
+            Err(_) => return None,
+        }
+    }
+    Some(words)
+}
+
+fn main(rt: HostRuntime) -> ExitCode {
+    let Some(words) = words(&rt) else {
+        return ExitCode::from(NO_MEMORY);
+    };
+    let mut store = FileStore::new(rt);
+    let mut out = StreamSink::new(rt);
+    ExitCode::from(run(&rt, rt.alloc(), &words, &mut store, &mut out))
+}

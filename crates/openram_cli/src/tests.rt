@@ -1,0 +1,348 @@
+//! Worked examples of `check`. Corners are in nanometres and below 128, so one byte each is enough.
+
+use crate::run::run;
+use or_geom::{Items, Name};
+use or_host::{MemFile, MemSink, MemStore};
+use std::alloc::Global;
+use std::test::Fail;
+use std::thread::Threads;
+
+/// One layer with a width rule of 4 and a space rule of 5.
+const PLAIN: &[u8] =
+    b"outline = \"m1\"\n[[layer]]\nname = \"m1\"\ngds = [10, 0]\n[[rule]]\nkind = \"width\"\nlayer = \"m1\"\nmin = 4\n[[rule]]\nkind = \"space\"\nlayer = \"m1\"\nother = \"m1\"\nmin = 5\n";
+
+/// A technology with a connection.
+const CONNECTED: &[u8] =
+    b"outline = \"m1\"\n[[layer]]\nname = \"m1\"\ngds = [10, 0]\n[[layer]]\nname = \"m2\"\ngds = [11, 0]\n[[layer]]\nname = \"v1\"\ngds = [12, 0]\n[[connect]]\ncut = \"v1\"\nto = [\"m1\", \"m2\"]\n";
+
+/// Two corners of a rectangle: x1, y1, x2 and y2.
+type Corners = [u8; 4];
+
+const FIRST: Corners = [0, 0, 4, 4];
+
+fn record(out: &mut Vec<u8>, code: [u8; 2], content: &[u8]) -> Result<(), Fail> {
+    let size = u8::try_from(content.len().saturating_add(4))
+        .ok()
+        .ok_or("short")?;
+    out.extend_from_slice(&[0, size])?;
+    out.extend_from_slice(&code)?;
+    out.extend_from_slice(content)?;
+    Ok(())
+}
+
+fn outline(c: Corners) -> [u8; 40] {
+    let [x1, y1, x2, y2] = c;
+    [
+        0, 0, 0, x1, 0, 0, 0, y1, 0, 0, 0, x2, 0, 0, 0, y1, 0, 0, 0, x2, 0, 0, 0, y2, 0, 0, 0, x1,
+        0, 0, 0, y2, 0, 0, 0, x1, 0, 0, 0, y1,
+    ]
+}
+
+fn boundary(out: &mut Vec<u8>, corners: Corners, dropped: bool) -> Result<(), Fail> {
+    record(out, [8, 0], &[])?;
+    if dropped {
+        record(out, [47, 3], &[0, 0, 0, 1])?;
+    }
+    record(out, [13, 2], &[0, 10])?;
+    record(out, [14, 2], &[0, 0])?;
+    record(out, [16, 3], &outline(corners))?;
+    record(out, [17, 0], &[])
+}
+
+/// A library `a` with a structure `t` of these rectangles. The two `last` bytes end UNITS.
+fn library_with(
+    alloc: Global,
+    rectangles: &[Corners],
+    dropped: bool,
+    last: [u8; 2],
+) -> Result<Vec<u8>, Fail> {
+    let mut out = Vec::new(alloc);
+    record(&mut out, [0, 2], &[2, 88])?;
+    record(&mut out, [1, 2], &[0; 24])?;
+    record(&mut out, [2, 6], b"a\0")?;
+    if dropped {
+        record(&mut out, [34, 2], &[0, 3])?;
+    }
+    let [high, low] = last;
+    record(
+        &mut out,
+        [3, 5],
+        &[
+            62, 65, 137, 55, 75, 198, 167, 240, 57, 68, 184, 47, 160, 155, high, low,
+        ],
+    )?;
+    record(&mut out, [5, 2], &[0; 24])?;
+    record(&mut out, [6, 6], b"t\0")?;
+    for corners in rectangles {
+        boundary(&mut out, *corners, dropped)?;
+    }
+    record(&mut out, [7, 0], &[])?;
+    record(&mut out, [4, 0], &[])?;
+    Ok(out)
+}
+
+fn library(alloc: Global, rectangles: &[Corners]) -> Result<Vec<u8>, Fail> {
+    library_with(alloc, rectangles, false, [0x5A, 0x54])
+}
+
+fn file(alloc: Global, name: &[u8], bytes: Vec<u8>) -> Result<MemFile, Fail> {
+    Ok(MemFile {
+        name: Name::from_bytes(alloc, name)?,
+        bytes: Items::from_vec(bytes),
+    })
+}
+
+/// Which calls of the store and of the sink fail, counted from 1.
+#[derive(Clone, Copy)]
+struct Failing {
+    store: u64,
+    sink: u64,
+}
+
+const NONE: Failing = Failing { store: 0, sink: 0 };
+
+/// Runs the words on a technology and a library of rectangles.
+fn answer<R: Threads + Sync>(
+    alloc: Global,
+    words: &[&str],
+    tech: &[u8],
+    rectangles: &[Corners],
+    rt: &R,
+    failing: Failing,
+) -> Result<(u8, MemSink), Fail> {
+    answer_on(alloc, words, tech, library(alloc, rectangles)?, rt, failing)
+}
+
+/// Runs the words on the files `t.toml` and `a.gds`, of which these are the bytes.
+fn answer_on<R: Threads + Sync>(
+    alloc: Global,
+    words: &[&str],
+    tech: &[u8],
+    gds: Vec<u8>,
+    rt: &R,
+    failing: Failing,
+) -> Result<(u8, MemSink), Fail> {
+    let mut files = Vec::new(alloc);
+    files.push(file(alloc, b"t.toml", tech.to_vec(alloc)?)?)?;
+    files.push(file(alloc, b"a.gds", gds)?)?;
+    let mut list = Vec::new(alloc);
+    for word in words {
+        list.push(String::from_str(alloc, word)?)?;
+    }
+    let mut store = MemStore::with(alloc, files, vec![in alloc; failing.store]?);
+    let mut out = MemSink::with(alloc, vec![in alloc; failing.sink]?);
+    let status = run(rt, alloc, &list, &mut store, &mut out);
+    Ok((status, out))
+}
+
+const CHECK: [&str; 5] = ["check", "t.toml", "a.gds", "t", "1"];
+
+fn second<R: Threads + Sync>(
+    rt: &R,
+    alloc: Global,
+    corners: Corners,
+) -> Result<(u8, MemSink), Fail> {
+    answer(alloc, &CHECK, PLAIN, &[FIRST, corners], rt, NONE)
+}
+
+#[test]
+fn two_rectangles_apart(rt: HostRuntime) -> Result<(), Fail> {
+    let (far, text) = second(&rt, rt.alloc(), [9, 0, 13, 4])?;
+    assert_eq!(rt; far, 0);
+    assert_eq!(rt; text.written(), b"".as_slice());
+    let (at_minimum, text) = second(&rt, rt.alloc(), [7, 8, 11, 12])?;
+    assert_eq!(rt; at_minimum, 0);
+    assert_eq!(rt; text.written(), b"".as_slice());
+    Ok(())
+}
+
+#[test]
+fn two_rectangles_near(rt: HostRuntime) -> Result<(), Fail> {
+    let (beside, text) = second(&rt, rt.alloc(), [8, 0, 12, 4])?;
+    assert_eq!(rt; beside, 1);
+    assert_eq!(rt; text.written(), b"1 m1 0 0 4 4 m1 8 0 12 4\n".as_slice());
+    let (corner, text) = second(&rt, rt.alloc(), [4, 4, 8, 8])?;
+    assert_eq!(rt; corner, 1);
+    assert_eq!(rt; text.written(), b"1 m1 0 0 4 4 m1 4 4 8 8\n".as_slice());
+    let (diagonal, text) = second(&rt, rt.alloc(), [7, 7, 11, 11])?;
+    assert_eq!(rt; diagonal, 1);
+    assert_eq!(rt; text.written(), b"1 m1 0 0 4 4 m1 7 7 11 11\n".as_slice());
+    Ok(())
+}
+
+#[test]
+fn not_built(rt: HostRuntime) -> Result<(), Fail> {
+    let (touching, text) = second(&rt, rt.alloc(), [4, 0, 8, 4])?;
+    assert_eq!(rt; touching, 3);
+    assert_eq!(rt; text.written(), b"openram: 93 NotBuilt a.gds\n".as_slice());
+    let (connected, text) = answer(rt.alloc(), &CHECK, CONNECTED, &[FIRST], &rt, NONE)?;
+    assert_eq!(rt; connected, 3);
+    assert_eq!(rt; text.written(), b"openram: 93 NotBuilt t.toml\n".as_slice());
+    Ok(())
+}
+
+#[test]
+fn an_empty_structure(rt: HostRuntime) -> Result<(), Fail> {
+    let (status, text) = answer(rt.alloc(), &CHECK, PLAIN, &[], &rt, NONE)?;
+    assert_eq!(rt; status, 0);
+    assert_eq!(rt; text.written(), b"".as_slice());
+    Ok(())
+}
+
+#[test]
+fn names_that_are_not_there(rt: HostRuntime) -> Result<(), Fail> {
+    let alloc = rt.alloc();
+    let (cell, text) = answer(
+        alloc,
+        &["check", "t.toml", "a.gds", "z", "1"],
+        PLAIN,
+        &[FIRST],
+        &rt,
+        NONE,
+    )?;
+    assert_eq!(rt; cell, 3);
+    assert_eq!(rt; text.written(), b"openram: 31 UnknownStruct z\n".as_slice());
+    let (tech, text) = answer(
+        alloc,
+        &["check", "u.toml", "a.gds", "t", "1"],
+        PLAIN,
+        &[],
+        &rt,
+        NONE,
+    )?;
+    assert_eq!(rt; tech, 3);
+    assert_eq!(rt; text.written(), b"openram: 67 NoFile u.toml\n".as_slice());
+    let (gds, text) = answer(
+        alloc,
+        &["check", "t.toml", "b.gds", "t", "1"],
+        PLAIN,
+        &[],
+        &rt,
+        NONE,
+    )?;
+    assert_eq!(rt; gds, 3);
+    assert_eq!(rt; text.written(), b"openram: 67 NoFile b.gds\n".as_slice());
+    Ok(())
+}
+
+#[test]
+fn words_that_are_no_form(rt: HostRuntime) -> Result<(), Fail> {
+    let alloc = rt.alloc();
+    let (workers, text) = answer(
+        alloc,
+        &["check", "t.toml", "a.gds", "t", "65"],
+        PLAIN,
+        &[],
+        &rt,
+        NONE,
+    )?;
+    assert_eq!(rt; workers, 2);
+    assert_eq!(rt; text.written(), b"openram: 90 Usage\n".as_slice());
+    let (none, text) = answer(alloc, &[], PLAIN, &[], &rt, NONE)?;
+    assert_eq!(rt; none, 2);
+    assert_eq!(rt; text.written(), b"openram: 90 Usage\n".as_slice());
+    Ok(())
+}
+
+/// A sink that fails prints the first half.
+#[test]
+fn calls_that_fail(rt: HostRuntime) -> Result<(), Fail> {
+    let alloc = rt.alloc();
+    let near = [FIRST, [8, 0, 12, 4]];
+    let (tech, text) = answer(
+        alloc,
+        &CHECK,
+        PLAIN,
+        &near,
+        &rt,
+        Failing { store: 1, sink: 0 },
+    )?;
+    assert_eq!(rt; tech, 4);
+    assert_eq!(rt;
+        text.written(),
+        b"openram: 91 ReadFailed t.toml\n".as_slice()
+    );
+    let (gds, text) = answer(
+        alloc,
+        &CHECK,
+        PLAIN,
+        &near,
+        &rt,
+        Failing { store: 2, sink: 0 },
+    )?;
+    assert_eq!(rt; gds, 4);
+    assert_eq!(rt;
+        text.written(),
+        b"openram: 91 ReadFailed a.gds\n".as_slice()
+    );
+    let (put, text) = answer(
+        alloc,
+        &CHECK,
+        PLAIN,
+        &near,
+        &rt,
+        Failing { store: 0, sink: 1 },
+    )?;
+    assert_eq!(rt; put, 4);
+    assert_eq!(rt; text.written(), b"1 m1 0 0 4 4".as_slice());
+    let (both, text) = answer(
+        alloc,
+        &CHECK,
+        PLAIN,
+        &near,
+        &rt,
+        Failing { store: 1, sink: 1 },
+    )?;
+    assert_eq!(rt; both, 4);
+    assert_eq!(rt; text.written(), b"openram: 91 Rea".as_slice());
+    Ok(())
+}
+
+/// GENERATIONS after LIBNAME and PLEX after BOUNDARY are dropped.
+#[test]
+fn dropped_records(rt: HostRuntime) -> Result<(), Fail> {
+    let alloc = rt.alloc();
+    let gds = library_with(alloc, &[FIRST, [8, 0, 12, 4]], true, [0x5A, 0x54])?;
+    let (status, text) = answer_on(alloc, &CHECK, PLAIN, gds, &rt, NONE)?;
+    assert_eq!(rt; status, 1);
+    assert_eq!(rt; text.written(), b"1 m1 0 0 4 4 m1 8 0 12 4\n".as_slice());
+    Ok(())
+}
+
+/// The second real of UNITS may be off by rounding, and not by more.
+#[test]
+fn units_within_rounding(rt: HostRuntime) -> Result<(), Fail> {
+    let alloc = rt.alloc();
+    let near = library_with(alloc, &[FIRST], false, [0x5B, 0x54])?;
+    let (status, text) = answer_on(alloc, &CHECK, PLAIN, near, &rt, NONE)?;
+    assert_eq!(rt; status, 0);
+    assert_eq!(rt; text.written(), b"".as_slice());
+    let far = library_with(alloc, &[FIRST], false, [0x5B, 0x55])?;
+    let (status, text) = answer_on(alloc, &CHECK, PLAIN, far, &rt, NONE)?;
+    assert_eq!(rt; status, 3);
+    assert_eq!(rt; text.written(), b"openram: 4 BadUnits 40\n".as_slice());
+    Ok(())
+}
+
+#[test]
+fn where_a_library_ends(rt: HostRuntime) -> Result<(), Fail> {
+    let alloc = rt.alloc();
+    let mut cut = library(alloc, &[FIRST])?;
+    cut.truncate(130);
+    let (status, text) = answer_on(alloc, &CHECK, PLAIN, cut, &rt, NONE)?;
+    assert_eq!(rt; status, 3);
+    assert_eq!(rt; text.written(), b"openram: 1 Truncated 110\n".as_slice());
+    let mut zeros = library(alloc, &[FIRST])?;
+    zeros.extend_from_slice(&[0; 6])?;
+    let (status, _) = answer_on(alloc, &CHECK, PLAIN, zeros, &rt, NONE)?;
+    assert_eq!(rt; status, 0);
+    let mut more = library(alloc, &[FIRST])?;
+    more.extend_from_slice(&[7])?;
+    let (status, text) = answer_on(alloc, &CHECK, PLAIN, more, &rt, NONE)?;
+    assert_eq!(rt; status, 3);
+    assert_eq!(rt;
+        text.written(),
+        b"openram: 8 TrailingBytes 166\n".as_slice()
+    );
+    Ok(())
+}

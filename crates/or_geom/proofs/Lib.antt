@@ -1,0 +1,5 @@
+mod JoinedLaws
+mod DistanceLaws
+mod GapLaws
+mod CoverLaws
+pub mod PlaceLaws

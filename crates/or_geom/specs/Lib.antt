@@ -1,0 +1,9 @@
+pub mod Joined
+pub mod Distance
+pub mod Gap
+pub mod Covered
+pub mod Span
+pub mod Contact
+pub mod Texts
+pub mod Row
+pub mod Place

@@ -1,0 +1,45 @@
+ghost use Rattle.std.specs.Prelude.{◌≡◌, ◌↔◌, IfOk, IsTrue};
+
+use crate::memory::Memory;
+use std::alloc::Global;
+use std::marker::Model;
+
+/// A name, which is a text of bytes: of a file, a structure, a layer, a pin, an instance.
+/// Contracts see it as the list of its bytes.
+#[derive(Debug, Drop)]
+pub struct Name {
+    bytes: Vec<u8>,
+}
+
+impl Model for Name {
+    ghost use Rattle.std.specs.Prelude.{List, ℕ};
+
+    ghost Value = { List ℕ };
+
+    ghost view = { λ n. n.bytes.items };
+}
+
+impl Name {
+    /// The name that these bytes spell. Any bytes will do.
+    pub fn from_bytes(alloc: Global, bytes: &[u8]) -> Result<Name, Memory>
+        ensures { IfOk result (λ name. name ≡ bytes.now) }
+    {
+        Ok(Name {
+            bytes: Vec::from_slice(alloc, bytes)?,
+        })
+    }
+
+    /// The bytes of the name.
+    pub fn as_bytes(&self) -> &[u8]
+        ensures { result.now ≡ self.now }
+    {
+        &self.bytes
+    }
+
+    /// Whether the name is spelled by these bytes.
+    pub fn is(&self, bytes: &[u8]) -> bool
+        ensures { IsTrue result ↔ (self.now ≡ bytes.now) }
+    {
+        self.bytes.as_slice() == bytes
+    }
+}

@@ -1,0 +1,9 @@
+pub mod Fault
+pub mod Files
+pub mod Text
+pub mod FileList
+pub mod Schedule
+pub mod MemoryStore
+pub mod MemorySink
+pub mod SureFiles
+pub mod SureText

@@ -1,0 +1,6 @@
+-- The text of a sink that never fails.
+use Rattle.std.specs.Prelude.{ℕ, List}
+use Rattle.or_host.specs.declared.sure_sink.SureSink.{SureSink}
+
+abbrev pub sure_text : SureSink → List ℕ
+sure_text s = s.text.items

@@ -1,0 +1,89 @@
+ghost use Rattle.std.specs.Prelude.{◌≡◌, ◌≤◌, ℕ, None, IfOk, length};
+ghost use Rattle.or_host.specs.Files.{IsNoLonger};
+
+use crate::store::{ReadFail, Store, WriteFail};
+use std::alloc::Global;
+use std::io::Read;
+use std::rt::Runtime;
+use std::{fs, io};
+
+/// Files of the file system, of which nothing is told. This is the trusted edge: that a read gives what the file holds,
+/// and that a write keeps the bytes, is the system's promise.
+#[derive(Drop)]
+pub struct FileStore<R: Runtime + AllocGlobal> {
+    rt: R,
+    faults: u64,
+}
+
+impl<R: Runtime + AllocGlobal> FileStore<R> {
+    pub fn new(rt: R) -> Self {
+        FileStore { rt, faults: 0 }
+    }
+}
+
+/// The bytes of a file, if there are no more than the limit. Each turn takes at least one byte, and no more than one
+/// byte above the limit is ever taken into memory.
+fn read_at_most(
+    alloc: Global,
+    file: &mut impl Read,
+    limit: u64,
+) -> Result<Option<Vec<u8>>, ReadFail>
+    ensures { IfOk result (IsNoLonger limit) }
+{
+    let mut bytes = Vec::new(alloc);
+    let mut buffer = [0u8; 16384];
+    for _ in 0..=limit {
+        let room = limit - bytes.len() as u64;
+        let want = if room < 16384 {
+            room as usize + 1
+        } else {
+            16384
+        };
+        let n = match file.read(&mut buffer[..want]) {
+            Ok(n) => n,
+            Err(_) => return Err(ReadFail::Failed),
+        };
+        if n == 0 {
+            return Ok(Some(bytes));
+        }
+        bytes.extend_from_slice(&buffer[..n])?;
+        if bytes.len() as u64 > limit {
+            return Err(ReadFail::TooLong);
+        }
+    }
+    Err(ReadFail::TooLong)
+}
+
+impl<R: Runtime + AllocGlobal> Store for FileStore<R> {
+    ghost files = { λ s. None };
+
+    ghost faults = { λ s. s.faults };
+
+    fn read(&mut self, name: &str, limit: u64) -> Result<Option<Vec<u8>>, ReadFail> {
+        let mut file = match fs::open(&self.rt, name) {
+            Ok(file) => file,
+            Err(error) if error.kind() == io::ErrorKind::NotFound => return Ok(None),
+            Err(_) => {
+                self.faults = self.faults.saturating_add(1);
+                return Err(ReadFail::Failed);
+            }
+        };
+        match read_at_most(self.rt.alloc(), &mut file, limit) {
+            Err(ReadFail::Failed) => {
+                self.faults = self.faults.saturating_add(1);
+                Err(ReadFail::Failed)
+            }
+            other => other,
+        }
+    }
+
+    fn write(&mut self, name: &str, bytes: &[u8]) -> Result<(), WriteFail> {
+        match fs::write(&self.rt, name, bytes) {
+            Ok(()) => Ok(()),
+            Err(_) => {
+                self.faults = self.faults.saturating_add(1);
+                Err(WriteFail::Failed)
+            }
+        }
+    }
+}

@@ -1,0 +1,4 @@
+pub mod AddsLaws
+pub mod OneListLaws
+pub mod GatheringLaws
+pub mod ShapeOrderLaws

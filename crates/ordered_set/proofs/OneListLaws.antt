@@ -1,0 +1,69 @@
+-- Two lists in strict order that hold the same things are one list.
+use Rattle.std.proofs.Common.{◌≡◌, ◌⊎◌, inl, inr, ℕ, zero, suc, slice_index_or, length, ◌<◌, List, [], ◌∷◌, refl, sym, ap, subst, ◌∙◌, arith}
+use Rattle.std.specs.Prelude.{Contains}
+use Rattle.std.specs.List.{AllByRecursion}
+use Rattle.std.specs.Cmp.{IsTotalOrder}
+use Rattle.std.specs.Ordering.{ordering_reverse}
+use Rattle.std.specs.List.Sorted.{IsStrictlySortedBy}
+use Rattle.std.specs.declared.cmp.Ordering.{Ordering}
+use Rattle.std.specs.declared.cmp.Ordering.TheVariants.{Less, Greater}
+use Rattle.ordered_set.specs.OneList.{HoldSame}
+
+not_below : (k : ℕ) → k < 0 → ⊥
+not_below k lt = omega arith
+
+cases_at : {X : Type 0} (y : X) (ys : List X) (x : X) (k : ℕ) → k < length (y ∷ ys) → slice_index_or (y ∷ ys) k x ≡ x → (x ≡ y) ⊎ Contains ys x
+cases_at y ys x zero lt is = inl (sym is)
+cases_at y ys x (suc k) lt is = inr (k, omega arith, is)
+
+-- what a list holds is its first item or stands behind it
+pub contains_cases : {X : Type 0} (y : X) (ys : List X) (x : X) → Contains (y ∷ ys) x → (x ≡ y) ⊎ Contains ys x
+contains_cases y ys x h = cases_at y ys x h.0 h.1 h.2
+
+pub contains_first : {X : Type 0} (y : X) (ys : List X) → Contains (y ∷ ys) y
+contains_first y ys = (0, omega arith, refl)
+
+pub contains_later : {X : Type 0} (y : X) (ys : List X) (x : X) → Contains ys x → Contains (y ∷ ys) x
+contains_later y ys x h = (suc h.0, omega (arith, h.1), h.2)
+
+all_at : {X : Type 0} (P : X → Type 0) (ys : List X) (x : X) (k : ℕ) → AllByRecursion P ys → k < length ys → slice_index_or ys k x ≡ x → P x
+all_at P [] x k all lt is = absurd (not_below k lt)
+all_at P (y ∷ ys) x zero all lt is = subst P is all.0
+all_at P (y ∷ ys) x (suc k) all lt is = all_at P ys x k all.1 (omega arith) is
+
+pub all_contained : {X : Type 0} (P : X → Type 0) (ys : List X) (x : X) → AllByRecursion P ys → Contains ys x → P x
+all_contained P ys x all h = all_at P ys x h.0 all h.1 h.2
+
+-- of two things not each comes before the other
+pub not_both : {X : Type 0} (cmp : X → X → Ordering) → IsTotalOrder cmp → (x y : X) → cmp x y ≡ Less → cmp y x ≡ Less → ⊥
+not_both cmp total x y a b = let e : ◌≡◌ {A = Ordering} Less Greater = sym a ∙ (total.antisymm x y ∙ ap ordering_reverse b) in cc
+
+heads : {X : Type 0} (cmp : X → X → Ordering) → IsTotalOrder cmp → (x y : X) (xs ys : List X) → AllByRecursion (λ z. cmp x z ≡ Less) xs → AllByRecursion (λ z. cmp y z ≡ Less) ys
+    → Contains (y ∷ ys) x → Contains (x ∷ xs) y → x ≡ y
+heads cmp total x y xs ys above_x above_y a b = elim (contains_cases y ys x a) [
+  | inl e ↦ e
+  | inr h ↦ elim (contains_cases x xs y b) [
+    | inl e ↦ sym e
+    | inr k ↦ absurd (not_both cmp total x y (all_contained (λ z. cmp x z ≡ Less) xs y above_x k) (all_contained (λ z. cmp y z ≡ Less) ys x above_y h))
+  ]
+]
+
+tail : {X : Type 0} (cmp : X → X → Ordering) → IsTotalOrder cmp → (x y : X) (xs ys : List X) → AllByRecursion (λ z. cmp x z ≡ Less) xs → x ≡ y → ((z : X) → Contains (x ∷ xs) z → Contains (y ∷ ys) z)
+    → (z : X) → Contains xs z → Contains ys z
+tail cmp total x y xs ys above e there z h = elim (contains_cases y ys z (there z (contains_later x xs z h))) [
+  | inl k ↦
+      let less : cmp x z ≡ Less = all_contained (λ w. cmp x w ≡ Less) xs z above h in
+      let self : cmp x x ≡ Less = subst (λ w. cmp x w ≡ Less) (k ∙ sym e) less in
+      absurd (not_both cmp total x x self self)
+  | inr k ↦ k
+]
+
+pub one_list : {X : Type 0} (cmp : X → X → Ordering) → IsTotalOrder cmp → (xs ys : List X) → IsStrictlySortedBy cmp xs → IsStrictlySortedBy cmp ys → HoldSame xs ys → xs ≡ ys
+unfolding IsStrictlySortedBy
+one_list cmp total [] [] a b same = refl
+one_list cmp total [] (y ∷ ys) a b same = let h = same.back y (contains_first y ys) in absurd (not_below h.0 h.1)
+one_list cmp total (x ∷ xs) [] a b same = let h = same.there x (contains_first x xs) in absurd (not_below h.0 h.1)
+one_list {X = X} cmp total (x ∷ xs) (y ∷ ys) a b same =
+    let e = heads cmp total x y xs ys a.0 b.0 (same.there x (contains_first x xs)) (same.back y (contains_first y ys)) in
+    let rest = one_list cmp total xs ys a.1 b.1 (record { there = tail cmp total x y xs ys a.0 e same.there; back = tail cmp total y x ys xs b.0 (sym e) same.back }) in
+    ap (λ (z : X). z ∷ xs) e ∙ ap (λ (zs : List X). y ∷ zs) rest

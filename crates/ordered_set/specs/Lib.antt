@@ -1,0 +1,5 @@
+pub mod Adds
+pub mod OneList
+pub mod Gathering
+pub mod ShapeOrder
+pub mod Reachable

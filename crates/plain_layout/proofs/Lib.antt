@@ -1,0 +1,3 @@
+mod DrawingLaws
+mod JointLaws
+mod CellLaws

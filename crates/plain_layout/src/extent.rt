@@ -1,0 +1,9 @@
+ghost use Rattle.std.specs.Prelude.{◌<ℤ◌};
+
+/// The numbers from one to another.
+#[derive(Clone, Copy)]
+pub struct Extent {
+    pub low: i64,
+    pub high: i64,
+    pub ghost ordered: { low <ℤ high },
+}

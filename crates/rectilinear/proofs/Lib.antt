@@ -1,0 +1,2 @@
+pub mod SimpleLaws
+pub mod SimpleTest

@@ -1,0 +1,5 @@
+use Rattle.rectilinear.proofs.SimpleLaws.{neighbours_last}
+use Rattle.rectilinear.proofs.simple.meet_as_neighbours.Goals as goal
+
+pub returns : goal.returns
+returns c = neighbours_last c.args.s c.args.t _ _ c.meet_at_most_there.ensures c.meet_at_most_there-2.ensures c.if-meet_at_most_there.false

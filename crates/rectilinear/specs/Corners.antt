@@ -1,0 +1,48 @@
+-- The corners of a ring of points.
+use Rattle.std.specs.Prelude.{List, [], ◌∷◌, Bool, false, ◌&&◌, cond, int_lt}
+use Rattle.std.specs.Ordering.{int_eq}
+use Rattle.or_geom.specs.declared.shape.Point.{Point}
+use Rattle.rectilinear.specs.declared.ring.Side.{Side}
+use Rattle.rectilinear.specs.Ring.{sides_of}
+
+-- the side goes nowhere: its point is repeated
+abbrev pub is_zero : Side → Bool
+is_zero s = int_eq s.a.x s.b.x && int_eq s.a.y s.b.y
+
+abbrev pub is_up : Side → Bool
+is_up s = int_eq s.a.x s.b.x && int_lt s.a.y s.b.y
+
+abbrev pub is_down : Side → Bool
+is_down s = int_eq s.a.x s.b.x && int_lt s.b.y s.a.y
+
+abbrev pub is_right : Side → Bool
+is_right s = int_eq s.a.y s.b.y && int_lt s.a.x s.b.x
+
+abbrev pub is_left : Side → Bool
+is_left s = int_eq s.a.y s.b.y && int_lt s.b.x s.a.x
+
+-- both sides go the same way, so the point between them lies inside a straight run
+abbrev pub is_run : Side → Side → Bool
+is_run s t = cond (is_up s) (is_up t) (cond (is_down s) (is_down t) (cond (is_right s) (is_right t) (cond (is_left s) (is_left t) false)))
+
+-- the sides that go somewhere
+abbrev pub steps : List Side → List Side
+steps [] = []
+steps (s ∷ ss) = cond (is_zero s) (steps ss) (s ∷ steps ss)
+
+-- the beginnings of the sides that don't go on as the one before
+abbrev pub turns_after : Side → List Side → List Point
+turns_after s [] = []
+turns_after s (t ∷ ts) = cond (is_run s t) (turns_after t ts) (t.a ∷ turns_after t ts)
+
+abbrev pub last_of : Side → List Side → Side
+last_of s [] = s
+last_of s (t ∷ ts) = last_of t ts
+
+abbrev pub turns : List Side → List Point
+turns [] = []
+turns (s ∷ ss) = turns_after (last_of s ss) (s ∷ ss)
+
+-- what remains of the points of a ring
+abbrev pub corners_of : List Point → List Point
+corners_of points = turns (steps (sides_of points))

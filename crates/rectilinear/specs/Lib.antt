@@ -1,0 +1,4 @@
+pub mod Ring
+pub mod Corners
+pub mod Simple
+pub mod Extents

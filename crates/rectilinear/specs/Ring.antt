@@ -1,0 +1,14 @@
+-- The sides of a ring of points.
+use Rattle.std.specs.Prelude.{List, [], ◌∷◌}
+use Rattle.or_geom.specs.declared.shape.Point.{Point}
+use Rattle.rectilinear.specs.declared.ring.Side.{Side}
+
+-- the sides from a point on through the next ones to the last
+abbrev pub sides_on : Point → List Point → Point → List Side
+sides_on p [] last = record { a = p; b = last } ∷ []
+sides_on p (q ∷ qs) last = record { a = p; b = q } ∷ sides_on q qs last
+
+-- from each point to the next, and from the last back to the first
+abbrev pub sides_of : List Point → List Side
+sides_of [] = []
+sides_of (p ∷ ps) = sides_on p ps p

@@ -1,0 +1,151 @@
+ghost use Rattle.std.specs.Prelude.{◌≡◌, ◌↔◌, ◌≤ℤ◌, IsTrue, IfOk};
+ghost use Rattle.rectilinear.specs.Simple.{IsOn, IsStraight, MeetAtMostThere, MeetAsNeighbours, AllMeet, AllStraight, PairsMeet, IsSimple};
+ghost use Rattle.rectilinear.specs.Extents.{IsExtentOf, IsCommon, IsAtMostPoint};
+
+use crate::ring::{Side, sides};
+use or_geom::{Memory, Point};
+use std::alloc::Global;
+
+/// The closed box from one corner to another; it is empty where the second lies below or left.
+#[derive(Clone, Copy)]
+struct Extent {
+    low: Point,
+    high: Point,
+}
+
+/// Whether the side is parallel to an axis and longer than zero.
+pub fn is_straight(side: Side) -> bool
+    ensures { IsTrue result ↔ IsStraight side }
+{
+    if side.a.x == side.b.x {
+        return side.a.y != side.b.y;
+    }
+    side.a.y == side.b.y
+}
+
+fn extent_of(side: Side) -> Extent
+    ensures { IsExtentOf side result }
+{
+    Extent {
+        low: Point {
+            x: side.a.x.min(side.b.x),
+            y: side.a.y.min(side.b.y),
+        },
+        high: Point {
+            x: side.a.x.max(side.b.x),
+            y: side.a.y.max(side.b.y),
+        },
+    }
+}
+
+fn common(e: Extent, f: Extent) -> Extent
+    ensures { IsCommon e f result }
+{
+    Extent {
+        low: Point {
+            x: e.low.x.max(f.low.x),
+            y: e.low.y.max(f.low.y),
+        },
+        high: Point {
+            x: e.high.x.min(f.high.x),
+            y: e.high.y.min(f.high.y),
+        },
+    }
+}
+
+fn is_same(p: Point, q: Point) -> bool
+    ensures { IsTrue result ↔ (p ≡ q) }
+{
+    if p.x != q.x {
+        return false;
+    }
+    p.y == q.y
+}
+
+/// Whether nothing but the point lies in the box.
+fn is_at_most(extent: Extent, point: Point) -> bool
+    ensures { IsTrue result ↔ IsAtMostPoint extent point }
+{
+    if extent.high.x < extent.low.x {
+        return true;
+    }
+    if extent.high.y < extent.low.y {
+        return true;
+    }
+    if is_same(extent.low, point) {
+        return is_same(extent.high, point);
+    }
+    false
+}
+
+fn meet_at_most_there(s: Side, t: Side) -> bool
+    ensures { IsTrue result ↔ MeetAtMostThere s t }
+{
+    let both = common(extent_of(s), extent_of(t));
+    if is_at_most(both, s.b) {
+        return is_at_most(both, t.a);
+    }
+    false
+}
+
+fn meet_as_neighbours(s: Side, t: Side) -> bool
+    ensures { IsTrue result ↔ MeetAsNeighbours s t }
+{
+    if meet_at_most_there(s, t) {
+        return true;
+    }
+    meet_at_most_there(t, s)
+}
+
+fn all_straight(sides: &[Side]) -> bool
+    ensures { IsTrue result ↔ AllStraight sides.now }
+{
+    let mut rest = sides;
+    while let Some((side, others)) = rest.split_first() {
+        if !is_straight(*side) {
+            return false;
+        }
+        rest = others;
+    }
+    true
+}
+
+fn all_meet(side: Side, sides: &[Side]) -> bool
+    ensures { IsTrue result ↔ AllMeet side sides.now }
+{
+    let mut rest = sides;
+    while let Some((other, others)) = rest.split_first() {
+        if !meet_as_neighbours(side, *other) {
+            return false;
+        }
+        rest = others;
+    }
+    true
+}
+
+fn pairs_meet(sides: &[Side]) -> bool
+    ensures { IsTrue result ↔ PairsMeet sides.now }
+{
+    let mut rest = sides;
+    while let Some((side, others)) = rest.split_first() {
+        if !all_meet(*side, others) {
+            return false;
+        }
+        rest = others;
+    }
+    true
+}
+
+/// Whether the ring's sides are parallel to the axes and meet only as neighbours.
+pub fn is_simple(alloc: Global, corners: &[Point]) -> Result<bool, Memory>
+    ensures { IfOk result (λ simple. IsTrue simple ↔ IsSimple corners.now) }
+{
+    if corners.len() < 4 {
+        return Ok(false);
+    }
+    let sides = sides(alloc, corners)?;
+    if !all_straight(&sides) {
+        return Ok(false);
+    }
+    Ok(pairs_meet(&sides))
+}

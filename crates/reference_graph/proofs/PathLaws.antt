@@ -1,0 +1,48 @@
+-- Paths: one step more, one after another, and where they lead.
+use Rattle.std.proofs.Common.{◌≡◌, inl, inr, ℕ, ◌<◌, List, [], ◌∷◌, ◌++◌, length, get_or, refl, sym, subst, arith}
+use Rattle.std.specs.Prelude.{Contains, All}
+use Rattle.std.proofs.lemmas.List.{get_or_past}
+use Rattle.std.proofs.lemmas.Bool.{cases_lt}
+use Rattle.std.proofs.lemmas.List.Elements.{Contains-get_or, All-contains}
+use Rattle.reference_graph.specs.Reaches.{RefersTo, AreWithin, IsPath, Reaches, ReachesItself}
+
+-- a path and one reference more
+path_push : (graph : List (List ℕ)) (from node to : ℕ) (path : List ℕ) → IsPath graph from path node → RefersTo graph node to → IsPath graph from (path ++ to ∷ []) to
+path_push graph from node to [] leads refers = (subst (λ (n : ℕ). RefersTo graph n to) leads refers, refl)
+path_push graph from node to (next ∷ rest) leads refers = (leads.0, path_push graph next node to rest leads.1 refers)
+
+-- what a reached node refers to is reached
+pub reaches_on : (graph : List (List ℕ)) (from node to : ℕ) → Reaches graph from node → RefersTo graph node to → Reaches graph from to
+reaches_on graph from node to r refers = record { path = r.path ++ to ∷ []; leads = path_push graph from node to r.path r.leads refers }
+
+-- each node reaches itself by the empty path, in the wide sense
+pub reaches_start : (graph : List (List ℕ)) (from to : ℕ) → to ≡ from → Reaches graph from to
+reaches_start graph from to e = record { path = []; leads = e }
+
+path_within : (graph : List (List ℕ)) (from to : ℕ) (path : List ℕ) → AreWithin graph → from < length graph → IsPath graph from path to → to < length graph
+path_within graph from to [] within lt leads = subst (λ (n : ℕ). n < length graph) (sym leads) lt
+path_within graph from to (next ∷ rest) within lt leads = path_within graph next to rest within (within from next leads.0) leads.1
+
+-- what is reached is a node of the list
+pub reaches_within : (graph : List (List ℕ)) (from to : ℕ) → AreWithin graph → from < length graph → Reaches graph from to → to < length graph
+reaches_within graph from to within lt r = path_within graph from to r.path within lt r.leads
+
+-- each reference of a node is below the number of nodes
+pub all_within : (graph : List (List ℕ)) (node : ℕ) (references : List ℕ) → AreWithin graph → references ≡ get_or graph node [] → All (λ to. to < length graph) references
+all_within graph node references within e = λ k d h. within node (get_or references k d) (subst (λ (xs : List ℕ). Contains xs (get_or references k d)) e (Contains-get_or references k d h))
+
+-- references are within where each list of references is
+pub within_from_all : (graph : List (List ℕ)) → ((node : ℕ) (d : List ℕ) → node < length graph → All (λ to. to < length graph) (get_or graph node d)) → AreWithin graph
+within_from_all graph all node to refers =
+    elim (cases_lt node (length graph)) [
+      | inl lt ↦ All-contains (λ (n : ℕ). n < length graph) (get_or graph node []) to (all node [] lt) refers
+      | inr ge ↦ let none = rw (get_or_past graph node [] ge) at refers in let lt : none.0 < 0 = none.1 in absurd (omega arith)
+    ]
+
+itself_by : (graph : List (List ℕ)) (node last : ℕ) (path : List ℕ) → IsPath graph node path last → RefersTo graph last node → ReachesItself graph node
+itself_by graph node last [] leads refers = record { next = node; rest = []; leads = (subst (λ (n : ℕ). RefersTo graph n node) leads refers, refl) }
+itself_by graph node last (next ∷ rest) leads refers = record { next = next; rest = rest ++ node ∷ []; leads = (leads.0, path_push graph next last node rest leads.1 refers) }
+
+-- a node reaches itself if one that it reaches refers back to it
+pub itself_from : (graph : List (List ℕ)) (node last : ℕ) → Reaches graph node last → RefersTo graph last node → ReachesItself graph node
+itself_from graph node last r refers = itself_by graph node last r.path r.leads refers

@@ -1,0 +1,5 @@
+pub mod Reaches
+pub mod BottomUp
+pub mod Height
+pub mod Spread
+pub mod Search

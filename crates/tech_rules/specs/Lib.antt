@@ -1,0 +1,10 @@
+pub mod Layers
+pub mod Names
+pub mod Rules
+pub mod Connects
+pub mod Wires
+pub mod WireRules
+pub mod Roles
+pub mod Facts
+pub mod Technology
+pub mod Plain

@@ -1,0 +1,18 @@
+//! Reads a technology file: its layers, design rules, connections, wire sizes and leaf cells.
+#![tactic(auto)]
+
+mod connects;
+mod layers;
+mod names;
+mod plain;
+mod read;
+mod roles;
+mod rules;
+mod tech;
+mod wire_rules;
+mod wires;
+
+pub use plain::read_plain_tech;
+pub use read::read_tech;
+pub use tech::{Connect, Layer, RoleName, RoleRows, Rule, Tech, Wire};
+pub use tech_keys::TechFault;

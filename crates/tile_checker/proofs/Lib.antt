@@ -1,0 +1,8 @@
+mod FrameLaws
+mod LayerLaws
+mod SpaceLaws
+mod AloneLaws
+mod EncloseLaws
+mod ReportLaws
+mod ViolationLaws
+mod UnjoinedLaws

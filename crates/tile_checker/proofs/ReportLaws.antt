@@ -1,0 +1,85 @@
+-- The report, one rule after another, and as a list in order.
+use Rattle.std.proofs.Common.{◌≡◌, ◌⊎◌, inl, inr, ℕ, zero, suc, ◌+◌, ◌<◌, ◌≤◌, List, [], ◌∷◌, length, get_or, Option, Some, refl, sym, ap, subst, ◌∙◌, arith}
+use Rattle.std.specs.Prelude.{Contains, All, slice_get}
+use Rattle.std.specs.List.Sorted.{IsStrictlySortedBy}
+use Rattle.or_geom.specs.declared.shape.Shape.{Shape}
+use Rattle.ordered_set.specs.Adds.{Adds}
+use Rattle.ordered_set.proofs.AddsLaws.{adds_none, adds_both, adds_as}
+use Rattle.tech_rules.specs.declared.tech.Rule.{Rule}
+use Rattle.tech_rules.specs.declared.tech.Rule.TheVariants.{Width, Space, Enclose}
+use Rattle.tech_rules.specs.declared.tech.Layer.{Layer}
+use Rattle.tech_rules.specs.Facts.{IsRule}
+use Rattle.std.proofs.lemmas.List.Elements.{All-contains}
+use Rattle.tile_checker.specs.Minimum.{HasMinimum}
+use Rattle.tile_checker.specs.Breaks.{Breaks}
+use Rattle.tile_checker.specs.RuleReport.{IsViolation, IsReport, violation_order}
+use Rattle.tile_checker.specs.Found.{IsViolationOf}
+use Rattle.tile_checker.specs.declared.violation.Violation.{Violation}
+
+-- a violation of a rule below this number
+pub record IsBelow (rules : List Rule) (shapes : List Shape) (n : ℕ) (v : Violation) : Type 0 where
+  pub below : v.rule < n
+  pub violation : IsViolation rules shapes v
+
+pub has_minimum : (layers : List Layer) (rule : Rule) → IsRule layers rule → HasMinimum rule
+has_minimum layers (Width layer min) is = record { positive = is.min.from; bounded = is.min.to }
+has_minimum layers (Space layer other min) is = record { positive = is.min.from; bounded = is.min.to }
+has_minimum layers (Enclose layer by min) is = record { positive = is.min.from; bounded = is.min.to }
+
+pub minimums : (layers : List Layer) (rules seen : List Rule) → seen ≡ rules → All (IsRule layers) rules → All HasMinimum seen
+minimums layers rules seen is all = subst (λ (rs : List Rule). All HasMinimum rs) (sym is) (λ k d lt. has_minimum layers _ (all k d lt))
+
+pub minimum_at : (rules : List Rule) (i : ℕ) (rule : Rule) → All HasMinimum rules → i < length rules → rule ≡ get_or rules i rule → HasMinimum rule
+minimum_at rules i rule all lt is = All-contains HasMinimum rules rule all (i, lt, sym is)
+
+got : (rules : List Rule) (i : ℕ) (rule : Rule) → i < length rules → rule ≡ get_or rules i rule → slice_get rules i ≡ Some rule
+got [] i rule lt is = absurd (omega arith)
+got (r ∷ rs) zero rule lt is = ap (λ (x : Rule). Some x) (sym is)
+got (r ∷ rs) (suc i) rule lt is = got rs i rule (omega arith) is
+
+within : (rules : List Rule) (i : ℕ) (rule : Rule) → slice_get rules i ≡ Some rule → i < length rules
+within [] i rule is = absurd cc
+within (r ∷ rs) zero rule is = omega arith
+within (r ∷ rs) (suc i) rule is = omega (arith, within rs i rule is)
+
+one_rule : (a b : Rule) → ◌≡◌ {A = Option Rule} (Some a) (Some b) → a ≡ b
+one_rule a b e = cc
+
+pub report_begins : (rules : List Rule) (shapes : List Shape) (out : List Violation) → Adds out out (IsBelow rules shapes 0)
+report_begins rules shapes out = adds_none out (IsBelow rules shapes 0) (λ v b. let lt = b.below in omega arith)
+
+below_or : (a n : ℕ) → a < n + 1 → (a < n) ⊎ (a ≡ n)
+below_or zero zero lt = inr refl
+below_or zero (suc n) lt = inl (omega arith)
+below_or (suc a) zero lt = absurd (omega arith)
+below_or (suc a) (suc n) lt = elim (below_or a n (omega arith)) [ inl h ↦ inl (omega arith) | inr e ↦ inr (ap suc e) ]
+
+step_to : (rules : List Rule) (shapes : List Shape) (n : ℕ) (rule : Rule) → n < length rules → rule ≡ get_or rules n rule → (v : Violation) → IsBelow rules shapes n v ⊎ IsViolationOf n rule shapes v → IsBelow rules shapes (n + 1) v
+step_to rules shapes n rule lt is v (inl b) = record { below = omega (arith, b.below); violation = b.violation }
+step_to rules shapes n rule lt is v (inr w) = record {
+  below = omega (arith, w.numbered);
+  violation = record { rule = rule; numbered = ap (slice_get rules) w.numbered ∙ got rules n rule lt is; first = w.first; second = w.second; breaks = w.breaks };
+}
+
+step_from : (rules : List Rule) (shapes : List Shape) (n : ℕ) (rule : Rule) → n < length rules → rule ≡ get_or rules n rule → (v : Violation) → IsBelow rules shapes (n + 1) v → IsBelow rules shapes n v ⊎ IsViolationOf n rule shapes v
+step_from rules shapes n rule lt is v b = elim (below_or v.rule n b.below) [
+  | inl less ↦ inl (record { below = less; violation = b.violation })
+  | inr same ↦
+      let w = b.violation in
+      let e : w.rule ≡ rule = one_rule w.rule rule (sym w.numbered ∙ (ap (slice_get rules) same ∙ got rules n rule lt is)) in
+      inr (record { numbered = same; first = w.first; second = w.second; breaks = subst (λ (r : Rule). Breaks r shapes v.first v.second) e w.breaks })
+]
+
+pub report_goes_on : (rules : List Rule) (shapes : List Shape) (n : ℕ) (rule : Rule) (old now next : List Violation) → n < length rules → rule ≡ get_or rules n rule
+    → Adds old now (IsBelow rules shapes n) → Adds now next (IsViolationOf n rule shapes) → Adds old next (IsBelow rules shapes (n + 1))
+report_goes_on rules shapes n rule old now next lt is a b =
+    adds_as old next (λ v. IsBelow rules shapes n v ⊎ IsViolationOf n rule shapes v) (IsBelow rules shapes (n + 1)) (step_to rules shapes n rule lt is) (step_from rules shapes n rule lt is)
+    (adds_both old now next (IsBelow rules shapes n) (IsViolationOf n rule shapes) a b)
+
+pub report_ends : (rules : List Rule) (shapes : List Shape) (n : ℕ) (found list : List Violation) → length rules ≤ n → Adds [] found (IsBelow rules shapes n) → IsStrictlySortedBy violation_order list
+    → ((v : Violation) → Contains found v → Contains list v) → ((v : Violation) → Contains list v → Contains found v) → IsReport rules shapes list
+report_ends rules shapes n found list le a rises keeps adds_none = record {
+  rises = rises;
+  only = λ v h. (a.only v (subst (λ (l : List Violation). Contains l v) a.is (adds_none v h))).violation;
+  each = λ v w. keeps v (subst (λ (l : List Violation). Contains l v) (sym a.is) (a.each v (record { below = omega (arith, within rules v.rule w.rule w.numbered); violation = w })));
+}

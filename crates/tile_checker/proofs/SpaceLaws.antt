@@ -1,0 +1,138 @@
+-- There is one least distance and one gap, and what the pairs of a list find is what the rule's definition says.
+use Rattle.std.proofs.Common.{not, Option, ◌≡◌, inl, inr, ℕ, zero, suc, ◌<◌, ℤ, ◌≤ℤ◌, ◌<ℤ◌, List, [], ◌∷◌, length, get_or, Some, None, refl, sym, ap, subst, ◌∙◌, arith, Bool, true, false, IsTrue, ◌↔◌}
+use Rattle.std.specs.Prelude.{Contains}
+use Rattle.std.specs.List.Sorted.{IsStrictlySortedBy}
+use Rattle.std.proofs.lemmas.Int.{ints, by_lt_z}
+use Rattle.or_geom.specs.declared.shape.Rect.{Rect}
+use Rattle.or_geom.specs.declared.shape.Shape.{Shape}
+use Rattle.or_geom.specs.declared.span.Span.{Span}
+use Rattle.or_geom.specs.Covered.{IsCovered}
+use Rattle.or_geom.specs.Distance.{IsLeastDist2, IsReachable}
+use Rattle.or_geom.specs.Gap.{IsGap, IsGapBox, IsFromTo}
+use Rattle.or_geom.specs.Span.{across, upward}
+use Rattle.or_geom.proofs.PlaceLaws.{same_rect}
+use Rattle.ordered_set.specs.Adds.{Adds}
+use Rattle.ordered_set.specs.Gathering.{SomePairGives}
+use Rattle.ordered_set.specs.ShapeOrder.{shape_order}
+use Rattle.ordered_set.proofs.AddsLaws.{adds_as}
+use Rattle.ordered_set.proofs.GatheringLaws.{pair_of, pair_gives}
+use Rattle.ordered_set.proofs.ShapeOrderLaws.{shape_total}
+use Rattle.tech_rules.specs.declared.tech.Rule.{Rule}
+use Rattle.tech_rules.specs.declared.tech.Rule.TheVariants.{Space}
+use Rattle.tile_checker.specs.Layers.{rects_on}
+use Rattle.tile_checker.specs.Breaks.{AreNear, IsGapCovered, Breaks}
+use Rattle.tile_checker.specs.RuleReport.{IsLater}
+use Rattle.tile_checker.specs.Found.{AreOn, IsGapCoveredIn, IsSpaceFound, IsSpaceViolation, IsViolationOf}
+use Rattle.ordered_set.specs.Reachable.{AreReachable}
+use Rattle.tile_checker.specs.declared.violation.Violation.{Violation}
+use Rattle.tile_checker.specs.declared.space.SpaceRule.{SpaceRule}
+
+pub at_most : (a b : Rect) (d e : ℤ) → IsLeastDist2 a b d → IsLeastDist2 a b e → d ≤ℤ e
+at_most a b d e p q = subst (λ (z : ℤ). d ≤ℤ z) q.reached (p.least q.p q.q q.p_in_a q.q_in_b)
+
+pub below_itself : (x y z : ℤ) → x ≤ℤ y → y ≤ℤ z → z <ℤ x → ⊥
+below_itself x y z p q r = omega (arith, ints)
+
+record AreOneSpan (g h : Span) : Type 0 where
+  pub low : g.low ≡ h.low
+  pub high : g.high ≡ h.high
+
+from_to_once : (low high : ℤ) (g h : Span) → IsFromTo low high g → IsFromTo low high h → AreOneSpan g h
+from_to_once low high g h p q = record { low = p.from ∙ sym q.from; high = p.to ∙ sym q.to }
+
+-- two spans have one gap
+gap_once : (a b g h : Span) → IsGap a b g → IsGap a b h → AreOneSpan g h
+gap_once a b g h p q =
+    let wide_g : g.low <ℤ g.high = g.ordered in
+    let wide_h : h.low <ℤ h.high = h.ordered in
+    by_lt_z a.high b.low (λ lt. from_to_once _ _ g h (p.before lt) (q.before lt)) (λ ge1.
+    by_lt_z b.high a.low (λ lt. from_to_once _ _ g h (p.after lt) (q.after lt)) (λ ge2.
+    by_lt_z b.low a.high
+    (λ lt1. by_lt_z a.low b.high
+    (λ lt2.
+    let s = p.shared lt2 lt1 in
+    let t = q.shared lt2 lt1 in
+    let hl = (s h.low).1 ((t h.low).0 (record { above = omega (arith, ints); below = omega (arith, ints) })) in
+    let hh = (s h.high).1 ((t h.high).0 (record { above = omega (arith, ints); below = omega (arith, ints) })) in
+    let gl = (t g.low).1 ((s g.low).0 (record { above = omega (arith, ints); below = omega (arith, ints) })) in
+    let gh = (t g.high).1 ((s g.high).0 (record { above = omega (arith, ints); below = omega (arith, ints) })) in
+    record { low = omega (arith, ints, hl.above, gl.above); high = omega (arith, ints, hh.below, gh.below) })
+    (λ ge. from_to_once _ _ g h (p.touching_after (omega (arith, ints))) (q.touching_after (omega (arith, ints)))))
+    (λ ge. from_to_once _ _ g h (p.touching_before (omega (arith, ints))) (q.touching_before (omega (arith, ints))))))
+
+pub gap_box_once : (a b g h : Rect) → IsGapBox a b g → IsGapBox a b h → g ≡ h
+gap_box_once a b g h p q =
+    let x = gap_once (across a) (across b) (across g) (across h) p.in_x q.in_x in
+    let y = gap_once (upward a) (upward b) (upward g) (upward h) p.in_y q.in_y in
+    same_rect g h x.low y.low x.high y.high
+
+pub reachable_at : (shapes : List Shape) (i : ℕ) (s : Shape) → AreReachable shapes → i < length shapes → s ≡ get_or shapes i s → IsReachable s.rect
+reachable_at [] i s all lt is = absurd (omega arith)
+reachable_at (t ∷ ts) zero s all lt is = subst (λ (u : Shape). IsReachable u.rect) (sym is) all.0
+reachable_at (t ∷ ts) (suc i) s all lt is = reachable_at ts i s all.1 (omega arith) is
+
+pub others_reachable : (rest others : List Shape) (first : Shape) → rest ≡ first ∷ others → AreReachable rest → IsReachable first.rect × AreReachable others
+others_reachable rest others first e all = subst AreReachable e all
+
+-- where the layers fit and the shapes are near, it is the gap that decides
+pub space_found : (rule : SpaceRule) (rects : List Rect) (a b : Shape) (gap : Rect) (r : Bool) → AreOn rule a b → AreNear rule.min.value a.rect b.rect → a.layer ≡ b.layer → IsGapBox a.rect b.rect gap → (IsTrue r ↔ IsCovered gap rects)
+    → IsTrue (not r) ↔ IsSpaceFound rule rects a b
+space_found rule rects a b gap true on near one is h = (λ f. absurd cc, λ s. absurd (s.bare (record { one_layer = one; gap = gap; is = is; covered = h.0 refl })))
+space_found rule rects a b gap false on near one is h = (
+  λ t. record { on = on; near = near; bare = λ e. let yes = h.1 (subst (λ (g : Rect). IsCovered g rects) (gap_box_once a.rect b.rect e.gap gap e.is is) e.covered) in absurd cc },
+  λ s. refl,
+)
+
+own_layer : (rule : SpaceRule) (a b : Shape) → AreOn rule a b → a.layer ≡ b.layer → a.layer ≡ rule.layer
+own_layer rule a b (inl on) one = on.0
+own_layer rule a b (inr on) one = one ∙ on.1
+
+gap_in : (rule : SpaceRule) (shapes : List Shape) (rects : List Rect) (a b : Shape) → rects ≡ rects_on rule.layer shapes → AreOn rule a b → IsGapCovered shapes a b → IsGapCoveredIn rects a b
+gap_in rule shapes rects a b e on g = record {
+  one_layer = g.one_layer;
+  gap = g.gap;
+  is = g.is;
+  covered = subst (λ (rs : List Rect). IsCovered g.gap rs) (ap (λ (layer : ℕ). rects_on layer shapes) (own_layer rule a b on g.one_layer) ∙ sym e) g.covered;
+}
+
+gap_out : (rule : SpaceRule) (shapes : List Shape) (rects : List Rect) (a b : Shape) → rects ≡ rects_on rule.layer shapes → AreOn rule a b → IsGapCoveredIn rects a b → IsGapCovered shapes a b
+gap_out rule shapes rects a b e on g = record {
+  one_layer = g.one_layer;
+  gap = g.gap;
+  is = g.is;
+  covered = subst (λ (rs : List Rect). IsCovered g.gap rs) (e ∙ ap (λ (layer : ℕ). rects_on layer shapes) (sym (own_layer rule a b on g.one_layer))) g.covered;
+}
+
+abbrev kind : SpaceRule → Rule
+kind rule = Space rule.layer rule.other rule.min.value
+
+-- each pair that is found is a violation
+space_is : (rule : SpaceRule) (shapes : List Shape) (rects : List Rect) (v : Violation) → rects ≡ rects_on rule.layer shapes → IsStrictlySortedBy shape_order shapes
+    → SomePairGives (IsSpaceViolation rule rects) shapes v → IsViolationOf rule.number (kind rule) shapes v
+space_is rule shapes rects v e rises g =
+    let p = pair_of shape_order (IsSpaceViolation rule rects) shapes v rises g in
+    let f = p.5.found in
+    let base : IsViolationOf rule.number (kind rule) shapes (record { rule = rule.number; first = p.0; second = Some p.1 }) = record {
+      numbered = refl;
+      first = p.2;
+      second = (p.3, p.4);
+      breaks = record { on = f.on; near = f.near; bare = λ c. f.bare (gap_in rule shapes rects p.0 p.1 e f.on c) };
+    } in
+    subst (λ (w : Violation). IsViolationOf rule.number (kind rule) shapes w) (sym p.5.is) base
+
+-- and each violation is found
+space_each : (rule : SpaceRule) (shapes : List Shape) (rects : List Rect) (v : Violation) (second : Option Shape) → v.second ≡ second → v.rule ≡ rule.number → rects ≡ rects_on rule.layer shapes → IsStrictlySortedBy shape_order shapes
+    → Contains shapes v.first → IsLater shapes v.first second → Breaks (kind rule) shapes v.first second → SomePairGives (IsSpaceViolation rule rects) shapes v
+space_each rule shapes rects v None is numbered e rises first later breaks = absurd breaks
+space_each rule shapes rects v (Some b) is numbered e rises first later breaks =
+    pair_gives shape_order (IsSpaceViolation rule rects) shapes v v.first b shape_total rises first later.0 later.1 (record {
+      is = λ i. record { rule = numbered i; first = v.first; second = is i };
+      found = record { on = breaks.on; near = breaks.near; bare = λ c. breaks.bare (gap_out rule shapes rects v.first b e breaks.on c) };
+    })
+
+pub spaces_found : (rule : SpaceRule) (shapes : List Shape) (rects : List Rect) (old new : List Violation) → rects ≡ rects_on rule.layer shapes → IsStrictlySortedBy shape_order shapes
+    → Adds old new (SomePairGives (IsSpaceViolation rule rects) shapes) → Adds old new (IsViolationOf rule.number (kind rule) shapes)
+spaces_found rule shapes rects old new e rises a =
+    adds_as old new (SomePairGives (IsSpaceViolation rule rects) shapes) (IsViolationOf rule.number (kind rule) shapes)
+    (λ v g. space_is rule shapes rects v e rises g)
+    (λ v w. space_each rule shapes rects v v.second refl w.numbered e rises w.first w.second w.breaks) a
