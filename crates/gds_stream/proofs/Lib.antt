@@ -10,3 +10,9 @@ pub mod LibraryLaws
 pub mod FaultLaws
 pub mod StandLaws
 pub mod NamedLaws
+pub mod SoundLaws
+pub mod ShowLaws
+pub mod RingLaws
+pub mod TurnLaws
+pub mod ContentLaws
+pub mod WritableLaws

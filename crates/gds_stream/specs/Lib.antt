@@ -1,4 +1,5 @@
 pub mod Values
+pub mod Writable
 pub mod Grammar
 pub mod ReadElements
 pub mod Arrays

@@ -1,4 +1,5 @@
 ghost use Rattle.gds_stream.specs.ReadLibrary.{LibrariesAreRead, LibrariesAreUnique};
+ghost use Rattle.gds_stream.specs.Writable.{LibrariesAreWritable};
 
 /// No bytes spell two libraries.
 pub fn libraries_are_unique()
@@ -8,4 +9,9 @@ pub fn libraries_are_unique()
 /// What is spelled is read, and zero bytes are left.
 pub fn libraries_are_read()
     ensures { LibrariesAreRead }
+{}
+
+/// What is spelled can be written: each of its values is one that a record can give.
+pub fn libraries_are_writable()
+    ensures { LibrariesAreWritable }
 {}

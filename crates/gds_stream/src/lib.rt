@@ -20,6 +20,6 @@ mod transform;
 mod values;
 
 pub use fault::GdsFault;
-pub use laws::{libraries_are_read, libraries_are_unique};
+pub use laws::{libraries_are_read, libraries_are_unique, libraries_are_writable};
 pub use library::{Element, Library, Prop, Structure};
 pub use read::read_gds;

@@ -3,6 +3,7 @@ ghost use Rattle.gds_records.specs.Bytes.{entries_of, length_in};
 ghost use Rattle.gds_records.specs.declared.stop.Stop.TheVariants as stop;
 ghost use Rattle.gds_stream.specs.ReadLibrary.{library_at};
 ghost use Rattle.gds_stream.specs.Grammar.{Spells};
+ghost use Rattle.gds_stream.specs.Writable.{IsWritable};
 ghost use Rattle.gds_stream.specs.FirstFault.{IsCutShort, wanted_after, IsFaultOf, IsRefused};
 ghost use Rattle.gds_stream.specs.ReadFault.{wanted_before, Miscounts, unmet_fault_of, SkipsZeros, IsZeroNever};
 
@@ -151,12 +152,14 @@ fn finish(bytes: &[u8], library: Library, rest: &[u8]) -> Result<Library, GdsFau
 ///
 /// REFLIBS, FONTS, ATTRTABLE, GENERATIONS, ELFLAGS, PLEX, PRESENTATION, dates, NODE and BOX elements, how a label is
 /// drawn, and zero bytes after ENDLIB are read and dropped. A boundary's points are those at which it turns; a path has
-/// a width, and no round ends or extensions; a reference is turned by multiples of 90 degrees and not magnified.
+/// a width, and no round ends or extensions; a reference is turned by multiples of 90 degrees and not magnified. What is
+/// read can be written.
 ///
 /// The bytes are refused exactly where they are no library, and then by the first record that no library has after
 /// those before it. `Memory` stands for want of memory, whatever the bytes are.
 pub fn read_gds(alloc: Global, bytes: &[u8]) -> Result<Library, GdsFault>
     ensures read { IfOk result (Spells bytes.now) }
+    ensures writable { IfOk result IsWritable }
     ensures refused { IfErr result (λ fault. IsRefused fault bytes.now) }
     ensures first { IfErr result (λ fault. IsFaultOf fault bytes.now) }
 {

@@ -5,3 +5,5 @@
 mod geometry;
 #[cfg(test)]
 mod host;
+#[cfg(test)]
+mod spice;

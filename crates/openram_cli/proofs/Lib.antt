@@ -1,5 +1,5 @@
 mod WorkLaws
-mod WordLaws
 mod EndLaws
 mod PrintLaws
 mod StepLaws
+mod NearLaws

@@ -5,7 +5,7 @@ use Rattle.std.proofs.Common.{Err, take-append-drop}
 use Rattle.or_host.specs.declared.sink.PutFail.{PutFail}
 use Rattle.or_host.specs.declared.sink.PutFail.TheVariants.{Failed, Memory}
 use Rattle.or_host.specs.Text.{Grows, Puts}
-use Rattle.openram_cli.specs.Lines.{lines_text}
+use Rattle.reply_lines.specs.Lines.{lines_text}
 use Rattle.openram_cli.specs.Printed.{IsFrontOf}
 
 -- the text is what stands before the rest

@@ -1,11 +1,11 @@
 -- One step of the work after another.
 use Rattle.std.proofs.Common.{◌≡◌, ℕ, List, Option, Some, None, Result, Ok, Err, inr, subst}
 use Rattle.or_host.specs.Files.{Files}
-use Rattle.openram_cli.specs.declared.reply.Reply.{Reply}
+use Rattle.reply_lines.specs.declared.reply.Reply.{Reply}
 use Rattle.openram_cli.specs.declared.stop.Stop.{Stop}
 use Rattle.openram_cli.specs.declared.stop.Stop.TheVariants.{Refused, ReadFailed, Memory}
 use Rattle.openram_cli.specs.Answer.{IsThere, OnFile}
-use Rattle.openram_cli.specs.Reply.{refusal_reply}
+use Rattle.reply_lines.specs.Reply.{refusal_reply}
 use Rattle.openram_cli.specs.Steps.{AnswersBy}
 use Rattle.openram_cli.specs.Told.{IfTold}
 
@@ -23,3 +23,12 @@ on_file None name bytes seen P R S result g is there a = tt
 on_file (Some files) name bytes seen P R S result g is there a =
     let here : AnswersBy (P bytes) R result = subst (λ (b : List ℕ). AnswersBy (P b) R result) is a in
     answers_by (P bytes) (OnFile files name P) R S (λ reply p. inr (bytes, there, p)) g result here
+
+-- the same where more files may be read
+pub on_read_file : (told : Option Files) (name bytes seen : List ℕ) (P : Files → List ℕ → Reply → Type 0) (R : Files → List ℕ → List ℕ → Type 0) (S : Files → List ℕ → Type 0) (result : Result Reply Stop)
+    → ((files : Files) → IsThere files name bytes → (n : List ℕ) → R files bytes n → S files n) → seen ≡ bytes → IfTold told (λ files. IsThere files name bytes)
+    → IfTold told (λ files. AnswersBy (P files seen) (R files seen) result) → IfTold told (λ files. AnswersBy (OnFile files name (P files)) (S files) result)
+on_read_file None name bytes seen P R S result g is there a = tt
+on_read_file (Some files) name bytes seen P R S result g is there a =
+    let here : AnswersBy (P files bytes) (R files bytes) result = subst (λ (b : List ℕ). AnswersBy (P files b) (R files b) result) is a in
+    answers_by (P files bytes) (OnFile files name (P files)) (R files bytes) (S files) (λ reply p. inr (bytes, there, p)) (g files there) result here

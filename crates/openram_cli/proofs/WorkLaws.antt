@@ -1,27 +1,85 @@
--- What a structure's shapes lead to.
-use Rattle.std.proofs.Common.{◌≡◌, ℕ, List, Result, inl, ap, subst}
-use Rattle.or_geom.specs.declared.shape.Shape.{Shape}
+-- What the faults of the layers below lead to: each is the answer, unless it is want of memory.
+use Rattle.std.proofs.Common.{◌≡◌, ◌≢◌, ◌↔◌, ℕ, List, Option, Some, None, IfSome, Result, Err, inl, inr, refl, ap, subst}
 use Rattle.gds_stream.specs.declared.fault.GdsFault.{GdsFault}
 use Rattle.gds_stream.specs.declared.library.Library.{Library}
-use Rattle.gds_stream.specs.declared.library.Structure.{Structure}
 use Rattle.gds_stream.specs.FirstFault.{IsFaultOf}
+use Rattle.tech_keys.specs.declared.fault.TechFault.{TechFault}
+use Rattle.tech_keys.specs.declared.fault.TechFault.TheVariants as tech_fault
+use Rattle.tech_rules.specs.Technology.{technology}
 use Rattle.tech_rules.specs.declared.tech.Tech.{Tech}
-use Rattle.plain_layout.specs.Cells.{AreShapesOf}
-use Rattle.openram_cli.specs.declared.reply.Reply.{Reply}
+use Rattle.cell_hierarchy.specs.declared.fault.FlattenFault.{FlattenFault}
+use Rattle.cell_hierarchy.specs.declared.flat.FlatLists.{FlatLists}
+use Rattle.cell_hierarchy.specs.FlatLists.{AreFlatLists, IsFault}
+use Rattle.reply_lines.specs.declared.reply.Reply.{Reply}
+use Rattle.net_extractor.specs.declared.difference.NetDiff.{NetDiff}
+use Rattle.net_extractor.specs.declared.label.NetLabel.{NetLabel}
+use Rattle.net_extractor.specs.Difference.{AreAlike}
+use Rattle.net_extractor.specs.FirstDifference.{IsFirstDifference}
+use Rattle.netlist.specs.declared.deck.Deck.{Deck}
+use Rattle.netlist.specs.declared.rows.RowPin.{RowPin}
+use Rattle.spice_text.specs.declared.fault.SpiceFault.{SpiceFault}
+use Rattle.spice_text.specs.declared.fault.SpiceFault.TheVariants as spice_fault
+use Rattle.spice_text.specs.Deck.{deck}
+use Rattle.spice_text.specs.Faults as spice
+use Rattle.spice_netlist.specs.declared.fault.FlatFault.{FlatFault}
+use Rattle.spice_netlist.specs.Faults.{AreFlatRows, IsFlatFault}
 use Rattle.openram_cli.specs.declared.stop.Stop.{Stop}
 use Rattle.openram_cli.specs.declared.stop.Stop.TheVariants.{Refused, ReadFailed, Memory}
-use Rattle.openram_cli.specs.Answer.{IsReported, IsCellReport, OnLibrary}
-use Rattle.openram_cli.specs.Reply.{refusal_reply}
-use Rattle.openram_cli.specs.Steps.{AnswersBy, StopsBy, NoFileName}
-use Rattle.openram_cli.specs.Stops.{IsGdsStop}
+use Rattle.openram_cli.specs.Answer.{leaves_of, IsDifference, OnTech, OnLibrary, OnDeck, OnFlat, OnRows}
+use Rattle.reply_lines.specs.Reply.{refusal_reply}
+use Rattle.openram_cli.specs.Steps.{AnswersBy, StopsBy}
 use Rattle.openram_cli.proofs.StepLaws.{answers_by}
+use Rattle.openram_cli.specs.Stops.{IsGdsStop, IsTechStop, IsFlattenStop, IsSpiceStop, IsRowsStop}
 
-pub cell_report : (tech : Tech) (file : List ℕ) (cell : Structure) (shapes seen : List Shape) (result : Result Reply Stop) → seen ≡ shapes → AreShapesOf tech.layers cell.elements shapes → AnswersBy (IsReported tech file seen) NoFileName result → AnswersBy (IsCellReport tech file cell) NoFileName result
-cell_report tech file cell shapes seen result is are a =
-    answers_by (IsReported tech file seen) (IsCellReport tech file cell) NoFileName NoFileName (λ reply r. (shapes, are, subst (λ (l : List Shape). IsReported tech file l reply) is r)) (λ name none. none) result a
+pub gds_stops : (bytes : List ℕ) (next : Library → Reply → Type 0) (R : List ℕ → Type 0) (fault : GdsFault) (stop : Stop) → IsFaultOf fault bytes → IsGdsStop fault stop → StopsBy (OnLibrary bytes next) R stop
+gds_stops bytes next R fault (Refused refusal) of is = inl (fault, is.1, of, ap refusal_reply is.0)
+gds_stops bytes next R fault (ReadFailed name) of is = absurd is
+gds_stops bytes next R fault Memory of is = tt
 
--- a fault of the bytes is the answer, unless it is want of memory
-pub gds_stops : (bytes : List ℕ) (next : Library → Reply → Type 0) (fault : GdsFault) (stop : Stop) → IsFaultOf fault bytes → IsGdsStop fault stop → StopsBy (OnLibrary bytes next) NoFileName stop
-gds_stops bytes next fault (Refused refusal) of is = inl (fault, is.1, of, ap refusal_reply is.0)
-gds_stops bytes next fault (ReadFailed name) of is = absurd is
-gds_stops bytes next fault Memory of is = tt
+pub tech_stops : (bytes : List ℕ) (next : Tech → Reply → Type 0) (R : List ℕ → Type 0) (fault : TechFault) (stop : Stop) → ((fault ≡ tech_fault.Memory → ⊥) → technology bytes ≡ Err fault) → IsTechStop fault stop → StopsBy (OnTech bytes next) R stop
+tech_stops bytes next R fault (Refused refusal) of is = inl (fault, is.1, of is.1, ap refusal_reply is.0)
+tech_stops bytes next R fault (ReadFailed name) of is = absurd is
+tech_stops bytes next R fault Memory of is = tt
+
+pub flatten_stops : (tech : Tech) (top : List ℕ) (lib : Library) (next : FlatLists → Reply → Type 0) (R : List ℕ → Type 0) (fault : FlattenFault) (stop : Stop) → IsFault tech.layers lib.structs top fault → IsFlattenStop fault stop
+    → StopsBy (OnFlat tech top lib next) R stop
+flatten_stops tech top lib next R fault (Refused refusal) of is = inl (fault, is.1, of, ap refusal_reply is.0)
+flatten_stops tech top lib next R fault (ReadFailed name) of is = absurd is
+flatten_stops tech top lib next R fault Memory of is = tt
+
+-- the first difference, if there is one
+pub is_difference : (labels : List NetLabel) (rows : List RowPin) (found : Option NetDiff) → (found ≡ None) ↔ AreAlike labels rows → IfSome found (IsFirstDifference labels rows) → IsDifference labels rows found
+is_difference labels rows None none first = none.0 refl
+is_difference labels rows (Some d) none first = first
+
+-- the fault that is given, where it isn't want of memory
+given : {Y : Type 0} → (fault : SpiceFault) (result : Result Y SpiceFault) → fault ≢ spice_fault.Memory → spice.IsFault fault result → result ≡ Err fault
+given spice_fault.Memory result other is = absurd (other refl)
+given (spice_fault.NotAscii place) result other is = is
+given (spice_fault.OutsideSubckt line) result other is = is
+given (spice_fault.Unclosed line) result other is = is
+given (spice_fault.Duplicate line) result other is = is
+given (spice_fault.Refused line) result other is = is
+given (spice_fault.BadLine line) result other is = is
+
+pub spice_stops : (bytes : List ℕ) (next : Deck → Reply → Type 0) (R : List ℕ → Type 0) (fault : SpiceFault) (stop : Stop) → spice.IsFault fault (deck bytes) → IsSpiceStop fault stop → StopsBy (OnDeck bytes next) R stop
+spice_stops bytes next R fault (Refused refusal) of is = inl (fault, is.1, given fault (deck bytes) is.1 of, ap refusal_reply is.0)
+spice_stops bytes next R fault (ReadFailed name) of is = absurd is
+spice_stops bytes next R fault Memory of is = tt
+
+pub rows_stops : (tech : Tech) (top : List ℕ) (d : Deck) (next : List RowPin → Reply → Type 0) (R : List ℕ → Type 0) (fault : FlatFault) (stop : Stop)
+    → IsFlatFault d.subckts top (leaves_of tech) fault → IsRowsStop fault stop → StopsBy (OnRows tech top d next) R stop
+rows_stops tech top d next R fault (Refused refusal) of is = inl (fault, is.1, of, ap refusal_reply is.0)
+rows_stops tech top d next R fault (ReadFailed name) of is = absurd is
+rows_stops tech top d next R fault Memory of is = tt
+
+-- what the flat lists that were found lead to
+pub flat_found : (tech : Tech) (top : List ℕ) (lib : Library) (next : FlatLists → Reply → Type 0) (lists : FlatLists) (R : List ℕ → Type 0) (result : Result Reply Stop) → AreFlatLists tech.layers lib.structs top lists
+    → AnswersBy (next lists) R result → AnswersBy (OnFlat tech top lib next) R result
+flat_found tech top lib next lists R result are a = answers_by (next lists) (OnFlat tech top lib next) R R (λ reply n. inr (lists, are, n)) (λ name r. r) result a
+
+-- what the flat rows that were found lead to
+pub rows_found : (tech : Tech) (top : List ℕ) (d : Deck) (leaves : List (List ℕ)) (next : List RowPin → Reply → Type 0) (rows : List RowPin) (R : List ℕ → Type 0) (result : Result Reply Stop) → leaves ≡ leaves_of tech
+    → AreFlatRows d.subckts top leaves rows → AnswersBy (next rows) R result → AnswersBy (OnRows tech top d next) R result
+rows_found tech top d leaves next rows R result is are a =
+    answers_by (next rows) (OnRows tech top d next) R R (λ reply n. inr (rows, subst (λ (l : List (List ℕ)). AreFlatRows d.subckts top l rows) is are, n)) (λ name r. r) result a

@@ -2,8 +2,15 @@
 use Rattle.std.specs.Prelude.{ℕ, ◌+◌, ◌*◌, ◌-◌, List, [], ◌∷◌, Bool, false, ◌&&◌, nat_le, Option, Some, None, if◌then◌else◌, codes}
 use Rattle.std.specs.Str.{bytes_eq}
 
--- the words of a check
-pub record Check : Type 0 where
+-- what is asked of a structure: a check, its nets, or a comparison with the netlist in the file of this name
+pub data Task : Type 0 where
+  report : Task
+  listing : Task
+  comparison : List ℕ → Task
+
+-- the words of a command
+pub record Command : Type 0 where
+  pub task : Task
   pub tech : List ℕ
   pub gds : List ℕ
   pub top : List ℕ
@@ -19,7 +26,27 @@ is_workers (tens ∷ ones ∷ []) = is_digit tens && (is_digit ones && (nat_le 1
 is_workers (a ∷ b ∷ c ∷ more) = false
 
 -- check TECH GDS TOP WORKERS
-abbrev pub check_of : List (List ℕ) → Option Check
+abbrev pub check_of : List (List ℕ) → Option Command
 check_of (command ∷ tech ∷ gds ∷ top ∷ workers ∷ []) =
-    if bytes_eq command (codes "check") && is_workers workers then Some (record { tech = tech; gds = gds; top = top }) else None
+    if bytes_eq command (codes "check") && is_workers workers then Some (record { task = report; tech = tech; gds = gds; top = top }) else None
 check_of words = None
+
+-- nets TECH GDS TOP
+abbrev pub nets_of : List (List ℕ) → Option Command
+nets_of (command ∷ tech ∷ gds ∷ top ∷ []) =
+    if bytes_eq command (codes "nets") then Some (record { task = listing; tech = tech; gds = gds; top = top }) else None
+nets_of words = None
+
+-- compare TECH GDS SP TOP
+abbrev pub compare_of : List (List ℕ) → Option Command
+compare_of (command ∷ tech ∷ gds ∷ netlist ∷ top ∷ []) =
+    if bytes_eq command (codes "compare") then Some (record { task = comparison netlist; tech = tech; gds = gds; top = top }) else None
+compare_of words = None
+
+abbrev pub or_else : Option Command → Option Command → Option Command
+or_else None other = other
+or_else (Some command) other = Some command
+
+-- the command that the words are, if they are one
+abbrev pub command_of : List (List ℕ) → Option Command
+command_of words = or_else (check_of words) (or_else (nets_of words) (compare_of words))

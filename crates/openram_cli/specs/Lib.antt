@@ -1,8 +1,5 @@
-pub mod Lines
-pub mod Refusals
-pub mod Reply
 pub mod Command
-pub mod CheckWords
+pub mod CommandWords
 pub mod Answer
 pub mod Told
 pub mod Steps

@@ -3,12 +3,12 @@ use Rattle.std.specs.Prelude.{◌≡◌, ◌⊎◌, ℕ, List, [], ◌∷◌, �
 use Rattle.or_host.specs.Fault.{Rose}
 use Rattle.or_host.specs.Files.{Files}
 use Rattle.or_host.specs.Text.{Grows}
-use Rattle.openram_cli.specs.declared.reply.Reply.{Reply}
+use Rattle.reply_lines.specs.declared.reply.Reply.{Reply}
 use Rattle.openram_cli.specs.Answer.{IsAnswer}
-use Rattle.openram_cli.specs.Lines.{line_text, lines_text}
+use Rattle.reply_lines.specs.Lines.{line_text, lines_text}
 use Rattle.openram_cli.specs.Printed.{IsWhole, IsFrontOf}
 use Rattle.openram_cli.specs.Reads.{IsRead}
-use Rattle.openram_cli.specs.Refusals.{headed}
+use Rattle.reply_lines.specs.Refusals.{headed}
 
 -- the line of a failed read
 abbrev pub read_line : List ℕ → List ℕ

@@ -1,9 +1,9 @@
 -- What a step of the work answers: the reply that it leads to, a refusal, which is a reply too, or that a read failed.
 use Rattle.std.specs.Prelude.{ℕ, List, Result, Ok, Err}
-use Rattle.openram_cli.specs.declared.reply.Reply.{Reply}
+use Rattle.reply_lines.specs.declared.reply.Reply.{Reply}
 use Rattle.openram_cli.specs.declared.stop.Stop.{Stop}
 use Rattle.openram_cli.specs.declared.stop.Stop.TheVariants.{Refused, ReadFailed, Memory}
-use Rattle.openram_cli.specs.Reply.{refusal_reply}
+use Rattle.reply_lines.specs.Reply.{refusal_reply}
 
 -- replies have P, and names of files that couldn't be read have R
 abbrev pub StopsBy : (Reply → Type 0) → (List ℕ → Type 0) → Stop → Type 0

@@ -1,8 +1,8 @@
 -- What is said where files are told, and how a read stops the work.
 use Rattle.std.specs.Prelude.{◌≡◌, ℕ, List, Bool, true, false, Option, Some, None, Result, Ok, Err}
 use Rattle.or_host.specs.Files.{Files}
-use Rattle.openram_cli.specs.declared.refusal.Refusal.{Refusal}
-use Rattle.openram_cli.specs.declared.refusal.Refusal.TheVariants.{Usage, NoFile, TooLong, NotBuilt, Gds, UnknownStruct}
+use Rattle.reply_lines.specs.declared.refusal.Refusal.{Refusal}
+use Rattle.reply_lines.specs.declared.refusal.Refusal.TheVariants.{Usage, NoFile, TooLong, Tech, Gds, Spice, Flatten, Rows}
 use Rattle.openram_cli.specs.declared.stop.Stop.{Stop}
 use Rattle.openram_cli.specs.declared.stop.Stop.TheVariants.{Refused, ReadFailed, Memory}
 use Rattle.openram_cli.specs.Answer.{IsFileRefusal}
@@ -28,9 +28,11 @@ abbrev pub is_usage_refusal : Refusal → Bool
 is_usage_refusal Usage = true
 is_usage_refusal (NoFile name) = false
 is_usage_refusal (TooLong name) = false
-is_usage_refusal (NotBuilt name) = false
+is_usage_refusal (Tech fault) = false
 is_usage_refusal (Gds fault) = false
-is_usage_refusal (UnknownStruct name) = false
+is_usage_refusal (Spice fault) = false
+is_usage_refusal (Flatten fault) = false
+is_usage_refusal (Rows fault) = false
 
 abbrev pub is_usage_stop : Stop → Bool
 is_usage_stop (Refused refusal) = is_usage_refusal refusal

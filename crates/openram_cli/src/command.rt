@@ -1,12 +1,24 @@
 ghost use Rattle.std.specs.Prelude.{◌≡◌, ◌∷◌, [], map, string_bytes, codes};
 ghost use Rattle.std.specs.Str.{bytes_eq};
-ghost use Rattle.openram_cli.specs.Command.{check_of, is_workers};
-ghost use Rattle.openram_cli.specs.CheckWords.{told_check};
+ghost use Rattle.openram_cli.specs.Command.{command_of, check_of, nets_of, compare_of, is_workers};
+ghost use Rattle.openram_cli.specs.CommandWords.{told_command};
 ghost use Rattle.std.specs.Option.{option_map};
 
-/// The words of a check: the file names of the technology and of the layout, and the structure's name.
+/// What is asked of a structure.
 #[derive(Clone, Copy)]
-pub struct Check<'a> {
+pub enum Task<'a> {
+    /// The report of the rules.
+    Check,
+    /// The labels with their nets.
+    Nets,
+    /// The first difference from the netlist in the file of this name.
+    Compare(&'a str),
+}
+
+/// The words of a command: what is asked, the file names of the technology and of the layout, and the structure's name.
+#[derive(Clone, Copy)]
+pub struct Command<'a> {
+    pub task: Task<'a>,
     pub tech: &'a str,
     pub gds: &'a str,
     pub top: &'a str,
@@ -39,14 +51,27 @@ fn is_check(command: &String) -> bool
     command.as_str() == "check"
 }
 
+fn is_nets(command: &String) -> bool
+    ensures { result ≡ bytes_eq (string_bytes command.now) (codes "nets") }
+{
+    command.as_str() == "nets"
+}
+
+fn is_compare(command: &String) -> bool
+    ensures { result ≡ bytes_eq (string_bytes command.now) (codes "compare") }
+{
+    command.as_str() == "compare"
+}
+
 /// The check that the words are, if they are one: `check TECH GDS TOP WORKERS`.
-pub fn check_in(words: &[String]) -> Option<Check<'_>>
-    ensures { option_map told_check result ≡ check_of (map string_bytes words.now) }
+fn check_in(words: &[String]) -> Option<Command<'_>>
+    ensures { option_map told_command result ≡ check_of (map string_bytes words.now) }
 {
     match words {
         [command, tech, gds, top, workers] => {
             if is_check(command) && is_workers(workers) {
-                return Some(Check {
+                return Some(Command {
+                    task: Task::Check,
                     tech: tech.as_str(),
                     gds: gds.as_str(),
                     top: top.as_str(),
@@ -56,4 +81,57 @@ pub fn check_in(words: &[String]) -> Option<Check<'_>>
         }
         _ => None,
     }
+}
+
+/// The listing of nets that the words are, if they are one: `nets TECH GDS TOP`.
+fn nets_in(words: &[String]) -> Option<Command<'_>>
+    ensures { option_map told_command result ≡ nets_of (map string_bytes words.now) }
+{
+    match words {
+        [command, tech, gds, top] => {
+            if is_nets(command) {
+                return Some(Command {
+                    task: Task::Nets,
+                    tech: tech.as_str(),
+                    gds: gds.as_str(),
+                    top: top.as_str(),
+                });
+            }
+            None
+        }
+        _ => None,
+    }
+}
+
+/// The comparison that the words are, if they are one: `compare TECH GDS SP TOP`.
+fn compare_in(words: &[String]) -> Option<Command<'_>>
+    ensures { option_map told_command result ≡ compare_of (map string_bytes words.now) }
+{
+    match words {
+        [command, tech, gds, netlist, top] => {
+            if is_compare(command) {
+                return Some(Command {
+                    task: Task::Compare(netlist.as_str()),
+                    tech: tech.as_str(),
+                    gds: gds.as_str(),
+                    top: top.as_str(),
+                });
+            }
+            None
+        }
+        _ => None,
+    }
+}
+
+/// The command that the words are, if they are one.
+pub fn command_in(words: &[String]) -> Option<Command<'_>>
+    ensures { option_map told_command result ≡ command_of (map string_bytes words.now) }
+{
+    if let Some(command) = check_in(words) {
+        return Some(command);
+    }
+    if let Some(command) = nets_in(words) {
+        return Some(command);
+    }
+    compare_in(words)
 }

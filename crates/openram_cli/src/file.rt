@@ -3,10 +3,10 @@ ghost use Rattle.or_host.specs.Fault.{HasCause};
 ghost use Rattle.openram_cli.specs.Answer.{limit, IsThere, IsFileRefusal};
 ghost use Rattle.openram_cli.specs.Told.{IfTold, IsOpenStop, is_read_failure, is_usage};
 
-use crate::refusal::Refusal;
 use crate::stop::Stop;
 use or_geom::Name;
 use or_host::{ReadFail, Store};
+use reply_lines::Refusal;
 use std::alloc::Global;
 
 /// The longest file that is read, 64 MiB.

@@ -2,16 +2,14 @@ ghost use Rattle.std.specs.Prelude.{◌≡◌, ◌⊎◌, ◌<◌, [], IfOk};
 ghost use Rattle.or_host.specs.Fault.{Rose};
 ghost use Rattle.or_host.specs.Text.{Grows};
 ghost use Rattle.openram_cli.specs.Finished.{IsFrontThenMemory, IsFrontThenCut};
-ghost use Rattle.openram_cli.specs.Lines.{lines_text};
+ghost use Rattle.reply_lines.specs.Lines.{lines_text};
 ghost use Rattle.openram_cli.specs.Printed.{IsWhole, IsFrontOf};
 ghost use Rattle.openram_cli.specs.Run.{memory_line, read_line};
 
-use crate::line::Line;
 use crate::print::print;
-use crate::reply::Reply;
-use crate::text::text_of;
 use or_geom::{Memory, Name};
 use or_host::{PutFail, Sink};
+use reply_lines::{Line, Reply, text_of};
 use std::alloc::Global;
 
 /// The status of a fault outside: a store or a sink failed.

@@ -2,19 +2,19 @@
 #![tactic(auto)]
 
 mod command;
+mod compare;
 mod file;
-mod finding;
 mod finish;
-mod line;
+#[cfg(test)]
+mod inverters;
+#[cfg(test)]
+mod layouts;
 mod print;
 mod program;
-mod refusal;
-mod reply;
 mod run;
 mod stop;
 #[cfg(test)]
 mod tests;
-mod text;
 mod work;
 
 use crate::run::run;

@@ -1,7 +1,7 @@
 ghost use Rattle.std.specs.Prelude.{◌≡◌, ◌<◌, MatchResult};
 ghost use Rattle.or_host.specs.Fault.{HasCause};
 ghost use Rattle.or_host.specs.Text.{Grows, put_failed};
-ghost use Rattle.openram_cli.specs.Lines.{lines_text};
+ghost use Rattle.reply_lines.specs.Lines.{lines_text};
 ghost use Rattle.openram_cli.specs.Printed.{IsFrontOf, IsWhole};
 
 use or_geom::Name;

@@ -1,20 +1,19 @@
 ghost use Rattle.std.specs.Prelude.{◌≡◌, ◌<◌, ◌⊎◌, ◌↔◌, true, None, map, string_bytes};
 ghost use Rattle.or_host.specs.Fault.{Rose};
 ghost use Rattle.or_host.specs.Text.{Grows};
-ghost use Rattle.openram_cli.specs.Command.{check_of};
+ghost use Rattle.openram_cli.specs.Command.{command_of};
 ghost use Rattle.openram_cli.specs.Finished.{IsFrontThenMemory, IsFrontThenCut};
-ghost use Rattle.openram_cli.specs.Lines.{lines_text};
+ghost use Rattle.reply_lines.specs.Lines.{lines_text};
 ghost use Rattle.openram_cli.specs.Printed.{IsWhole};
-ghost use Rattle.openram_cli.specs.Reply.{refusal_reply};
+ghost use Rattle.reply_lines.specs.Reply.{refusal_reply};
 ghost use Rattle.openram_cli.specs.Run.{IsAnswered, IsFaultEnd, IsMemoryText};
 ghost use Rattle.openram_cli.specs.Told.{IfTold, is_usage_refusal};
 
 use crate::finish::{finish, no_memory, read_failed};
 use crate::program::reply_to;
-use crate::refusal::Refusal;
-use crate::reply::Reply;
 use crate::stop::Stop;
 use or_host::{Sink, Store};
+use reply_lines::{Refusal, Reply};
 use std::alloc::Global;
 use std::thread::Threads;
 
@@ -48,7 +47,7 @@ pub fn run<R: Threads + Sync, S: Store, K: Sink>(
     ensures range { result < 6 }
     ensures answered { result < 4 → IfTold (S.files store.old) (λ files. IsAnswered (map string_bytes words.now) files result (K.written out.old) (K.written out.new)) }
     ensures clean { result < 4 → (S.faults store.new ≡ S.faults store.old) × (K.faults out.new ≡ K.faults out.old) }
-    ensures usage { result < 4 → ((result ≡ 2) ↔ (check_of (map string_bytes words.now) ≡ None)) }
+    ensures usage { result < 4 → ((result ≡ 2) ↔ (command_of (map string_bytes words.now) ≡ None)) }
     ensures fault { result ≡ 4 → Rose (S.faults store.old) (S.faults store.new) ⊎ Rose (K.faults out.old) (K.faults out.new) }
     ensures cut { result ≡ 4 → IfTold (S.files store.old) (λ files. IsFaultEnd (map string_bytes words.now) files (S.faults store.old) (S.faults store.new) (K.faults out.old) (K.faults out.new) (K.written out.old) (K.written out.new)) }
     ensures memory { result ≡ 5 → IfTold (S.files store.old) (λ files. Grows (IsMemoryText (map string_bytes words.now) files) (K.written out.old) (K.written out.new)) }

@@ -1,8 +1,12 @@
 ghost use Rattle.std.specs.Prelude.{◌≡◌, false};
 
-use crate::refusal::Refusal;
+use cell_hierarchy::FlattenFault;
 use gds_stream::GdsFault;
 use or_geom::Memory;
+use reply_lines::Refusal;
+use spice_netlist::FlatFault;
+use spice_text::SpiceFault;
+use tech_rules::TechFault;
 
 /// Why the work stops before its answer.
 #[derive(Debug, Drop)]
@@ -25,7 +29,7 @@ impl<'a> From<Memory> for Stop<'a> {
 }
 
 impl<'a> Stop<'a> {
-    ghost use Rattle.openram_cli.specs.Stops.{IsGdsStop};
+    ghost use Rattle.openram_cli.specs.Stops.{IsGdsStop, IsTechStop, IsFlattenStop, IsSpiceStop, IsRowsStop};
     ghost use Rattle.openram_cli.specs.Told.{is_usage_stop};
 
     /// A refusal, unless memory was wanting.
@@ -36,6 +40,50 @@ impl<'a> Stop<'a> {
         match fault {
             GdsFault::Memory => Stop::Memory,
             other => Stop::Refused(Refusal::Gds(other)),
+        }
+    }
+
+    /// A refusal, unless memory was wanting.
+    pub fn of_tech(fault: TechFault) -> Self
+        ensures stop { IsTechStop fault result }
+        ensures words { is_usage_stop result ≡ false }
+    {
+        match fault {
+            TechFault::Memory => Stop::Memory,
+            other => Stop::Refused(Refusal::Tech(other)),
+        }
+    }
+
+    /// A refusal, unless memory was wanting.
+    pub fn of_flatten(fault: FlattenFault) -> Self
+        ensures stop { IsFlattenStop fault result }
+        ensures words { is_usage_stop result ≡ false }
+    {
+        match fault {
+            FlattenFault::Memory => Stop::Memory,
+            other => Stop::Refused(Refusal::Flatten(other)),
+        }
+    }
+
+    /// A refusal, unless memory was wanting.
+    pub fn of_spice(fault: SpiceFault) -> Self
+        ensures stop { IsSpiceStop fault result }
+        ensures words { is_usage_stop result ≡ false }
+    {
+        match fault {
+            SpiceFault::Memory => Stop::Memory,
+            other => Stop::Refused(Refusal::Spice(other)),
+        }
+    }
+
+    /// A refusal, unless memory was wanting.
+    pub fn of_rows(fault: FlatFault) -> Self
+        ensures stop { IsRowsStop fault result }
+        ensures words { is_usage_stop result ≡ false }
+    {
+        match fault {
+            FlatFault::Memory => Stop::Memory,
+            other => Stop::Refused(Refusal::Rows(other)),
         }
     }
 }

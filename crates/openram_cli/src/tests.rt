@@ -11,16 +11,12 @@ use std::thread::Threads;
 const PLAIN: &[u8] =
     b"outline = \"m1\"\n[[layer]]\nname = \"m1\"\ngds = [10, 0]\n[[rule]]\nkind = \"width\"\nlayer = \"m1\"\nmin = 4\n[[rule]]\nkind = \"space\"\nlayer = \"m1\"\nother = \"m1\"\nmin = 5\n";
 
-/// A technology with a connection.
-const CONNECTED: &[u8] =
-    b"outline = \"m1\"\n[[layer]]\nname = \"m1\"\ngds = [10, 0]\n[[layer]]\nname = \"m2\"\ngds = [11, 0]\n[[layer]]\nname = \"v1\"\ngds = [12, 0]\n[[connect]]\ncut = \"v1\"\nto = [\"m1\", \"m2\"]\n";
-
 /// Two corners of a rectangle: x1, y1, x2 and y2.
 type Corners = [u8; 4];
 
 const FIRST: Corners = [0, 0, 4, 4];
 
-fn record(out: &mut Vec<u8>, code: [u8; 2], content: &[u8]) -> Result<(), Fail> {
+pub fn record(out: &mut Vec<u8>, code: [u8; 2], content: &[u8]) -> Result<(), Fail> {
     let size = u8::try_from(content.len().saturating_add(4))
         .ok()
         .ok_or("short")?;
@@ -49,7 +45,31 @@ fn boundary(out: &mut Vec<u8>, corners: Corners, dropped: bool) -> Result<(), Fa
     record(out, [17, 0], &[])
 }
 
-/// A library `a` with a structure `t` of these rectangles. The two `last` bytes end UNITS.
+/// The head of a library `a`. The two `last` bytes end UNITS.
+pub fn head(out: &mut Vec<u8>, dropped: bool, last: [u8; 2]) -> Result<(), Fail> {
+    record(out, [0, 2], &[2, 88])?;
+    record(out, [1, 2], &[0; 24])?;
+    record(out, [2, 6], b"a\0")?;
+    if dropped {
+        record(out, [34, 2], &[0, 3])?;
+    }
+    let [high, low] = last;
+    record(
+        out,
+        [3, 5],
+        &[
+            62, 65, 137, 55, 75, 198, 167, 240, 57, 68, 184, 47, 160, 155, high, low,
+        ],
+    )
+}
+
+/// The beginning of a structure. Its name has an even number of bytes, with the pad.
+pub fn begin(out: &mut Vec<u8>, name: &[u8]) -> Result<(), Fail> {
+    record(out, [5, 2], &[0; 24])?;
+    record(out, [6, 6], name)
+}
+
+/// A library `a` with a structure `t` of these rectangles.
 fn library_with(
     alloc: Global,
     rectangles: &[Corners],
@@ -57,22 +77,8 @@ fn library_with(
     last: [u8; 2],
 ) -> Result<Vec<u8>, Fail> {
     let mut out = Vec::new(alloc);
-    record(&mut out, [0, 2], &[2, 88])?;
-    record(&mut out, [1, 2], &[0; 24])?;
-    record(&mut out, [2, 6], b"a\0")?;
-    if dropped {
-        record(&mut out, [34, 2], &[0, 3])?;
-    }
-    let [high, low] = last;
-    record(
-        &mut out,
-        [3, 5],
-        &[
-            62, 65, 137, 55, 75, 198, 167, 240, 57, 68, 184, 47, 160, 155, high, low,
-        ],
-    )?;
-    record(&mut out, [5, 2], &[0; 24])?;
-    record(&mut out, [6, 6], b"t\0")?;
+    head(&mut out, dropped, last)?;
+    begin(&mut out, b"t\0")?;
     for corners in rectangles {
         boundary(&mut out, *corners, dropped)?;
     }
@@ -85,7 +91,7 @@ fn library(alloc: Global, rectangles: &[Corners]) -> Result<Vec<u8>, Fail> {
     library_with(alloc, rectangles, false, [0x5A, 0x54])
 }
 
-fn file(alloc: Global, name: &[u8], bytes: Vec<u8>) -> Result<MemFile, Fail> {
+pub fn file(alloc: Global, name: &[u8], bytes: Vec<u8>) -> Result<MemFile, Fail> {
     Ok(MemFile {
         name: Name::from_bytes(alloc, name)?,
         bytes: Items::from_vec(bytes),
@@ -94,12 +100,12 @@ fn file(alloc: Global, name: &[u8], bytes: Vec<u8>) -> Result<MemFile, Fail> {
 
 /// Which calls of the store and of the sink fail, counted from 1.
 #[derive(Clone, Copy)]
-struct Failing {
-    store: u64,
-    sink: u64,
+pub struct Failing {
+    pub store: u64,
+    pub sink: u64,
 }
 
-const NONE: Failing = Failing { store: 0, sink: 0 };
+pub const NONE: Failing = Failing { store: 0, sink: 0 };
 
 /// Runs the words on a technology and a library of rectangles.
 fn answer<R: Threads + Sync>(
@@ -114,7 +120,7 @@ fn answer<R: Threads + Sync>(
 }
 
 /// Runs the words on the files `t.toml` and `a.gds`, of which these are the bytes.
-fn answer_on<R: Threads + Sync>(
+pub fn answer_on<R: Threads + Sync>(
     alloc: Global,
     words: &[&str],
     tech: &[u8],
@@ -125,6 +131,17 @@ fn answer_on<R: Threads + Sync>(
     let mut files = Vec::new(alloc);
     files.push(file(alloc, b"t.toml", tech.to_vec(alloc)?)?)?;
     files.push(file(alloc, b"a.gds", gds)?)?;
+    answer_of(alloc, words, files, rt, failing)
+}
+
+/// Runs the words on files.
+pub fn answer_of<R: Threads + Sync>(
+    alloc: Global,
+    words: &[&str],
+    files: Vec<MemFile>,
+    rt: &R,
+    failing: Failing,
+) -> Result<(u8, MemSink), Fail> {
     let mut list = Vec::new(alloc);
     for word in words {
         list.push(String::from_str(alloc, word)?)?;
@@ -135,7 +152,7 @@ fn answer_on<R: Threads + Sync>(
     Ok((status, out))
 }
 
-const CHECK: [&str; 5] = ["check", "t.toml", "a.gds", "t", "1"];
+pub const CHECK: [&str; 5] = ["check", "t.toml", "a.gds", "t", "1"];
 
 fn second<R: Threads + Sync>(
     rt: &R,
@@ -167,17 +184,6 @@ fn two_rectangles_near(rt: HostRuntime) -> Result<(), Fail> {
     let (diagonal, text) = second(&rt, rt.alloc(), [7, 7, 11, 11])?;
     assert_eq!(rt; diagonal, 1);
     assert_eq!(rt; text.written(), b"1 m1 0 0 4 4 m1 7 7 11 11\n".as_slice());
-    Ok(())
-}
-
-#[test]
-fn not_built(rt: HostRuntime) -> Result<(), Fail> {
-    let (touching, text) = second(&rt, rt.alloc(), [4, 0, 8, 4])?;
-    assert_eq!(rt; touching, 3);
-    assert_eq!(rt; text.written(), b"openram: 93 NotBuilt a.gds\n".as_slice());
-    let (connected, text) = answer(rt.alloc(), &CHECK, CONNECTED, &[FIRST], &rt, NONE)?;
-    assert_eq!(rt; connected, 3);
-    assert_eq!(rt; text.written(), b"openram: 93 NotBuilt t.toml\n".as_slice());
     Ok(())
 }
 

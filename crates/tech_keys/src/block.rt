@@ -258,7 +258,7 @@ pub fn within(number: i64, low: i64, high: i64) -> Option<i64>
 }
 
 /// The items of an array.
-pub fn list_in(value: &Value) -> Option<&[Value]>
+fn list_in(value: &Value) -> Option<&[Value]>
     ensures { option_map (λ t. map view t.now) result ≡ as_list (view value.now) }
 {
     match value.as_array() {

@@ -5,6 +5,6 @@ mod block;
 mod document;
 mod fault;
 
-pub use block::{Block, list_in, within};
+pub use block::{Block, within};
 pub use document::document_from;
 pub use fault::TechFault;

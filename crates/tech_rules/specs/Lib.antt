@@ -7,4 +7,3 @@ pub mod WireRules
 pub mod Roles
 pub mod Facts
 pub mod Technology
-pub mod Plain

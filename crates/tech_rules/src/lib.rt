@@ -4,7 +4,6 @@
 mod connects;
 mod layers;
 mod names;
-mod plain;
 mod read;
 mod roles;
 mod rules;
@@ -12,7 +11,6 @@ mod tech;
 mod wire_rules;
 mod wires;
 
-pub use plain::read_plain_tech;
 pub use read::read_tech;
 pub use tech::{Connect, Layer, RoleName, RoleRows, Rule, Tech, Wire};
 pub use tech_keys::TechFault;

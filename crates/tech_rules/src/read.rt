@@ -35,7 +35,7 @@ pub fn read_tech(alloc: Global, bytes: &[u8]) -> Result<Tech, TechFault>
 }
 
 /// The technology that a document's keys describe, which are looked at in a fixed order.
-pub fn tech_from(alloc: Global, document: &Value) -> Result<Tech, TechFault>
+fn tech_from(alloc: Global, document: &Value) -> Result<Tech, TechFault>
     ensures given { Gives (λ t. t) result (tech_in (record { path = []; table = view document.now })) }
     ensures good { IfOk result IsTech }
 {

@@ -4,8 +4,12 @@ use Rattle.gds_records.proofs.FileLaws.{are_bytes, is_not_read}
 use Rattle.gds_stream.specs.Grammar.{library}
 use Rattle.gds_stream.specs.ReadLibrary.{library_at}
 use Rattle.gds_stream.proofs.LibraryLaws.{library_part}
+use Rattle.gds_stream.proofs.WritableLaws.{read_is_writable}
 use Rattle.gds_stream.proofs.NamedLaws.{at_end, refused}
 use Rattle.gds_stream.proofs.read.read_gds.Goals as goal
+
+pub returns-in-Ok-clause-writable : goal.returns-in-Ok-clause-writable
+returns-in-Ok-clause-writable c = read_is_writable c.args.bytes.now c.finish.result (are_bytes c.args.bytes.now (λ i. omega (arith, c.type_inv.bytes i))) c.finish.ensures.read
 
 pub returns-in-Err-Short-clause-refused : goal.returns-in-Err-Short-clause-refused
 returns-in-Err-Short-clause-refused c lib =

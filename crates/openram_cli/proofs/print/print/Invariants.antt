@@ -1,6 +1,6 @@
 use Rattle.std.proofs.Common.{◌≡◌, drop}
 use Rattle.or_host.specs.Text.{Grows}
-use Rattle.openram_cli.specs.Lines.{lines_text}
+use Rattle.reply_lines.specs.Lines.{lines_text}
 use Rattle.openram_cli.proofs.PrintLaws.{IsBefore}
 use Rattle.openram_cli.proofs.print.print.Given as goal
 

@@ -1,0 +1,5 @@
+pub mod Instances
+pub mod Chains
+pub mod Hierarchy
+pub mod Numbering
+pub mod Listing

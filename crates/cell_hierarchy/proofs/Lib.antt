@@ -1,0 +1,11 @@
+mod StepLaws
+mod MovedLaws
+mod BelowLaws
+mod HeldLaws
+mod ChainLaws
+mod NearLaws
+mod CellLaws
+mod DrawnLaws
+mod FarLaws
+mod CountLaws
+mod FlattenLaws

@@ -1,0 +1,12 @@
+use Rattle.cell_hierarchy.specs.Below.{SomeBelow}
+use Rattle.cell_hierarchy.specs.Grid.{ItemGivesLabel}
+use Rattle.cell_hierarchy.proofs.BelowLaws.{below_goes_on, below_ends}
+use Rattle.cell_hierarchy.proofs.label_array.add_label_array.Goals as goal
+
+pub loop-column-preserved : goal.loop-column-preserved
+loop-column-preserved c =
+    below_goes_on (λ column. SomeBelow (ItemGivesLabel c.args.n c.args.grid c.args.labels.now column) c.args.grid.rows) c.loop-column.column _ c.loop-column.out.items _ c.loop-column.invariant c.in_ok-add_label_column.ensures
+
+pub returns : goal.returns
+returns c =
+    below_ends (λ column. SomeBelow (ItemGivesLabel c.args.n c.args.grid c.args.labels.now column) c.args.grid.rows) c.loop-column.column c.args.grid.columns _ _ c.loop-column.auto.column-end c.loop-column-test.false c.loop-column.invariant

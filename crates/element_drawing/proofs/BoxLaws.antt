@@ -1,0 +1,110 @@
+-- The boxes of a path, segment by segment.
+use Rattle.std.proofs.Common.{◌≡◌, List, [], ◌∷◌, ◌++◌, ℤ, ◌-ℤ◌, refl, ap, sym, subst, ◌∙◌, append_assoc, FitsSigned, to_z, of_z, arith}
+use Rattle.std.proofs.lemmas.Int.{ints, to_z-of_z}
+use Rattle.std.specs.Int.{w32, w64}
+use Rattle.std.proofs.lemmas.List.{append-nil}
+use Rattle.std.specs.List.{AllByRecursion}
+use Rattle.or_geom.specs.declared.shape.Point.{Point}
+use Rattle.or_geom.specs.declared.shape.Rect.{Rect}
+use Rattle.rectilinear.specs.Simple.{AllStraight}
+use Rattle.gds_records.specs.Values.{IsShort}
+use Rattle.gds_stream.specs.Values.{segments_from}
+use Rattle.element_drawing.specs.declared.extent.Extent.{Extent}
+use Rattle.element_drawing.specs.declared.boxes.Stroke.{Stroke}
+use Rattle.element_drawing.specs.declared.boxes.Tip.{Tip}
+use Rattle.element_drawing.specs.declared.boxes.Segment.{Segment}
+use Rattle.element_drawing.specs.Paths.{IsSegmentBox, AreBoxesFrom}
+use Rattle.element_drawing.specs.Segments.{IsLength, IsExtentOf, IsOver, IsShortStroke, IsShortSegment, longer_before, segment_at}
+
+-- the boxes so far, which those of the rest complete
+pub record AreBoxesBut (stroke : Stroke) (first : Point) (others : List Point) (tip : Tip) (rest : List Point) (boxes : List Rect) : Type 0 where
+  pub completes : (more : List Rect) → AreBoxesFrom stroke.half stroke.last tip.before tip.at rest more → AreBoxesFrom stroke.half stroke.last stroke.last first others (boxes ++ more)
+  pub before : IsLength tip.before
+  pub at : IsShort tip.at
+  pub short : AllByRecursion IsShort rest
+  pub straight : AllStraight (segments_from tip.at rest)
+
+pub boxes_none : (stroke : Stroke) (first : Point) (others : List Point) (tip : Tip) → tip ≡ record { at = first; before = stroke.last } → IsShortStroke stroke → AllByRecursion IsShort (first ∷ others) → AllStraight (segments_from first others)
+    → AreBoxesBut stroke first others tip others []
+boxes_none stroke first others tip is short points straight = subst (λ (t : Tip). AreBoxesBut stroke first others t others []) (sym is) (record {
+  completes = λ more are. are;
+  before = short.last;
+  at = points.0;
+  short = points.1;
+  straight = straight;
+})
+
+-- one box more
+more_boxes : (stroke : Stroke) (tip : Tip) (to : Point) (after : List Point) (box : Rect) (more : List Rect) → IsSegmentBox stroke.half tip.before (longer_before stroke after) tip.at to box
+    → AreBoxesFrom stroke.half stroke.last stroke.half to after more → AreBoxesFrom stroke.half stroke.last tip.before tip.at (to ∷ after) (box ∷ more)
+more_boxes stroke tip to [] box more is are = (is, are)
+more_boxes stroke tip to (q ∷ qs) box more is are = (is, are)
+
+longer_short : (stroke : Stroke) (after : List Point) → IsShortStroke stroke → IsLength (longer_before stroke after)
+longer_short stroke [] short = short.last
+longer_short stroke (p ∷ ps) short = short.half
+
+pub segment_short : (stroke : Stroke) (first : Point) (others : List Point) (tip : Tip) (rest : List Point) (boxes : List Rect) (to : Point) (after : List Point) (s : Segment) → rest ≡ to ∷ after → s ≡ segment_at stroke tip to after
+    → IsShortStroke stroke → AreBoxesBut stroke first others tip rest boxes → IsShortSegment s
+segment_short stroke first others tip rest boxes to after s e is short but =
+    let b = subst (λ (ps : List Point). AreBoxesBut stroke first others tip ps boxes) e but in
+    subst IsShortSegment (sym is) (record {
+      from = b.at;
+      to = b.short.0;
+      some = short.some;
+      half = short.half;
+      before = b.before;
+      after = longer_short stroke after short;
+      straight = b.straight.0;
+    })
+
+pub boxes_more : (stroke : Stroke) (first : Point) (others : List Point) (tip : Tip) (rest : List Point) (old new : List Rect) (to : Point) (after : List Point) (s : Segment) (box : Rect) (next : Tip) → rest ≡ to ∷ after → s ≡ segment_at stroke tip to after
+    → IsSegmentBox s.half s.before s.after s.from s.to box → new ≡ old ++ box ∷ [] → next ≡ record { at = to; before = stroke.half } → IsShortStroke stroke → AreBoxesBut stroke first others tip rest old → AreBoxesBut stroke first others next after new
+boxes_more stroke first others tip rest old new to after s box next e is drawn push next_is short but =
+    let b = subst (λ (ps : List Point). AreBoxesBut stroke first others tip ps old) e but in
+    let here : IsSegmentBox stroke.half tip.before (longer_before stroke after) tip.at to box = subst (λ (t : Segment). IsSegmentBox t.half t.before t.after t.from t.to box) is drawn in
+    subst (λ (t : Tip). AreBoxesBut stroke first others t after new) (sym next_is) (record {
+      completes = λ more are. subst (AreBoxesFrom stroke.half stroke.last stroke.last first others) (sym (append_assoc old (box ∷ []) more) ∙ ap (λ (l : List Rect). l ++ more) (sym push)) (b.completes (box ∷ more) (more_boxes stroke tip to after box more here are));
+      before = short.half;
+      at = b.short.0;
+      short = b.short.1;
+      straight = b.straight.1;
+    })
+
+pub boxes_all : (stroke : Stroke) (first : Point) (others : List Point) (tip : Tip) (boxes : List Rect) → AreBoxesBut stroke first others tip [] boxes → AreBoxesFrom stroke.half stroke.last stroke.last first others boxes
+boxes_all stroke first others tip boxes but = subst (AreBoxesFrom stroke.half stroke.last stroke.last first others) (append-nil boxes) (but.completes [] refl)
+
+pub upright_is_box : (s : Segment) (across upward : Extent) (r : Rect) → s.from.x ≡ s.to.x → IsExtentOf (record { from = s.from.x; to = s.from.x; before = s.half; after = s.half }) across
+    → IsExtentOf (record { from = s.from.y; to = s.to.y; before = s.before; after = s.after }) upward → IsOver across upward r → IsSegmentBox s.half s.before s.after s.from s.to r
+upright_is_box s across upward r level x y over =
+    let x_is = x.rising (omega (arith, ints)) in
+    record {
+      right = λ h. let less = h.rises in absurd (omega (arith, ints, less, level));
+      left = λ h. let less = h.rises in absurd (omega (arith, ints, less, level));
+      up = λ h. let less = h.rises in let y_is = y.rising (omega (arith, ints, less)) in record { x1 = over.x1 ∙ x_is.low; y1 = over.y1 ∙ y_is.low; x2 = over.x2 ∙ x_is.high; y2 = over.y2 ∙ y_is.high };
+      down = λ h. let y_is = y.falling h.rises in record { x1 = over.x1 ∙ x_is.low; y1 = over.y1 ∙ y_is.low; x2 = over.x2 ∙ x_is.high; y2 = over.y2 ∙ y_is.high };
+    }
+
+pub level_is_box : (s : Segment) (across upward : Extent) (r : Rect) → s.from.y ≡ s.to.y → IsExtentOf (record { from = s.from.x; to = s.to.x; before = s.before; after = s.after }) across
+    → IsExtentOf (record { from = s.from.y; to = s.from.y; before = s.half; after = s.half }) upward → IsOver across upward r → IsSegmentBox s.half s.before s.after s.from s.to r
+level_is_box s across upward r level x y over =
+    let y_is = y.rising (omega (arith, ints)) in
+    record {
+      right = λ h. let less = h.rises in let x_is = x.rising (omega (arith, ints, less)) in record { x1 = over.x1 ∙ x_is.low; y1 = over.y1 ∙ y_is.low; x2 = over.x2 ∙ x_is.high; y2 = over.y2 ∙ y_is.high };
+      left = λ h. let x_is = x.falling h.rises in record { x1 = over.x1 ∙ x_is.low; y1 = over.y1 ∙ y_is.low; x2 = over.x2 ∙ x_is.high; y2 = over.y2 ∙ y_is.high };
+      up = λ h. let less = h.rises in absurd (omega (arith, ints, less, level));
+      down = λ h. let less = h.rises in absurd (omega (arith, ints, less, level));
+    }
+
+pub difference_kept : (a b : ℤ) → FitsSigned w32 a → IsLength b → to_z w64 (of_z w64 (to_z w64 (of_z w64 a) -ℤ to_z w64 (of_z w64 b))) ≡ a -ℤ b
+difference_kept a b f length =
+    let fits_a : FitsSigned w64 a = omega (arith, ints, f) in
+    let fits_b : FitsSigned w64 b = omega (arith, ints, length.above, length.below) in
+    let fits : FitsSigned w64 (a -ℤ b) = omega (arith, ints, f, length.above, length.below) in
+    rw (to_z-of_z w64 a fits_a, to_z-of_z w64 b fits_b, to_z-of_z w64 (a -ℤ b) fits) refl
+
+pub short_kept : (z : ℤ) → FitsSigned w32 z → to_z w64 (of_z w64 z) ≡ z
+short_kept z fits = to_z-of_z w64 z (omega (arith, ints, fits))
+
+pub length_kept : (z : ℤ) → IsLength z → to_z w64 (of_z w64 z) ≡ z
+length_kept z length = to_z-of_z w64 z (omega (arith, ints, length.above, length.below))

@@ -1,0 +1,4 @@
+pub mod ListedLaws
+pub mod BelowLaws
+pub mod FlatLaws
+pub mod FlatShapeLaws

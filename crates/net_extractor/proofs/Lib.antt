@@ -1,0 +1,10 @@
+mod AreaLaws
+mod PlaceLaws
+mod ContactLaws
+mod NumberLaws
+mod ExtractLaws
+mod EntryLaws
+mod PinLaws
+mod ConflictLaws
+mod PathLaws
+mod DifferenceLaws

@@ -1,0 +1,29 @@
+-- What stands at a place of a list.
+use Rattle.std.proofs.Common.{◌≡◌, inl, inr, ℕ, ◌+◌, ◌<◌, List, length, get_or, refl, sym, subst, ◌∙◌, arith, Some}
+use Rattle.std.specs.Prelude.{slice_get, Contains}
+use Rattle.std.proofs.lemmas.Bool.{cases_lt}
+use Rattle.std.proofs.lemmas.Option.{slice_get_read, slice_get_within, get_or_from_slice_get}
+
+pub at_index : {X : Type 0} (xs : List X) (i : ℕ) (x : X) → i < length xs → x ≡ get_or xs i x → slice_get xs i ≡ Some x
+at_index xs i x lt is = slice_get_read xs (length xs) i x refl lt is
+
+-- a place has one item
+pub one_at : {X : Type 0} (xs : List X) (i : ℕ) (x y : X) → slice_get xs i ≡ Some x → slice_get xs i ≡ Some y → x ≡ y
+one_at xs i x y a b = let e : Some x ≡ Some y = sym a ∙ b in cc
+
+-- what holds of each item before a place, and of the one there, holds of each before the next place
+pub each_more : {X : Type 0} (P : ℕ → X → Type 0) (xs : List X) (i : ℕ) (x : X) → slice_get xs i ≡ Some x → P i x → ((k : ℕ) (y : X) → k < i → slice_get xs k ≡ Some y → P k y)
+    → (k : ℕ) (y : X) → k < i + 1 → slice_get xs k ≡ Some y → P k y
+each_more {X} P xs i x here holds before k y below there = elim (cases_lt k i) [
+  | inl lt ↦ before k y lt there
+  | inr ge ↦
+      let e : i ≡ k = omega arith in
+      let same : x ≡ y = one_at xs k x y (subst (λ (j : ℕ). slice_get xs j ≡ Some x) e here) there in
+      subst (λ (z : X). P k z) same (subst (λ (j : ℕ). P j x) e holds)
+]
+
+pub at_contained : {X : Type 0} (xs : List X) (x : X) (h : Contains xs x) → slice_get xs h.0 ≡ Some x
+at_contained xs x h = at_index xs h.0 x h.1 (sym h.2)
+
+pub contained_at : {X : Type 0} (xs : List X) (k : ℕ) (x : X) → slice_get xs k ≡ Some x → Contains xs x
+contained_at xs k x at_k = (k, slice_get_within xs k x at_k, get_or_from_slice_get xs k x x at_k)

@@ -1,0 +1,57 @@
+use Rattle.std.proofs.lemmas.Option.{slice_get_within}
+use Rattle.net_extractor.specs.declared.difference.NetDiff.TheVariants.{Unlabelled, Stranger}
+use Rattle.net_extractor.proofs.PlaceLaws.{at_index}
+use Rattle.net_extractor.proofs.DifferenceLaws.{alike, differ, unlabelled, stranger, conflict_first, conflict_within}
+use Rattle.net_extractor.proofs.PinLaws.{labelled_all}
+use Rattle.net_extractor.proofs.comparison.first_difference.Goals as goal
+
+pub returns-in-Unlabelled-clause-none : goal.returns-in-Unlabelled-clause-none
+returns-in-Unlabelled-clause-none c =
+    let lack = rw c.in-Unlabelled.is at c.in_ok-place.ensures in
+    differ c.args.labels.now c.args.pins.now (Unlabelled c.in_ok-pin-in-Unlabelled.pin)
+    (unlabelled c.args.labels.now c.args.pins.now c.in-Unlabelled.place c.index-pins-place.result c.in_ok-pin-in-Unlabelled.pin lack
+    (at_index c.args.pins.now c.in-Unlabelled.place c.index-pins-place.result (slice_get_within c.args.pins.now c.in-Unlabelled.place lack.pin lack.first.here) c.index-pins-place.is) c.in_ok-pin-in-Unlabelled.ensures)
+
+pub returns-in-Unlabelled-clause-first : goal.returns-in-Unlabelled-clause-first
+returns-in-Unlabelled-clause-first c =
+    let lack = rw c.in-Unlabelled.is at c.in_ok-place.ensures in
+    unlabelled c.args.labels.now c.args.pins.now c.in-Unlabelled.place c.index-pins-place.result c.in_ok-pin-in-Unlabelled.pin lack
+    (at_index c.args.pins.now c.in-Unlabelled.place c.index-pins-place.result (slice_get_within c.args.pins.now c.in-Unlabelled.place lack.pin lack.first.here) c.index-pins-place.is) c.in_ok-pin-in-Unlabelled.ensures
+
+pub label_name-requires : goal.label_name-requires
+label_name-requires c =
+    let s = rw c.in-Some.is at c.in_ok-place-2.ensures in
+    slice_get_within c.args.labels.now c.in-Some.place s.label s.first.here
+
+pub returns-in-Some-clause-none : goal.returns-in-Some-clause-none
+returns-in-Some-clause-none c =
+    let s = rw c.in-Some.is at c.in_ok-place-2.ensures in
+    differ c.args.labels.now c.args.pins.now (Stranger c.in_ok-pin.pin)
+    (stranger c.args.labels.now c.args.pins.now c.in-Some.place s.label c.in_ok-pin.pin (labelled_all c.args.labels.now c.args.pins.now c.in-All.nets.items (rw c.in-All.is at c.in_ok-place.ensures)) s s.first.here (c.in_ok-pin.ensures s.label s.first.here))
+
+pub returns-in-Some-clause-first : goal.returns-in-Some-clause-first
+returns-in-Some-clause-first c =
+    let s = rw c.in-Some.is at c.in_ok-place-2.ensures in
+    stranger c.args.labels.now c.args.pins.now c.in-Some.place s.label c.in_ok-pin.pin (labelled_all c.args.labels.now c.args.pins.now c.in-All.nets.items (rw c.in-All.is at c.in_ok-place.ensures)) s s.first.here (c.in_ok-pin.ensures s.label s.first.here)
+
+pub returns-in_default-first_conflict-clause-none : goal.returns-in_default-first_conflict-clause-none
+returns-in_default-first_conflict-clause-none c =
+    alike c.args.labels.now c.args.pins.now
+    (record { labelled = labelled_all c.args.labels.now c.args.pins.now c.in-All.nets.items (rw c.in-All.is at c.in_ok-place.ensures); placed = rw c.in_default.is at c.in_ok-place-2.ensures })
+    c.in_default-first_conflict.ensures
+
+pub named-requires : goal.named-requires
+named-requires c = conflict_within c.args.labels.now c.args.pins.now c.in-Some-first_conflict.conflict c.in-Some-first_conflict.ensures
+
+pub returns-clause-none : goal.returns-clause-none
+returns-clause-none c =
+    differ c.args.labels.now c.args.pins.now c.in_ok-difference.difference
+    (conflict_first c.args.labels.now c.args.pins.now c.in-Some-first_conflict.conflict c.in_ok-difference.difference
+    (record { labelled = labelled_all c.args.labels.now c.args.pins.now c.in-All.nets.items (rw c.in-All.is at c.in_ok-place.ensures); placed = rw c.in_default.is at c.in_ok-place-2.ensures })
+    c.in-Some-first_conflict.ensures c.in_ok-difference.ensures)
+
+pub returns-clause-first : goal.returns-clause-first
+returns-clause-first c =
+    conflict_first c.args.labels.now c.args.pins.now c.in-Some-first_conflict.conflict c.in_ok-difference.difference
+    (record { labelled = labelled_all c.args.labels.now c.args.pins.now c.in-All.nets.items (rw c.in-All.is at c.in_ok-place.ensures); placed = rw c.in_default.is at c.in_ok-place-2.ensures })
+    c.in-Some-first_conflict.ensures c.in_ok-difference.ensures

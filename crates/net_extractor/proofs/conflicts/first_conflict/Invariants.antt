@@ -1,0 +1,5 @@
+use Rattle.net_extractor.specs.FirstDifference.{AreRightBefore}
+use Rattle.net_extractor.proofs.conflicts.first_conflict.Given as goal
+
+abbrev pub invariant-loop-place : goal.invariant-loop-place
+invariant-loop-place l = AreRightBefore l.labels l.pins l.place

@@ -1,0 +1,11 @@
+use Rattle.std.proofs.Common.{refl}
+use Rattle.ordered_set.proofs.GatheringLaws.{among_found}
+use Rattle.net_extractor.specs.PinNets.{IsElsewhere}
+use Rattle.net_extractor.proofs.pins.is_elsewhere.Goals as goal
+
+pub returns-then-is_label_of : goal.returns-then-is_label_of
+returns-then-is_label_of c = (
+  λ _. among_found (IsElsewhere c.args.pin.now c.args.net) c.args.labels.now c.loop-label.label-index c.label-item.result c.loop-label-test.true c.label-item.is
+      (record { of = c.if-is_label_of.ensures.0 refl; other = c.in-Some.other; on = c.in-Some.is; differ = c.if-other-net.false }),
+  λ _. refl,
+)

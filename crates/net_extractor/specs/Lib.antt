@@ -1,0 +1,14 @@
+pub mod Touch
+pub mod Net
+pub mod Binding
+pub mod FirstAppearance
+pub mod Extraction
+pub mod Contacts
+pub mod Bound
+pub mod Numbering
+pub mod Entries
+pub mod Difference
+pub mod FirstDifference
+pub mod PinNets
+pub mod Strangers
+pub mod Conflicts

@@ -1,0 +1,9 @@
+-- Labels that stand at no leaf instance.
+use Rattle.std.specs.Prelude.{ℕ, List}
+use Rattle.ordered_set.specs.Gathering.{SomeHas}
+use Rattle.netlist.specs.declared.rows.RowPin.{RowPin}
+use Rattle.net_extractor.specs.Difference.{IsPlacedBy}
+
+-- the path stands at a leaf instance that has a pin
+abbrev pub IsPlaced : List RowPin → List ℕ → Type 0
+IsPlaced pins path = SomeHas (IsPlacedBy path) pins

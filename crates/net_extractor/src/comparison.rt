@@ -1,0 +1,88 @@
+ghost use Rattle.std.specs.Prelude.{◌≡◌, ◌↔◌, ◌<◌, length, slice_get, Some, None, IfOk, IfSome};
+ghost use Rattle.net_extractor.specs.Conflicts.{AreWithin, IsNamed};
+ghost use Rattle.net_extractor.specs.Difference.{AreAlike};
+ghost use Rattle.net_extractor.specs.FirstDifference.{IsFirstDifference, name_of_label, name_of_pin};
+
+use crate::conflicts::{Conflict, first_conflict};
+use crate::difference::{NetDiff, PinName};
+use crate::label::{NetLabel, Nets};
+use crate::pins::{PinNets, pin_nets};
+use crate::strangers::first_stranger;
+use netlist::{RowPin, Rows};
+use or_geom::{Memory, Name};
+use std::alloc::Global;
+
+/// The pin's name.
+fn pin_name(alloc: Global, pin: &RowPin) -> Result<PinName, Memory>
+    ensures { IfOk result (λ name. name ≡ name_of_pin pin.now) }
+{
+    Ok(PinName {
+        path: Name::from_bytes(alloc, pin.path.as_bytes())?,
+        pin: Name::from_bytes(alloc, pin.pin.as_bytes())?,
+    })
+}
+
+/// The name of the label at the place, as it stands.
+fn label_name(alloc: Global, labels: &[NetLabel], place: usize) -> Result<PinName, Memory>
+    requires { place < length labels.now }
+    ensures { IfOk result (λ name. (label : NetLabel) → slice_get labels.now place ≡ Some label → name ≡ name_of_label label) }
+{
+    let label = &labels[place];
+    Ok(PinName {
+        path: Name::from_bytes(alloc, label.path.as_bytes())?,
+        pin: Name::from_bytes(alloc, label.name.as_bytes())?,
+    })
+}
+
+/// The conflict with the names of its pins.
+fn named(alloc: Global, pins: &[RowPin], conflict: Conflict) -> Result<NetDiff, Memory>
+    requires { AreWithin pins.now conflict }
+    ensures { IfOk result (IsNamed pins.now conflict) }
+{
+    match conflict {
+        Conflict::Open { first, second } => Ok(NetDiff::Open {
+            first: pin_name(alloc, &pins[first])?,
+            second: pin_name(alloc, &pins[second])?,
+        }),
+        Conflict::Short { first, second } => Ok(NetDiff::Short {
+            first: pin_name(alloc, &pins[first])?,
+            second: pin_name(alloc, &pins[second])?,
+        }),
+    }
+}
+
+/// The first difference of labels and pins.
+fn first_difference(
+    alloc: Global,
+    labels: &[NetLabel],
+    pins: &[RowPin],
+) -> Result<Option<NetDiff>, Memory>
+    ensures none { IfOk result (λ found. (found ≡ None) ↔ AreAlike labels.now pins.now) }
+    ensures first { IfOk result (λ found. IfSome found (IsFirstDifference labels.now pins.now)) }
+{
+    let nets = match pin_nets(alloc, labels, pins)? {
+        PinNets::Unlabelled(place) => {
+            let pin = pin_name(alloc, &pins[place])?;
+            return Ok(Some(NetDiff::Unlabelled { pin }));
+        }
+        PinNets::All(nets) => nets,
+    };
+    if let Some(place) = first_stranger(alloc, labels, pins)? {
+        let pin = label_name(alloc, labels, place)?;
+        return Ok(Some(NetDiff::Stranger { pin }));
+    }
+    let Some(conflict) = first_conflict(labels, pins, &nets) else {
+        return Ok(None);
+    };
+    let difference = named(alloc, pins, conflict)?;
+    Ok(Some(difference))
+}
+
+/// The first difference of the labels of a layout and the rows of a netlist, or None exactly where there is none. First comes
+/// the first pin without a bound label, then the first stranger; then pin by pin what is open or short.
+pub fn compare(alloc: Global, nets: &Nets, rows: &Rows) -> Result<Option<NetDiff>, Memory>
+    ensures none { IfOk result (λ found. (found ≡ None) ↔ AreAlike nets.now.labels rows.now.pins) }
+    ensures first { IfOk result (λ found. IfSome found (IsFirstDifference nets.now.labels rows.now.pins)) }
+{
+    first_difference(alloc, nets.labels.as_slice(), rows.pins.as_slice())
+}

@@ -1,0 +1,83 @@
+ghost use Rattle.std.specs.Prelude.{◌≡◌, ◌≢◌, ◌++◌, ◌↔◌, ℕ, List, IsTrue, IfOk, MatchOption};
+ghost use Rattle.net_extractor.specs.Difference.{in_lower_case, IsAbove, IsAlong};
+ghost use Rattle.net_extractor.specs.FirstDifference.{AreNoStrangers, IsStrangerAt};
+ghost use Rattle.net_extractor.specs.Strangers.{IsPlaced};
+
+use crate::label::NetLabel;
+use netlist::RowPin;
+use or_geom::Memory;
+use std::alloc::Global;
+
+/// What stands in the text after this front.
+fn rest_after<'a>(front: &[u8], text: &'a [u8]) -> Option<&'a [u8]>
+    ensures { MatchOption result ((rest : List ℕ) → text.now ≢ front.now ++ rest) (λ rest. text.now ≡ front.now ++ rest.now) }
+{
+    text.strip_prefix(front)
+}
+
+/// Whether the path, in whole names, is a proper prefix of the other.
+fn is_above(path: &[u8], other: &[u8]) -> bool
+    ensures { IsTrue result ↔ IsAbove path.now other.now }
+{
+    let Some(rest) = rest_after(path, other) else {
+        return false;
+    };
+    let Some((first, _)) = rest.split_first() else {
+        return false;
+    };
+    *first == b'/'
+}
+
+/// Whether the path is the other, a proper prefix of it, or below it.
+fn is_along(path: &[u8], other: &[u8]) -> bool
+    ensures { IsTrue result ↔ IsAlong path.now other.now }
+{
+    if path == other {
+        return true;
+    }
+    is_above(path, other) || is_above(other, path)
+}
+
+/// Whether the path stands at a leaf instance that has a pin.
+fn is_placed(path: &[u8], pins: &[RowPin]) -> bool
+    ensures { IsTrue result ↔ IsPlaced pins.now path.now }
+{
+    for pin in pins {
+        let instance = pin.path.as_bytes();
+        if instance.is_empty() {
+            continue;
+        }
+        if is_along(path, instance) {
+            return true;
+        }
+    }
+    false
+}
+
+/// The text in lower case.
+fn lowered(alloc: Global, text: &[u8]) -> Result<Vec<u8>, Memory>
+    ensures { IfOk result (λ lower. lower.items ≡ in_lower_case text.now) }
+{
+    Ok(text.to_ascii_lowercase(alloc)?)
+}
+
+/// The place of the first label that stands in an instance, and at no leaf instance that has a pin.
+pub fn first_stranger(
+    alloc: Global,
+    labels: &[NetLabel],
+    pins: &[RowPin],
+) -> Result<Option<usize>, Memory>
+    ensures { IfOk result (λ found. MatchOption found (AreNoStrangers labels.now pins.now) (IsStrangerAt labels.now pins.now)) }
+{
+    for place in 0..labels.len() {
+        let path = labels[place].path.as_bytes();
+        if path.is_empty() {
+            continue;
+        }
+        let lower = lowered(alloc, path)?;
+        if !is_placed(&lower, pins) {
+            return Ok(Some(place));
+        }
+    }
+    Ok(None)
+}

@@ -1,0 +1,8 @@
+//! What a netlist is: subcircuits with instances of one another, and the flat rows of the pins of one of them.
+#![tactic(auto)]
+
+mod deck;
+mod rows;
+
+pub use deck::{Deck, Instance, Subckt};
+pub use rows::{RowPin, Rows};

@@ -1,3 +1,0 @@
-mod DrawingLaws
-mod JointLaws
-mod CellLaws

@@ -1,5 +1,0 @@
-pub mod Drawing
-pub mod Extents
-pub mod Built
-pub mod Cells
-pub mod Joints

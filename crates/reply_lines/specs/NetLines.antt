@@ -1,0 +1,28 @@
+-- The lines of labels with their nets.
+use Rattle.std.specs.Prelude.{ℕ, List, [], ◌∷◌, ◌++◌, map, Option, Some, None}
+use Rattle.std.specs.Fmt.{decimal}
+use Rattle.tech_rules.specs.declared.tech.Layer.{Layer}
+use Rattle.net_extractor.specs.declared.label.NetLabel.{NetLabel}
+use Rattle.reply_lines.specs.declared.reply.Reply.{Reply}
+use Rattle.reply_lines.specs.Lines.{line_text}
+use Rattle.reply_lines.specs.Reply.{layer_name}
+
+-- the net's number, or `-` where the label binds no shape
+abbrev pub net_text : Option ℕ → List ℕ
+net_text None = 45 ∷ []
+net_text (Some number) = decimal number
+
+-- the path, `/` and the name; the name alone where the path is empty
+abbrev pub pin_text : List ℕ → List ℕ → List ℕ
+pin_text [] name = name
+pin_text (b ∷ bs) name = (b ∷ bs) ++ (47 ∷ name)
+
+-- the label's net, its layer's name, and its path and name as a pin
+abbrev pub net_words : List Layer → NetLabel → List (List ℕ)
+net_words layers label = net_text label.net ∷ (layer_name layers label.layer ∷ (pin_text label.path label.name ∷ []))
+
+abbrev pub net_lines : List Layer → List NetLabel → List (List ℕ)
+net_lines layers labels = map (λ label. line_text (net_words layers label)) labels
+
+abbrev pub nets_reply : List Layer → List NetLabel → Reply
+nets_reply layers labels = record { status = 0; lines = net_lines layers labels }

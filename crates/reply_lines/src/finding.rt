@@ -1,0 +1,72 @@
+ghost use Rattle.std.specs.Prelude.{◌≡◌, ◌++◌, IfOk, OnOk};
+ghost use Rattle.reply_lines.specs.Reply.{layer_name, shape_words, violation_words, report_lines, report_reply};
+
+use crate::line::Line;
+use crate::reply::Reply;
+use crate::text::text_of;
+use or_geom::{Items, Memory, Name, Shape};
+use std::alloc::Global;
+use tech_rules::Layer;
+use tile_checker::Violation;
+
+/// The name of a layer, by its place in the technology.
+pub fn name_of(layers: &[Layer], place: u16) -> &[u8]
+    ensures { result.now ≡ layer_name layers.now place }
+{
+    match layers.get(usize::from(place)) {
+        Some(layer) => layer.name.as_bytes(),
+        None => b"",
+    }
+}
+
+/// Adds a shape: its layer's name and four numbers.
+fn add_shape(line: &mut Line, layers: &[Layer], shape: Shape) -> Result<(), Memory>
+    ensures { OnOk result (line.new ≡ line.old ++ shape_words layers.now shape) }
+{
+    line.word(name_of(layers, shape.layer))?;
+    line.signed(shape.rect.x1)?;
+    line.signed(shape.rect.y1)?;
+    line.signed(shape.rect.x2)?;
+    line.signed(shape.rect.y2)?;
+    Ok(())
+}
+
+/// The line of a violation.
+fn violation_line(alloc: Global, layers: &[Layer], violation: Violation) -> Result<Line, Memory>
+    ensures { IfOk result (λ line. line ≡ violation_words layers.now violation) }
+{
+    let mut line = Line::new(alloc);
+    line.number(u64::from(violation.rule))?;
+    add_shape(&mut line, layers, violation.first)?;
+    if let Some(second) = violation.second {
+        add_shape(&mut line, layers, second)?;
+    }
+    Ok(line)
+}
+
+/// The lines of a report.
+fn lines_of(
+    alloc: Global,
+    layers: &[Layer],
+    violations: &[Violation],
+) -> Result<Items<Name>, Memory>
+    ensures { IfOk result (λ lines. lines ≡ report_lines layers.now violations.now) }
+{
+    let mut lines = Items::new(alloc);
+    for violation in violations {
+        let line = violation_line(alloc, layers, *violation)?;
+        lines.push(text_of(alloc, line.words())?)?;
+    }
+    Ok(lines)
+}
+
+/// The answer that is a report: status 0 where it is empty, else 1.
+pub fn report_of(alloc: Global, layers: &[Layer], violations: &[Violation]) -> Result<Reply, Memory>
+    ensures { IfOk result (λ reply. reply ≡ report_reply layers.now violations.now) }
+{
+    let lines = lines_of(alloc, layers, violations)?;
+    if violations.is_empty() {
+        return Ok(Reply { status: 0, lines });
+    }
+    Ok(Reply { status: 1, lines })
+}

@@ -1,0 +1,172 @@
+ghost use Rattle.std.specs.Prelude.{◌≡◌, ◌∷◌, [], IfOk};
+ghost use Rattle.std.specs.Fmt.{decimal, signed_decimal};
+ghost use Rattle.reply_lines.specs.Refusals.{headed, refusal_words, gds_words, tech_words, spice_words, flatten_words, rows_words};
+
+use crate::line::Line;
+use cell_hierarchy::FlattenFault;
+use gds_stream::GdsFault;
+use or_geom::{Memory, Name, Point};
+use spice_netlist::FlatFault;
+use spice_text::SpiceFault;
+use std::alloc::Global;
+use tech_rules::TechFault;
+
+/// Why the inputs are refused. Each has a number and a name, with which it is printed.
+#[derive(Debug, Drop)]
+pub enum Refusal {
+    /// The words are no form of the program.
+    Usage,
+    /// A file isn't there.
+    NoFile { name: Name },
+    /// A file is longer than 64 MiB.
+    TooLong { name: Name },
+    /// The technology's file is no technology.
+    Tech(TechFault),
+    /// The GDSII file is no library.
+    Gds(GdsFault),
+    /// The netlist's file is no deck.
+    Spice(SpiceFault),
+    /// The structure has no flat layout.
+    Flatten(FlattenFault),
+    /// The subcircuit has no flat rows.
+    Rows(FlatFault),
+}
+
+/// A line that begins with the number and the name of a refusal.
+fn headed(alloc: Global, number: u64, name: &[u8]) -> Result<Line, Memory>
+    ensures { IfOk result (λ line. line ≡ headed number name.now []) }
+{
+    let mut line = Line::new(alloc);
+    line.word(b"openram:")?;
+    line.number(number)?;
+    line.word(name)?;
+    Ok(line)
+}
+
+/// A line with one name as its field.
+fn named(alloc: Global, number: u64, name: &[u8], field: &Name) -> Result<Line, Memory>
+    ensures { IfOk result (λ line. line ≡ headed number name.now (field.now ∷ [])) }
+{
+    let mut line = headed(alloc, number, name)?;
+    line.word(field.as_bytes())?;
+    Ok(line)
+}
+
+/// A line with one number as its field.
+fn placed(alloc: Global, number: u64, name: &[u8], at: u64) -> Result<Line, Memory>
+    ensures { IfOk result (λ line. line ≡ headed number name.now (decimal at ∷ [])) }
+{
+    let mut line = headed(alloc, number, name)?;
+    line.number(at)?;
+    Ok(line)
+}
+
+/// A line with two numbers as its fields.
+fn counted(alloc: Global, number: u64, name: &[u8], a: u64, b: u64) -> Result<Line, Memory>
+    ensures { IfOk result (λ line. line ≡ headed number name.now (decimal a ∷ decimal b ∷ [])) }
+{
+    let mut line = headed(alloc, number, name)?;
+    line.number(a)?;
+    line.number(b)?;
+    Ok(line)
+}
+
+/// A line with a point's coordinates as its fields.
+fn pointed(alloc: Global, number: u64, name: &[u8], p: Point) -> Result<Line, Memory>
+    ensures { IfOk result (λ line. line ≡ headed number name.now (signed_decimal p.x ∷ signed_decimal p.y ∷ [])) }
+{
+    let mut line = headed(alloc, number, name)?;
+    line.signed(p.x)?;
+    line.signed(p.y)?;
+    Ok(line)
+}
+
+fn tech_line(alloc: Global, fault: &TechFault) -> Result<Line, Memory>
+    ensures { IfOk result (λ line. line ≡ tech_words fault.now) }
+{
+    match fault {
+        TechFault::NotToml => headed(alloc, 21, b"NotToml"),
+        TechFault::Missing { key } => named(alloc, 22, b"Missing", key),
+        TechFault::WrongKind { key } => named(alloc, 23, b"WrongKind", key),
+        TechFault::OutOfRange { key } => named(alloc, 24, b"OutOfRange", key),
+        TechFault::UnknownLayer { key } => named(alloc, 25, b"UnknownLayer", key),
+        TechFault::BadWire { layer } => named(alloc, 26, b"BadWire", layer),
+        TechFault::Memory => headed(alloc, 94, b"Memory"),
+    }
+}
+
+fn flatten_line(alloc: Global, fault: &FlattenFault) -> Result<Line, Memory>
+    ensures { IfOk result (λ line. line ≡ flatten_words fault.now) }
+{
+    match fault {
+        FlattenFault::UnknownStruct { name } => named(alloc, 31, b"UnknownStruct", name),
+        FlattenFault::Cycle { name } => named(alloc, 32, b"Cycle", name),
+        FlattenFault::TooDeep { depth } => placed(alloc, 33, b"TooDeep", u64::from(*depth)),
+        FlattenFault::TooMany { shapes, labels } => {
+            counted(alloc, 34, b"TooMany", *shapes, *labels)
+        }
+        FlattenFault::Far { x, y } => pointed(alloc, 35, b"Far", Point { x: *x, y: *y }),
+        FlattenFault::Memory => headed(alloc, 94, b"Memory"),
+    }
+}
+
+fn spice_line(alloc: Global, fault: SpiceFault) -> Result<Line, Memory>
+    ensures { IfOk result (λ line. line ≡ spice_words fault) }
+{
+    match fault {
+        SpiceFault::NotAscii { at } => placed(alloc, 11, b"NotAscii", at),
+        SpiceFault::OutsideSubckt { line } => placed(alloc, 12, b"OutsideSubckt", line),
+        SpiceFault::Unclosed { line } => placed(alloc, 13, b"Unclosed", line),
+        SpiceFault::Duplicate { line } => placed(alloc, 14, b"Duplicate", line),
+        SpiceFault::Refused { line } => placed(alloc, 15, b"Refused", line),
+        SpiceFault::BadLine { line } => placed(alloc, 19, b"BadLine", line),
+        SpiceFault::Memory => headed(alloc, 94, b"Memory"),
+    }
+}
+
+fn rows_line(alloc: Global, fault: &FlatFault) -> Result<Line, Memory>
+    ensures { IfOk result (λ line. line ≡ rows_words fault.now) }
+{
+    match fault {
+        FlatFault::UnknownSubckt { name } => named(alloc, 16, b"UnknownSubckt", name),
+        FlatFault::Cycle { name } => named(alloc, 18, b"Cycle", name),
+        FlatFault::PortCount { path } => named(alloc, 17, b"PortCount", path),
+        FlatFault::TooMany { count } => placed(alloc, 20, b"TooMany", *count),
+        FlatFault::Memory => headed(alloc, 94, b"Memory"),
+    }
+}
+
+fn gds_line(alloc: Global, fault: GdsFault) -> Result<Line, Memory>
+    ensures { IfOk result (λ line. line ≡ gds_words fault) }
+{
+    match fault {
+        GdsFault::Truncated { at } => placed(alloc, 1, b"Truncated", at),
+        GdsFault::BadRecord { at, code } => counted(alloc, 2, b"BadRecord", at, u64::from(code)),
+        GdsFault::NotInPlace { at, code } => counted(alloc, 3, b"NotInPlace", at, u64::from(code)),
+        GdsFault::BadUnits { at } => placed(alloc, 4, b"BadUnits", at),
+        GdsFault::NotManhattan { at } => placed(alloc, 5, b"NotManhattan", at),
+        GdsFault::BadTransform { at } => placed(alloc, 6, b"BadTransform", at),
+        GdsFault::BadPath { at } => placed(alloc, 7, b"BadPath", at),
+        GdsFault::TrailingBytes { at } => placed(alloc, 8, b"TrailingBytes", at),
+        GdsFault::Twice { at } => placed(alloc, 10, b"Twice", at),
+        GdsFault::Memory => headed(alloc, 94, b"Memory"),
+    }
+}
+
+impl Refusal {
+    /// The line that is printed of it.
+    pub fn line(&self, alloc: Global) -> Result<Line, Memory>
+        ensures { IfOk result (λ line. line ≡ refusal_words self.now) }
+    {
+        match self {
+            Refusal::Usage => headed(alloc, 90, b"Usage"),
+            Refusal::NoFile { name } => named(alloc, 67, b"NoFile", name),
+            Refusal::TooLong { name } => named(alloc, 68, b"TooLong", name),
+            Refusal::Tech(fault) => tech_line(alloc, fault),
+            Refusal::Gds(fault) => gds_line(alloc, *fault),
+            Refusal::Spice(fault) => spice_line(alloc, *fault),
+            Refusal::Flatten(fault) => flatten_line(alloc, fault),
+            Refusal::Rows(fault) => rows_line(alloc, fault),
+        }
+    }
+}

@@ -1,0 +1,4 @@
+pub mod Slabs
+pub mod Rows
+pub mod Heights
+pub mod Laws

@@ -1,0 +1,16 @@
+pub mod ListLaws
+pub mod WalkLaws
+pub mod BadLaws
+pub mod PinLaws
+pub mod PlaceLaws
+pub mod PartLaws
+pub mod LeastLaws
+pub mod MissingLaws
+pub mod TableLaws
+pub mod SizeLaws
+pub mod NumberLaws
+pub mod RowLaws
+pub mod ResolvedLaws
+pub mod FlatLaws
+pub mod NetTextLaws
+pub mod WholeLaws

@@ -1,0 +1,39 @@
+-- A text is cut at its first A in one way only.
+use Rattle.std.proofs.Common.{◌≡◌, ℕ, List, [], ◌∷◌, ◌++◌, map, refl, sym, ap, ◌∙◌, arith}
+use Rattle.std.specs.Char.{to_ascii_lowercase}
+use Rattle.std.proofs.lemmas.Bool.Decides.{nat_tests}
+use Rattle.spice_netlist.specs.Names.{lower}
+use Rattle.spice_netlist.specs.NetText.{net_text, IsOneNet}
+
+lower_65 : (c : ℕ) → to_ascii_lowercase c ≡ 65 → ⊥
+lower_65 c e = grind (arith, nat_tests)
+
+-- two front parts without an A, each with an A and more behind it
+record AreCutAlike (a b x y : List ℕ) : Type 0 where
+  pub front : a ≡ b
+  pub rest : x ≡ y
+
+cut : (a b x y : List ℕ) → lower a ++ 65 ∷ x ≡ lower b ++ 65 ∷ y → AreCutAlike (lower a) (lower b) x y
+cut [] [] x y e = record { front = refl; rest = cc }
+cut [] (d ∷ b) x y e = let bad : to_ascii_lowercase d ≡ 65 = cc in absurd (lower_65 d bad)
+cut (c ∷ a) [] x y e = let bad : to_ascii_lowercase c ≡ 65 = cc in absurd (lower_65 c bad)
+cut (c ∷ a) (d ∷ b) x y e =
+    let first : to_ascii_lowercase c ≡ to_ascii_lowercase d = cc in
+    let rest : lower a ++ 65 ∷ x ≡ lower b ++ 65 ∷ y = cc in
+    let more = cut a b x y rest in
+    record { front = ap (λ (n : ℕ). n ∷ lower a) first ∙ ap (λ (l : List ℕ). to_ascii_lowercase d ∷ l) more.front; rest = more.rest }
+
+uncut : (a b x : List ℕ) → lower a ≡ lower b ++ 65 ∷ x → ⊥
+uncut [] [] x e = absurd cc
+uncut [] (d ∷ b) x e = absurd cc
+uncut (c ∷ a) [] x e = let bad : to_ascii_lowercase c ≡ 65 = cc in lower_65 c bad
+uncut (c ∷ a) (d ∷ b) x e = let rest : lower a ≡ lower b ++ 65 ∷ x = cc in uncut a b x rest
+
+pub one_net : (path path' : List (List ℕ)) (name name' : List ℕ) → net_text (map lower path) (lower name) ≡ net_text (map lower path') (lower name') → IsOneNet (map lower path) (map lower path') (lower name) (lower name')
+one_net [] [] name name' e = record { one_path = refl; one_name = e }
+one_net [] (j ∷ path') name name' e = absurd (uncut name j (net_text (map lower path') (lower name')) e)
+one_net (i ∷ path) [] name name' e = absurd (uncut name' i (net_text (map lower path) (lower name)) (sym e))
+one_net (i ∷ path) (j ∷ path') name name' e =
+    let c = cut i j (net_text (map lower path) (lower name)) (net_text (map lower path') (lower name')) e in
+    let rest = one_net path path' name name' c.rest in
+    record { one_path = ap (λ (n : List ℕ). n ∷ map lower path) c.front ∙ ap (λ (l : List (List ℕ)). lower j ∷ l) rest.one_path; one_name = rest.one_name }

@@ -1,0 +1,27 @@
+-- The least of names in byte order.
+use Rattle.std.specs.Prelude.{◌≡◌, ◌≢◌, ℕ, List, Option, None, Some, MatchOption, Contains, if◌then◌else◌}
+use Rattle.std.specs.Ordering.{nat_cmp, is_gt}
+use Rattle.std.specs.Cmp.Lexicographic.{slice_cmp}
+use Rattle.std.specs.declared.cmp.Ordering.TheVariants.{Greater}
+use Rattle.spice_netlist.specs.declared.block.Part.{Part}
+
+-- the name has P, and no name before it in byte order has
+pub record IsLeast (P : List ℕ → Type 0) (name : List ℕ) : Type 0 where
+  pub has : P name
+  pub least : (other : List ℕ) → P other → slice_cmp nat_cmp name other ≢ Greater
+
+-- the least name that has P; None where no name has
+abbrev pub IsLeastOf : (List ℕ → Type 0) → Option (List ℕ) → Type 0
+IsLeastOf P found = MatchOption found ((name : List ℕ) → P name → ⊥) (IsLeast P)
+
+-- the lesser of the best so far, if there is one, and the name
+abbrev pub lesser_of : Option (List ℕ) → List ℕ → List ℕ
+lesser_of None name = name
+lesser_of (Some best) name = if is_gt (slice_cmp nat_cmp best name) then name else best
+
+-- a part refers to the name, and it isn't there
+pub record IsMissingIn (parts : List Part) (name : List ℕ) : Type 0 where
+  pub part : Part
+  pub stands : Contains parts part
+  pub missing : part.place ≡ None
+  pub is : part.of ≡ name

@@ -1,0 +1,14 @@
+pub mod Names
+pub mod Found
+pub mod Least
+pub mod Resolved
+pub mod Walk
+pub mod Pins
+pub mod Numbers
+pub mod NetTable
+pub mod Lines
+pub mod Tables
+pub mod Faults
+pub mod Sizes
+pub mod NetText
+pub mod Whole

@@ -1,0 +1,17 @@
+ghost use Rattle.spice_netlist.specs.NetText.{NetTextsAreFaithful};
+ghost use Rattle.spice_netlist.specs.Whole.{WalksAreWhole};
+
+use reference_graph::paths_are_short;
+
+/// A law for readers: two nets have one text exactly where they have one path and one name, since a name in lower case
+/// has no `A`.
+pub fn net_texts_are_faithful()
+    ensures { NetTextsAreFaithful }
+{}
+
+/// A law for readers: a walk has as many levels as it needs, where nothing below it reaches itself.
+pub fn walks_are_whole()
+    ensures { WalksAreWhole }
+{
+    paths_are_short();
+}

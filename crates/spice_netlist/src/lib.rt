@@ -1,0 +1,26 @@
+//! The flat rows of a netlist: the nets of the pins of all leaf instances below a top.
+#![tactic(auto)]
+
+mod block;
+mod cycle;
+mod fault;
+mod flat;
+mod graph;
+mod laws;
+mod least;
+mod line;
+mod lower;
+mod number;
+mod pins;
+mod places;
+mod ports;
+mod resolve;
+mod rows;
+mod size;
+mod table;
+mod text;
+mod unknown;
+
+pub use fault::FlatFault;
+pub use flat::flat_rows;
+pub use laws::{net_texts_are_faithful, walks_are_whole};

@@ -1,0 +1,12 @@
+pub mod LineLaws
+pub mod WordLaws
+pub mod NameLaws
+pub mod DeckLaws
+pub mod WrittenLines
+pub mod WrittenWords
+pub mod WrittenNames
+pub mod WrittenDeck
+pub mod WrittenBytes
+pub mod AppendedState
+pub mod AppendedLines
+pub mod AppendedText

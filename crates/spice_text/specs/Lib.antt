@@ -1,0 +1,14 @@
+pub mod Lines
+pub mod LogicalLines
+pub mod Words
+pub mod NameLists
+pub mod Statements
+pub mod Subcircuits
+pub mod Steps
+pub mod Deck
+pub mod Faults
+pub mod WrittenText
+pub mod Writable
+pub mod ReadBack
+pub mod Appended
+pub mod Views

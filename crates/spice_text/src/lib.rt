@@ -1,0 +1,21 @@
+//! Reads and writes SPICE subcircuits.
+#![tactic(auto)]
+
+mod fault;
+mod laws;
+mod line;
+mod line_writer;
+mod logical;
+mod names;
+mod read;
+mod reading;
+mod source;
+mod statement;
+mod subcircuit;
+mod words;
+mod write;
+
+pub use fault::SpiceFault;
+pub use laws::appended_is_read;
+pub use read::read_spice;
+pub use write::write_spice;
