@@ -26,7 +26,8 @@ fn height_at(heights: &[u32], node: usize) -> u32
     heights[node]
 }
 
-/// The structures that the top reaches, from the bottom up, the top last. Of two structures of one name the first counts.
+/// Cells from the bottom up, the top's last, in which each reference leads to an earlier cell, so that all that the top
+/// reaches is among them. Of two structures of one name the first counts.
 ///
 /// Refused is, in this order: a reached name that no structure has (`UnknownStruct`), a reached structure that reaches
 /// itself (`Cycle`), a chain of more than 32 references (`TooDeep`).

@@ -13,8 +13,8 @@ use or_geom::{Memory, Name};
 use std::alloc::Global;
 use tech_rules::Layer;
 
-/// How many shapes and labels stand below the top, counted once for each way that leads to them. `cells` are the
-/// structures that the top reaches, from the bottom up, and `own` has for each of them what its elements draw themselves.
+/// How many shapes and labels stand below the top, counted once for each way that leads to them. `cells` are
+/// structures from the bottom up, the top's last, and `own` has for each of them what its elements draw themselves.
 pub fn counts_below(
     alloc: Global,
     _layers: &[Layer],

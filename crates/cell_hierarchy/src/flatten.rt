@@ -35,7 +35,8 @@ fn lists_of(
 }
 
 /// The flat shapes and labels of a structure: its own and those of all structures that it reaches, each turned, moved and
-/// named by the instances on the way. Errors come in the order of the variants of `FlattenFault`.
+/// named by the instances on the way. Errors come in the order of the variants of `FlattenFault`; want of memory may come
+/// in place of each.
 pub fn flat_lists(
     alloc: Global,
     lib: &Library,

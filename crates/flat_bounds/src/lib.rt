@@ -1,4 +1,4 @@
-//! Laws for proofs above: flat lists have no more items than stand below their structure, counted once for each way.
+//! Laws for proofs above: flat lists have at most 2^22 labels and 2^24 shapes.
 #![tactic(auto)]
 
 mod laws;

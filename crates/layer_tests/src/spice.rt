@@ -1,7 +1,7 @@
 //! SPICE: texts that are refused, a text that is read, and the flat rows of a deck of two levels.
 
 use or_geom::Name;
-use spice_netlist::flat_rows;
+use spice_netlist::{FlatFault, flat_rows};
 use spice_text::{SpiceFault, read_spice};
 use std::alloc::Global;
 use std::test::Fail;
@@ -96,5 +96,55 @@ fn rows_of_two_levels(rt: HostRuntime) -> Result<(), Fail> {
         assert!(rt; row.path.is(path));
         assert_eq!(rt; row.net, *net);
     }
+    Ok(())
+}
+
+/// The name, path or count of the fault of a deck's top `top`; a name where there is none.
+fn rows_fault(alloc: Global, text: &[u8]) -> Result<(u64, Name), Fail> {
+    let deck = read_spice(alloc, text).ok().ok_or("refused")?;
+    let top = Name::from_bytes(alloc, b"top")?;
+    let none = Name::from_bytes(alloc, b"")?;
+    match flat_rows(alloc, &deck, &top, &[]) {
+        Ok(_) => Ok((0, none)),
+        Err(FlatFault::UnknownSubckt { name }) => Ok((16, name)),
+        Err(FlatFault::Cycle { name }) => Ok((18, name)),
+        Err(FlatFault::PortCount { path }) => Ok((17, path)),
+        Err(FlatFault::TooMany { count }) => Ok((count, none)),
+        Err(FlatFault::Memory) => Ok((94, none)),
+    }
+}
+
+/// 40 subcircuits, each of two instances of the next, and a leaf.
+fn doubling(alloc: Global) -> Result<Vec<u8>, Fail> {
+    let mut text = Vec::new(alloc);
+    text.extend_from_slice(b".SUBCKT top p\nxa p s0\n.ENDS\n.SUBCKT s40 p\n.ENDS\n")?;
+    for level in 0_u32..40 {
+        let next = level + 1;
+        let part = format!(in alloc; ".SUBCKT s{level} p\nxa p s{next}\nxb p s{next}\n.ENDS\n")?;
+        text.extend_from_slice(part.as_bytes())?;
+    }
+    Ok(text)
+}
+
+#[test]
+fn rows_that_are_refused(rt: HostRuntime) -> Result<(), Fail> {
+    let alloc = rt.alloc();
+    let (number, name) = rows_fault(alloc, b".SUBCKT top p\nxa p b\nxb p A\n.ENDS\n")?;
+    assert_eq!(rt; number, 16);
+    assert!(rt; name.is(b"a"));
+    let (number, name) = rows_fault(
+        alloc,
+        b".SUBCKT top p\nxa p b\n.ENDS\n.SUBCKT b p\nxt p top\n.ENDS\n",
+    )?;
+    assert_eq!(rt; number, 18);
+    assert!(rt; name.is(b"b"));
+    let (number, path) = rows_fault(
+        alloc,
+        b".SUBCKT top p\nxa p b\n.ENDS\n.SUBCKT b p\nxc p p c\n.ENDS\n.SUBCKT c p\n.ENDS\n",
+    )?;
+    assert_eq!(rt; number, 17);
+    assert!(rt; path.is(b"xa/xc"));
+    let (count, _) = rows_fault(alloc, &doubling(alloc)?)?;
+    assert_eq!(rt; count, 1_048_577);
     Ok(())
 }

@@ -20,6 +20,7 @@ mod work;
 use crate::run::run;
 use or_host::{FileStore, StreamSink};
 use std::env;
+use std::io::ErrorKind;
 use std::process::ExitCode;
 
 /// Where the words find no memory.
@@ -30,6 +31,7 @@ fn words(rt: &HostRuntime) -> Option<Vec<String>> {
     let mut words = Vec::new(rt.alloc());
     let args = match env::args(rt) {
         Ok(args) => args,
+        Err(error) if error.kind() == ErrorKind::OutOfMemory => return None,
         Err(_) => return Some(words),
     };
     for word in args.skip(1) {

@@ -24,3 +24,5 @@ mod unknown;
 pub use fault::FlatFault;
 pub use flat::flat_rows;
 pub use laws::{net_texts_are_faithful, walks_are_whole};
+pub use netlist::{Deck, Instance, RowPin, Rows, Subckt};
+pub use spice_text::{SpiceFault, read_spice, write_spice};
