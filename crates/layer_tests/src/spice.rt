@@ -1,8 +1,9 @@
-//! SPICE: texts that are refused, a text that is read, and the flat rows of a deck of two levels.
+//! SPICE: texts that are refused, a text that is read, decks that are written, and the flat rows of a deck of two levels.
 
+use netlist::{Deck, Subckt};
 use or_geom::Name;
 use spice_netlist::{FlatFault, flat_rows};
-use spice_text::{SpiceFault, read_spice};
+use spice_text::{SpiceFault, are_writable, read_spice, write_spice};
 use std::alloc::Global;
 use std::test::Fail;
 
@@ -65,6 +66,74 @@ fn a_text_that_is_read(rt: HostRuntime) -> Result<(), Fail> {
         }
     }
     assert_eq!(rt; deck.subckts.as_slice().len(), 1);
+    Ok(())
+}
+
+/// Lines of thirteen, of twelve and of twenty-eight words.
+const WIDE: &[u8] =
+    b"* wide\n.Subckt WIDE A B C D E F G H\n+ I J K\nX1 A B C D E F G H I J Leaf l=1\nxTwo A B C D E F G H I J K A B C D E F G H I J K A\r\n+B C\n\n+ D\tLEAF\n.ends wide\n.SUBCKT leaf p\n.ENDS\n.END\n";
+
+/// The same, as it is written: a line has twelve words, and what is left of it stands on lines that begin with `+ `.
+const WRITTEN: &[u8] =
+    b".SUBCKT wide a b c d e f g h i j\n+ k\nx1 a b c d e f g h i j leaf\nxtwo a b c d e f g h i j k\n+ a b c d e f g h i j k a\n+ b c d leaf\n.ENDS wide\n.SUBCKT leaf p\n.ENDS leaf\n";
+
+fn same_names(names: &[Name], others: &[Name]) -> bool {
+    let mut pairs = names.iter().zip(others.iter());
+    names.len() == others.len() && pairs.all(|(name, other)| name.is(other.as_bytes()))
+}
+
+fn same_subckt(subckt: &Subckt, other: &Subckt) -> bool {
+    let instances = subckt.instances.as_slice();
+    let others = other.instances.as_slice();
+    let mut pairs = instances.iter().zip(others.iter());
+    subckt.name.is(other.name.as_bytes())
+        && same_names(subckt.ports.as_slice(), other.ports.as_slice())
+        && instances.len() == others.len()
+        && pairs.all(|(a, b)| {
+            a.name.is(b.name.as_bytes())
+                && same_names(a.nodes.as_slice(), b.nodes.as_slice())
+                && a.of.is(b.of.as_bytes())
+        })
+}
+
+fn same_subckts(deck: &Deck, other: &Deck) -> bool {
+    let subckts = deck.subckts.as_slice();
+    let others = other.subckts.as_slice();
+    let mut pairs = subckts.iter().zip(others.iter());
+    subckts.len() == others.len() && pairs.all(|(a, b)| same_subckt(a, b))
+}
+
+#[test]
+fn a_deck_that_is_written_and_read(rt: HostRuntime) -> Result<(), Fail> {
+    let alloc = rt.alloc();
+    let deck = read_spice(alloc, WIDE).ok().ok_or("refused")?;
+    let subckts = deck.subckts.as_slice();
+    if !are_writable(alloc, subckts)? {
+        return Err(Fail::new("not writable"));
+    }
+    let text = write_spice(alloc, subckts)?;
+    assert!(rt; text.as_slice() == WRITTEN);
+    let back = read_spice(alloc, text.as_slice())
+        .ok()
+        .ok_or("not read back")?;
+    assert!(rt; same_subckts(&deck, &back));
+    assert_eq!(rt; back.used, 168);
+    Ok(())
+}
+
+/// Whether the deck of a text can be written.
+fn is_writable(alloc: Global, text: &[u8]) -> Result<bool, Fail> {
+    let deck = read_spice(alloc, text).ok().ok_or("refused")?;
+    Ok(are_writable(alloc, deck.subckts.as_slice())?)
+}
+
+/// A line that is kept as it stands, and a CR in a name. Ports and instances may have one name.
+#[test]
+fn decks_that_are_read_and_not_written(rt: HostRuntime) -> Result<(), Fail> {
+    let alloc = rt.alloc();
+    assert!(rt; is_writable(alloc, b".SUBCKT a x1\nx1 x1 a\n.ENDS\n.SUBCKT x1\n.ENDS\n")?);
+    assert!(rt; !is_writable(alloc, b".SUBCKT a p\nr1 p q\n.ENDS\n")?);
+    assert!(rt; !is_writable(alloc, b".SUBCKT a p\nx1 p\rq b\n.ENDS\n")?);
     Ok(())
 }
 

@@ -54,7 +54,7 @@ named_placed (name ∷ []) done names o line r2 h is = absurd cc
 named_placed (name ∷ word ∷ words) done names o line r2 h is =
     mapped_test (is_among name o.instances) (fault.Duplicate line.number) (record { done = done; names = names; current = Some o }) r2 (with_instance o (instance_of name word words)) h is
 
-named_step : (current : Option OpenSubckt) (st : Statement) (done : List Subckt) (names : List (List ℕ)) (line : Line) (r2 : Reading) → IsNamed current done names
+pub named_step : (current : Option OpenSubckt) (st : Statement) (done : List Subckt) (names : List (List ℕ)) (line : Line) (r2 : Reading) → IsNamed current done names
     → step (record { done = done; names = names; current = current }) line st ≡ Ok r2 → Named r2
 named_step None says.Refused done names line r2 h is = absurd cc
 named_step None (says.Begin []) done names line r2 h is = absurd cc

@@ -50,7 +50,7 @@ by_foreign : (place : Option ℕ) (bytes : List ℕ) (d : Deck) → position is_
 by_foreign None bytes d is e = record { plain = all_plain bytes (nowhere is_foreign bytes is); given = e }
 by_foreign (Some place) bytes d is e = absurd cc
 
-is_read : (bytes : List ℕ) (d : Deck) → deck bytes ≡ Ok d → IsRead bytes d
+pub is_read : (bytes : List ℕ) (d : Deck) → deck bytes ≡ Ok d → IsRead bytes d
 is_read bytes d e = by_foreign (position is_foreign bytes) bytes d refl e
 
 -- the lines that are read stand in the bytes that are used

@@ -5,8 +5,12 @@ pub mod DeckLaws
 pub mod WrittenLines
 pub mod WrittenWords
 pub mod WrittenNames
+pub mod TestLaws
 pub mod WrittenDeck
 pub mod WrittenBytes
 pub mod AppendedState
 pub mod AppendedLines
 pub mod AppendedText
+pub mod ReadWords
+pub mod ReadState
+pub mod ReadDecks

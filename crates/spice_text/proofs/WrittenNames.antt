@@ -2,28 +2,21 @@
 use Rattle.std.proofs.Common.{◌≡◌, ◌≢◌, ℕ, List, [], ◌∷◌, ◌++◌, Bool, true, false, cond, ◌||◌, refl, sym, ap, ◌∙◌}
 use Rattle.std.specs.List.{AllByRecursion}
 use Rattle.std.specs.Str.{bytes_eq}
+use Rattle.std.proofs.lemmas.Bool.{or_parts, false_from_ne_true}
 use Rattle.std.proofs.lemmas.Slice.Eq.{bytes_eq-Decides}
 use Rattle.spice_text.specs.Words.{is_among}
 use Rattle.spice_text.specs.Subcircuits.{has_repeat}
 use Rattle.spice_text.specs.Writable.{Differ}
 
-or_false : (a b : Bool) → (a || b) ≡ false → (a ≡ false) × (b ≡ false)
-or_false true b is = absurd cc
-or_false false b is = (refl, is)
-
-not_true : (b : Bool) → (b ≡ true → ⊥) → b ≡ false
-not_true true f = absurd (f refl)
-not_true false f = refl
-
 pub same_name : (name : List ℕ) → bytes_eq name name ≡ true
 same_name name = (bytes_eq-Decides name name).1 refl
 
 other_name : (y x : List ℕ) → x ≢ y → bytes_eq y x ≡ false
-other_name y x off = not_true (bytes_eq y x) (λ is. off (sym ((bytes_eq-Decides y x).0 is)))
+other_name y x off = false_from_ne_true (bytes_eq y x) (λ is. off (sym ((bytes_eq-Decides y x).0 is)))
 
 among_none : (y x : List ℕ) (seen : List (List ℕ)) → is_among y seen ≡ false → x ≢ y → is_among y (seen ++ x ∷ []) ≡ false
 among_none y x [] is off = (λ i. other_name y x off i || false)
-among_none y x (s ∷ seen) is off = let parts = or_false (bytes_eq y s) (is_among y seen) is in (λ i. parts.0 i || among_none y x seen parts.1 off i)
+among_none y x (s ∷ seen) is off = let parts = or_parts (bytes_eq y s) (is_among y seen) is in (λ i. parts.0 i || among_none y x seen parts.1 off i)
 
 grown : (x : List ℕ) (seen ys : List (List ℕ)) → AllByRecursion (λ y. is_among y seen ≡ false) ys → AllByRecursion (λ y. x ≢ y) ys → AllByRecursion (λ y. is_among y (seen ++ x ∷ []) ≡ false) ys
 grown x seen [] f g = tt

@@ -9,6 +9,8 @@ pub mod Deck
 pub mod Faults
 pub mod WrittenText
 pub mod Writable
+pub mod WritableTests
 pub mod ReadBack
 pub mod Appended
+pub mod ReadDecks
 pub mod Views

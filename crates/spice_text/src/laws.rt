@@ -1,6 +1,18 @@
 ghost use Rattle.spice_text.specs.Appended.{AppendedIsRead};
+ghost use Rattle.spice_text.specs.ReadDecks.{DecksAreLowered, DecksAreWritable};
 
 /// Subcircuits that are written after the bytes of a deck are read after the deck's own.
 pub fn appended_is_read()
     ensures { AppendedIsRead }
+{}
+
+/// What is read has its names in lower case: it is the same once it is written and read back.
+pub fn decks_are_lowered()
+    ensures { DecksAreLowered }
+{}
+
+/// What is read can be written, where it has no lines that are kept as they stand and no name that holds a CR. A CR
+/// that doesn't end a line is part of a word, and no written name has one.
+pub fn decks_are_writable()
+    ensures { DecksAreWritable }
 {}

@@ -13,9 +13,11 @@ mod source;
 mod statement;
 mod subcircuit;
 mod words;
+mod writable;
 mod write;
 
 pub use fault::SpiceFault;
-pub use laws::appended_is_read;
+pub use laws::{appended_is_read, decks_are_lowered, decks_are_writable};
 pub use read::read_spice;
+pub use writable::are_writable;
 pub use write::write_spice;

@@ -1,0 +1,5 @@
+use Rattle.spice_text.proofs.ReadDecks.{decks_are_writable}
+use Rattle.spice_text.proofs.laws.decks_are_writable.Goals as goal
+
+pub returns : goal.returns
+returns c = decks_are_writable
