@@ -1,25 +1,26 @@
 -- The top stands in the order.
-use Rattle.std.proofs.Common.{◌≡◌, ℕ, ◌+◌, List, length, map, ◌++◌, get_or, ap, Option, None, Some, refl, sym, subst, ◌∙◌, arith}
+use Rattle.std.proofs.Common.{◌≡◌, ℕ, ◌+◌, List, length, map, get_or, ap, Option, None, Some, refl, sym, subst, ◌∙◌, arith}
 use Rattle.std.proofs.lemmas.List.{length-map, length-append}
 use Rattle.netlist.specs.declared.rows.RowPin.{RowPin}
+use Rattle.std.specs.Prelude.{Contains}
 use Rattle.reference_graph.specs.Reaches.{AreWithin, HasCycle}
 use Rattle.reference_graph.specs.BottomUp.{IsOrder, OrdersAreLong}
 use Rattle.reference_graph.proofs.PathLaws.{reaches_start}
 use Rattle.spice_netlist.specs.declared.block.Block.{Block}
 use Rattle.spice_netlist.specs.Resolved.{name_at, ports_at, graph}
 use Rattle.spice_netlist.specs.Walk.{walk_at}
-use Rattle.spice_netlist.specs.declared.pins.Pin.{Pin}
-use Rattle.spice_netlist.specs.declared.line.Line.{Line}
-use Rattle.spice_netlist.specs.Lines.{named_of}
-use Rattle.spice_netlist.specs.Pins.{NamedPin, pins_of, port_row, pin_row, named_rows}
+use Rattle.spice_netlist.specs.Pins.{pins_of, port_row, pin_row, named_rows}
 use Rattle.spice_netlist.specs.declared.fault.FlatFault.{FlatFault}
 use Rattle.spice_netlist.specs.declared.fault.FlatFault.TheVariants.{UnknownSubckt}
 use Rattle.spice_netlist.specs.Tables.{IsKnown, IsTable, IsUpward}
 use Rattle.spice_netlist.specs.Faults.{IsCyclic, IsFaultAt, IsFault, AreRowsAt, AreRows}
 use Rattle.spice_netlist.proofs.ResolvedLaws.{graph_long}
 
+pub top_listed : (blocks : List Block) (order : List ℕ) (top : ℕ) → IsOrder (graph blocks) top order → Contains order top
+top_listed blocks order top o = (o.exact top).1 (reaches_start (graph blocks) top top refl)
+
 pub top_known : {V : Type 0} (f : ℕ → V) (blocks : List Block) (order : List ℕ) (table : List V) (top : ℕ) → IsOrder (graph blocks) top order → IsTable f order table → IsKnown f table top
-top_known f blocks order table top o t = t top ((o.exact top).1 (reaches_start (graph blocks) top top refl))
+top_known f blocks order table top o t = t top (top_listed blocks order top o)
 
 pub upward : (blocks : List Block) (top : ℕ) (order : List ℕ) → AreWithin (graph blocks) → IsOrder (graph blocks) top order → OrdersAreLong → IsUpward blocks order
 upward blocks top order within o long =
@@ -52,9 +53,3 @@ rows_long blocks top =
 -- what was read at the top
 pub at_top : {V : Type 0} (f : ℕ → V) (table read : List V) (top : ℕ) (d v : V) → IsKnown f table top → read ≡ table → get_or read top d ≡ v → v ≡ f top
 at_top {V} f table read top d v known same is = sym is ∙ ap (λ (t : List V). get_or t top d) same ∙ known.is d
-
--- the lines of the ports and then of the pins
-pub lines_named : (blocks : List Block) (top : ℕ) (lines lines' : List Line) (ports : List (List ℕ)) (pins : List Pin) → map named_of lines ≡ map port_row ports → ports ≡ ports_at blocks top
-    → map named_of lines' ≡ map named_of lines ++ map (pin_row blocks) pins → pins ≡ pins_of blocks (walk_at blocks top) → map named_of lines' ≡ named_rows blocks top
-lines_named blocks top lines lines' ports pins first port second below =
-    second ∙ ap (λ (l : List NamedPin). l ++ map (pin_row blocks) pins) (first ∙ ap (map port_row) port) ∙ ap (λ (l : List Pin). map port_row (ports_at blocks top) ++ map (pin_row blocks) l) below

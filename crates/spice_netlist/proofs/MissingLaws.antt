@@ -1,7 +1,7 @@
 -- The least name that isn't there, over the parts so far and over the subcircuits so far.
 use Rattle.std.proofs.Common.{◌≡◌, ◌⊎◌, inl, inr, ℕ, ◌+◌, ◌<◌, List, [], ◌∷◌, ◌++◌, Bool, true, false, length, get_or, take, Option, None, Some, refl, sym, ap, subst, ◌∙◌, arith}
 use Rattle.std.specs.Prelude.{is_some}
-use Rattle.std.proofs.lemmas.List.{take_more, get_or_past}
+use Rattle.std.proofs.lemmas.List.{get_or_past}
 use Rattle.std.proofs.lemmas.Bool.{cases_lt}
 use Rattle.std.proofs.lemmas.List.Elements.{Contains-push, Contains-push_cases, Contains-append_left}
 use Rattle.reference_graph.specs.Reaches.{IsMarked, MarksReached, ReachesItself}
@@ -10,7 +10,7 @@ use Rattle.spice_netlist.specs.declared.block.Part.{Part}
 use Rattle.spice_netlist.specs.Least.{IsLeast, IsLeastOf, IsMissingIn, lesser_of}
 use Rattle.spice_netlist.specs.Resolved.{parts_at, name_at, graph}
 use Rattle.spice_netlist.specs.Faults.{IsUnknown, IsCyclic}
-use Rattle.spice_netlist.proofs.ListLaws.{contains_none}
+use Rattle.spice_netlist.proofs.ListLaws.{contains_none, front_at}
 use Rattle.spice_netlist.proofs.LeastLaws.{IsBelow, least_of_as, least_with, self_least}
 
 pub missing_none : IsLeastOf (IsMissingIn []) None
@@ -25,19 +25,16 @@ missing_cases parts part name m = elim (Contains-push_cases parts part m.part m.
   | inr e ↦ inr (subst (λ (p : Part). p.place ≡ None) (sym e) m.missing, sym m.is ∙ ap (λ (p : Part). p.of) (sym e))
 ]
 
-more : (parts : List Part) (i : ℕ) (part : Part) → i < length parts → part ≡ get_or parts i part → take (i + 1) parts ≡ take i parts ++ part ∷ []
-more parts i part lt is = take_more parts i part lt ∙ ap (λ (p : Part). take i parts ++ p ∷ []) (sym is)
-
 pub missing_skip : (parts : List Part) (i : ℕ) (part : Part) (found : Option (List ℕ)) → i < length parts → part ≡ get_or parts i part → (part.place ≡ None → ⊥) → IsLeastOf (IsMissingIn (take i parts)) found → IsLeastOf (IsMissingIn (take (i + 1) parts)) found
 missing_skip parts i part found lt is there l =
-    subst (λ (ps : List Part). IsLeastOf (IsMissingIn ps) found) (sym (more parts i part lt is))
+    subst (λ (ps : List Part). IsLeastOf (IsMissingIn ps) found) (sym (front_at parts i part lt is))
     (least_of_as (IsMissingIn (take i parts)) (IsMissingIn (take i parts ++ part ∷ [])) (missing_old (take i parts) part)
     (λ name m. elim (missing_cases (take i parts) part name m) [ inl old ↦ old | inr e ↦ absurd (there e.0) ]) found l)
 
 pub missing_add : (parts : List Part) (i : ℕ) (part : Part) (found : Option (List ℕ)) → i < length parts → part ≡ get_or parts i part → part.place ≡ None → IsLeastOf (IsMissingIn (take i parts)) found
     → IsLeast (IsMissingIn (take (i + 1) parts)) (lesser_of found part.of)
 missing_add parts i part found lt is none l =
-    subst (λ (ps : List Part). IsLeast (IsMissingIn ps) (lesser_of found part.of)) (sym (more parts i part lt is))
+    subst (λ (ps : List Part). IsLeast (IsMissingIn ps) (lesser_of found part.of)) (sym (front_at parts i part lt is))
     (least_with (IsMissingIn (take i parts)) (IsMissingIn (take i parts ++ part ∷ [])) found part.of l (missing_old (take i parts) part)
     (record { part = part; stands = Contains-push (take i parts) part; missing = none; is = refl })
     (λ name m. elim (missing_cases (take i parts) part name m) [ inl old ↦ inl old | inr e ↦ inr e.1 ]))

@@ -12,7 +12,7 @@ use Rattle.spice_netlist.specs.Names.{same}
 use Rattle.spice_netlist.specs.Numbers.{HasBefore, IsNumberOf, IsNumbering}
 use Rattle.spice_netlist.proofs.PlaceLaws.{same_self}
 
-get_or_push : {X : Type 0} (xs : List X) (x d : X) → get_or (xs ++ x ∷ []) (length xs) d ≡ x
+pub get_or_push : {X : Type 0} (xs : List X) (x d : X) → get_or (xs ++ x ∷ []) (length xs) d ≡ x
 get_or_push [] x d = refl
 get_or_push (y ∷ xs) x d = get_or_push xs x d
 

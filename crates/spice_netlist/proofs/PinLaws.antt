@@ -1,14 +1,12 @@
 -- Pins and counts over lists of visits, and seen from outside.
-use Rattle.std.proofs.Common.{◌≡◌, ◌⊎◌, inl, inr, ℕ, suc, ◌+◌, ◌<◌, List, [], ◌∷◌, ◌++◌, length, map, get_or, drop, ◌≤◌, Bool, true, false, cond, Option, None, Some, refl, sym, ap, ◌∙◌, append_assoc, add_assoc, zero-add, arith}
+use Rattle.std.proofs.Common.{◌≡◌, ℕ, suc, ◌+◌, List, [], ◌∷◌, ◌++◌, length, map, Bool, true, false, cond, Option, None, Some, refl, sym, ap, ◌∙◌, append_assoc, add_assoc, zero-add, arith}
 use Rattle.std.proofs.lemmas.List.{map-append, length-map, append-nil, length-append}
 use Rattle.std.proofs.lemmas.List.Concat.{flat_map-append}
 use Rattle.spice_netlist.specs.declared.block.Block.{Block}
 use Rattle.spice_netlist.specs.declared.block.Part.{Part}
-use Rattle.spice_netlist.specs.declared.pins.Pin.{Pin}
 use Rattle.spice_netlist.specs.Resolved.{leaf_at, ports_at}
 use Rattle.spice_netlist.specs.Walk.{Visit, net_above, path_above, visit_above, visits_in, visits_by, leaf_count}
-use Rattle.spice_netlist.specs.Pins.{pins_from, pin_above, pins_in, pins_of}
-use Rattle.spice_netlist.proofs.ListLaws.{rest_at, rest_over}
+use Rattle.spice_netlist.specs.Pins.{Pin, pins_from, pin_above, pins_in, pins_of}
 
 from_above : (part : Part) (ports : List (List ℕ)) (path : List ℕ) (of port : ℕ) (nets : List (List ℕ)) → pins_from (path_above part path) of port (map (net_above part ports) nets) ≡ map (pin_above part ports) (pins_from path of port nets)
 from_above part ports path of port [] = refl
@@ -62,11 +60,11 @@ module _ (blocks : List Block) (f : ℕ → List Visit) (p : Part) (front : List
       ∙ count-append blocks (visits_by blocks f front) (visits_in blocks f p (Some k))
       ∙ ap (λ (n : ℕ). leaf_count blocks (visits_by blocks f front) + (cond (leaf_at blocks k) 1 0 + n)) (count-above blocks p (ports_at blocks k) (f k))
 
-length_from : (path : List ℕ) (of port : ℕ) (nets : List (List ℕ)) → length (pins_from path of port nets) ≡ length nets
+pub length_from : (path : List ℕ) (of port : ℕ) (nets : List (List ℕ)) → length (pins_from path of port nets) ≡ length nets
 length_from path of port [] = refl
 length_from path of port (net ∷ nets) = ap suc (length_from path of (port + 1) nets)
 
-length_cond : (leaf : Bool) (path : List ℕ) (of : ℕ) (nets : List (List ℕ)) → length (cond leaf (pins_from path of 0 nets) []) ≡ cond leaf (length nets) 0
+pub length_cond : (leaf : Bool) (path : List ℕ) (of : ℕ) (nets : List (List ℕ)) → length (cond leaf (pins_from path of 0 nets) []) ≡ cond leaf (length nets) 0
 length_cond true path of nets = length_from path of 0 nets
 length_cond false path of nets = refl
 
@@ -79,35 +77,3 @@ length_there blocks f p front k some =
     let own = length_cond (leaf_at blocks k) p.name k p.nodes in
     let below = length-map (pins_of blocks (f k)) (pin_above p (ports_at blocks k)) in
     omega (arith, whole, outer, inner, own, below)
-
--- one part more: its own pins, and those below it
-pub pins_next : (blocks : List Block) (f : ℕ → List Visit) (p : Part) (front : List Part) (k : ℕ) (pins middle next : List Pin) (ports : List (List ℕ)) (inside : List Pin) → p.place ≡ Some k
-    → pins ≡ pins_of blocks (visits_by blocks f front) → ports ≡ ports_at blocks k → inside ≡ pins_of blocks (f k) → next ≡ middle ++ map (pin_above p ports) inside
-    → ((leaf_at blocks k ≡ true) × (middle ≡ pins ++ pins_from p.name k 0 p.nodes)) ⊎ ((leaf_at blocks k ≡ false) × (middle ≡ pins)) → next ≡ pins_of blocks (visits_by blocks f (front ++ p ∷ []))
-pins_next blocks f p front k pins middle next ports inside some so_far port below is way =
-    let own : middle ≡ pins_of blocks (visits_by blocks f front) ++ cond (leaf_at blocks k) (pins_from p.name k 0 p.nodes) [] = elim way [
-      | inl leaf ↦
-          leaf.1 ∙ ap (λ (ps : List Pin). ps ++ pins_from p.name k 0 p.nodes) so_far
-          ∙ ap (λ b. pins_of blocks (visits_by blocks f front) ++ cond b (pins_from p.name k 0 p.nodes) []) (sym leaf.0)
-      | inr other ↦
-          other.1 ∙ so_far ∙ sym (append-nil (pins_of blocks (visits_by blocks f front)))
-          ∙ ap (λ b. pins_of blocks (visits_by blocks f front) ++ cond b (pins_from p.name k 0 p.nodes) []) (sym other.0)
-    ] in
-    is
-    ∙ ap (λ (ps : List Pin). ps ++ map (pin_above p ports) inside) own
-    ∙ ap (λ (ns : List (List ℕ)). (pins_of blocks (visits_by blocks f front) ++ cond (leaf_at blocks k) (pins_from p.name k 0 p.nodes) []) ++ map (pin_above p ns) inside) port
-    ∙ ap (λ (ps : List Pin). (pins_of blocks (visits_by blocks f front) ++ cond (leaf_at blocks k) (pins_from p.name k 0 p.nodes) []) ++ map (pin_above p (ports_at blocks k)) ps) below
-    ∙ sym (pins_there blocks f p front k some)
-
--- one node more
-pub from_next : (path : List ℕ) (of port : ℕ) (nets : List (List ℕ)) (net own : List ℕ) (named : List ℕ) (pins pins' : List Pin) → port < length nets → net ≡ get_or nets port net → named ≡ path → own ≡ net
-    → pins' ≡ pins ++ record { path = named; of = of; port = port; net = own } ∷ [] → pins' ++ pins_from path of (port + 1) (drop (port + 1) nets) ≡ pins ++ pins_from path of port (drop port nets)
-from_next path of port nets net own named pins pins' lt is name own_is grown =
-    let pin : Pin = record { path = path; of = of; port = port; net = net } in
-    let same : pins' ≡ pins ++ pin ∷ [] = grown ∙ (λ i. pins ++ record { path = name i; of = of; port = port; net = own_is i } ∷ []) in
-    ap (λ (ps : List Pin). ps ++ pins_from path of (port + 1) (drop (port + 1) nets)) same
-    ∙ append_assoc pins (pin ∷ []) (pins_from path of (port + 1) (drop (port + 1) nets))
-    ∙ ap (λ (ns : List (List ℕ)). pins ++ pins_from path of port ns) (sym (rest_at nets port net lt is))
-
-pub from_over : (path : List ℕ) (of port : ℕ) (nets : List (List ℕ)) (pins : List Pin) → length nets ≤ port → pins ++ pins_from path of port (drop port nets) ≡ pins
-from_over path of port nets pins le = ap (λ (ns : List (List ℕ)). pins ++ pins_from path of port ns) (rest_over nets port le) ∙ append-nil pins

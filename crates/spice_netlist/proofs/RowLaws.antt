@@ -1,86 +1,88 @@
--- The rows of lines, one line more.
-use Rattle.std.proofs.Common.{◌≡◌, ℕ, ◌+◌, ◌<◌, ◌≤◌, inl, inr, List, [], ◌∷◌, ◌++◌, length, map, get_or, take, refl, sym, ap, subst, ◌∙◌, arith}
-use Rattle.std.proofs.lemmas.List.{map-append, length-map, length-take-le, get_or_default}
+-- The rows of a list, one row more.
+use Rattle.std.proofs.Common.{◌≡◌, ℕ, ◌+◌, ◌<◌, ◌≤◌, inl, inr, List, [], ◌∷◌, ◌++◌, length, map, get_or, sym, ap, subst, ◌∙◌, append_assoc, arith}
+use Rattle.std.proofs.lemmas.List.{map-append, length-map, length-append, append-nil}
 use Rattle.netlist.specs.declared.rows.RowPin.{RowPin}
-use Rattle.spice_netlist.specs.declared.line.Line.{Line}
+use Rattle.spice_netlist.specs.declared.rows.RowList.{RowList}
+use Rattle.spice_netlist.specs.NetTable.{nets_of}
 use Rattle.spice_netlist.specs.Pins.{NamedPin}
-use Rattle.spice_netlist.specs.Lines.{named_of}
+use Rattle.spice_netlist.specs.Rows.{AreRowsOf, net_count, Adds}
 use Rattle.spice_netlist.specs.Numbers.{Label, label_of_row, label_of_named, AreNumbered, IsNumberOf, IsNumbering}
-use Rattle.spice_netlist.proofs.ListLaws.{front_at}
 use Rattle.spice_netlist.proofs.NumberLaws.{numbers_none, numbers_more}
 
--- the rows of these lines, and the table with their nets
-pub record AreRowsOf (lines : List Line) (rows : List RowPin) (table : List (List ℕ)) : Type 0 where
-  pub labels : map label_of_row rows ≡ map label_of_named (map named_of lines)
-  pub numbers : IsNumbering (map (λ (n : NamedPin). n.net) (map named_of lines)) (map (λ (r : RowPin). r.net) rows) table
+pub rows_none : (list : RowList) → list.rows.items ≡ [] → nets_of list.nets ≡ [] → AreRowsOf [] list
+rows_none list rows nets = record {
+  labels = ap (map label_of_row) rows;
+  numbers =
+      subst (λ (rs : List RowPin). IsNumbering [] (map (λ (r : RowPin). r.net) rs) (nets_of list.nets)) (sym rows)
+      (subst (λ (table : List (List ℕ)). IsNumbering [] [] table) (sym nets) numbers_none);
+}
 
-pub rows_none : AreRowsOf [] [] []
-rows_none = record { labels = refl; numbers = numbers_none }
+-- one row more, where the table has the number of its net
+module _ (old new : RowList) (pin : NamedPin) (row : RowPin) (number : IsNumberOf (nets_of old.nets) pin.net row.net (nets_of new.nets)) (grown : new.rows.items ≡ old.rows.items ++ row ∷ []) (same : label_of_row row ≡ label_of_named pin) where
+  push : (named : List NamedPin) → AreRowsOf named old → AreRowsOf (named ++ pin ∷ []) new
+  push named a =
+      let nets : map (λ (n : NamedPin). n.net) (named ++ pin ∷ []) ≡ map (λ (n : NamedPin). n.net) named ++ pin.net ∷ [] = map-append (λ (n : NamedPin). n.net) named (pin ∷ []) in
+      let numbers : map (λ (r : RowPin). r.net) new.rows.items ≡ map (λ (r : RowPin). r.net) old.rows.items ++ row.net ∷ [] =
+      ap (map (λ (r : RowPin). r.net)) grown ∙ map-append (λ (r : RowPin). r.net) old.rows.items (row ∷ []) in
+      record {
+        labels =
+            ap (map label_of_row) grown
+            ∙ map-append label_of_row old.rows.items (row ∷ [])
+            ∙ ap (λ (ls : List Label). ls ++ label_of_row row ∷ []) a.labels
+            ∙ ap (λ (l : Label). map label_of_named named ++ l ∷ []) same
+            ∙ sym (map-append label_of_named named (pin ∷ []));
+        numbers =
+            subst (λ (xs : List (List ℕ)). IsNumbering xs (map (λ (r : RowPin). r.net) new.rows.items) (nets_of new.nets)) (sym nets)
+            (subst (λ (ns : List ℕ). IsNumbering (map (λ (n : NamedPin). n.net) named ++ pin.net ∷ []) ns (nets_of new.nets)) (sym numbers)
+            (numbers_more (map (λ (n : NamedPin). n.net) named) (map (λ (r : RowPin). r.net) old.rows.items) (nets_of old.nets) (nets_of new.nets) pin.net row.net a.numbers number));
+      }
 
-push : (lines : List Line) (line : Line) (rows : List RowPin) (row : RowPin) (table table' : List (List ℕ)) → AreRowsOf lines rows table → IsNumberOf table line.net.now row.net table' → label_of_row row ≡ label_of_named (named_of line)
-    → AreRowsOf (lines ++ line ∷ []) (rows ++ row ∷ []) table'
-push lines line rows row table table' old new same =
-    let named : map named_of (lines ++ line ∷ []) ≡ map named_of lines ++ named_of line ∷ [] = map-append named_of lines (line ∷ []) in
-    let nets : map (λ (n : NamedPin). n.net) (map named_of (lines ++ line ∷ [])) ≡ map (λ (n : NamedPin). n.net) (map named_of lines) ++ line.net.now ∷ [] =
-    ap (map (λ (n : NamedPin). n.net)) named ∙ map-append (λ (n : NamedPin). n.net) (map named_of lines) (named_of line ∷ []) in
-    let numbers : map (λ (r : RowPin). r.net) (rows ++ row ∷ []) ≡ map (λ (r : RowPin). r.net) rows ++ row.net ∷ [] = map-append (λ (r : RowPin). r.net) rows (row ∷ []) in
-    record {
-      labels =
-          map-append label_of_row rows (row ∷ [])
-          ∙ ap (λ (ls : List Label). ls ++ label_of_row row ∷ []) old.labels
-          ∙ ap (λ (l : Label). map label_of_named (map named_of lines) ++ l ∷ []) same
-          ∙ sym (ap (map label_of_named) named ∙ map-append label_of_named (map named_of lines) (named_of line ∷ []));
-      numbers =
-          subst (λ (xs : List (List ℕ)). IsNumbering xs (map (λ (r : RowPin). r.net) (rows ++ row ∷ [])) table') (sym nets)
-          (subst (λ (ns : List ℕ). IsNumbering (map (λ (n : NamedPin). n.net) (map named_of lines) ++ line.net.now ∷ []) ns table') (sym numbers)
-          (numbers_more (map (λ (n : NamedPin). n.net) (map named_of lines)) (map (λ (r : RowPin). r.net) rows) table table' line.net.now row.net old.numbers new));
-    }
+  few : net_count new ≤ net_count old + 1
+  few = elim number.either [
+    | inl kept ↦ let long = ap length kept in omega (arith, long)
+    | inr add ↦ let long = ap length add.0 ∙ length-append (nets_of old.nets) (pin.net ∷ []) in omega (arith, long)
+  ]
 
-pub rows_more : (lines : List Line) (i : ℕ) (line : Line) (rows rows' : List RowPin) (row : RowPin) (table table' : List (List ℕ)) → i < length lines → line ≡ get_or lines i line → AreRowsOf (take i lines) rows table → IsNumberOf table line.net.now row.net table'
-    → label_of_row row ≡ label_of_named (named_of line) → rows' ≡ rows ++ row ∷ [] → AreRowsOf (take (i + 1) lines) rows' table'
-rows_more lines i line rows rows' row table table' lt is old new same grown =
-    subst (λ (ls : List Line). AreRowsOf ls rows' table') (sym (front_at lines i line lt is))
-    (subst (λ (rs : List RowPin). AreRowsOf (take i lines ++ line ∷ []) rs table') (sym grown) (push (take i lines) line rows row table table' old new same))
+  pub adds_row : Adds old new (pin ∷ [])
+  adds_row = record { rows = push; few = few }
 
-pub rows_all : (lines : List Line) (rows : List RowPin) (table : List (List ℕ)) → AreRowsOf lines rows table → AreNumbered (map named_of lines) rows
-rows_all lines rows table a =
-    let sized = length-map (map named_of lines) (λ (n : NamedPin). n.net) in
-    let inside = λ (k : ℕ) (lt : k < length (map named_of lines)). subst (λ (n : ℕ). k < n) (sym sized) lt in
+pub adds_none : (list : RowList) → Adds list list []
+adds_none list = record { rows = λ named a. subst (λ (ns : List NamedPin). AreRowsOf ns list) (sym (append-nil named)) a; few = omega arith }
+
+pub adds_then : (first middle last : RowList) (added more : List NamedPin) → Adds first middle added → Adds middle last more → Adds first last (added ++ more)
+adds_then first middle last added more a b = record {
+  rows = λ named r. subst (λ (ns : List NamedPin). AreRowsOf ns last) (append_assoc named added more) (b.rows (named ++ added) (a.rows named r));
+  few = let long = length-append added more in omega (arith, long, a.few, b.few);
+}
+
+pub rows_all : (named : List NamedPin) (list : RowList) → AreRowsOf named list → AreNumbered named list.rows.items
+rows_all named list a =
+    let sized = length-map named (λ (n : NamedPin). n.net) in
+    let inside = λ (k : ℕ) (lt : k < length named). subst (λ (n : ℕ). k < n) (sym sized) lt in
     record {
       labels = a.labels;
       one = λ j k lj lk.
           let first = a.numbers.each j (inside j lj) in
           let second = a.numbers.each k (inside k lk) in (
-            λ e. sym first.1 ∙ ap (λ (n : ℕ). get_or table n []) e ∙ second.1,
+            λ e. sym first.1 ∙ ap (λ (n : ℕ). get_or (nets_of list.nets) n []) e ∙ second.1,
             λ e. a.numbers.once _ _ first.0 second.0 (first.1 ∙ e ∙ sym second.1),
           );
       first = λ k smaller lt less. a.numbers.first k smaller (inside k lt) less;
     }
 
--- a line of empty names, for places past the end
-abbrev pub blank : Line
-blank = record { path = record { ref_ptr = (0, 0); now = [] }; leaf = record { ref_ptr = (0, 0); now = [] }; pin = record { ref_ptr = (0, 0); now = [] }; net = record { ref_ptr = (0, 0); now = [] } }
-
-abbrev pub line_at : List Line → ℕ → Line
-line_at lines i = get_or lines i blank
-
-pub line_stands : (lines : List Line) (i : ℕ) → i < length lines → line_at lines i ≡ get_or lines i (line_at lines i)
-line_stands lines i lt = get_or_default lines i blank (line_at lines i) lt
-
 pub same_label : (a b : Label) → a.path ≡ b.path → a.leaf ≡ b.leaf → a.pin ≡ b.pin → a ≡ b
 same_label a b p l n = λ i. record { path = p i; leaf = l i; pin = n i }
 
-at_most : (table table' : List (List ℕ)) (net : List ℕ) (number : ℕ) → IsNumberOf table net number table' → number ≤ length table
+pub same_pin : (a b : NamedPin) → a.path ≡ b.path → a.leaf ≡ b.leaf → a.pin ≡ b.pin → a.net ≡ b.net → a ≡ b
+same_pin a b p l n t = λ i. record { path = p i; leaf = l i; pin = n i; net = t i }
+
+-- a number is at most the number of nets before
+pub at_most : (table table' : List (List ℕ)) (net : List ℕ) (number : ℕ) → IsNumberOf table net number table' → number ≤ length table
 at_most table table' net number new = elim new.either [
   | inl same ↦ let long = ap length same in omega (arith, long, new.within)
   | inr add ↦ omega (arith, add.1)
 ]
 
--- a number is at most the number of lines
-pub number_at_most : (lines : List Line) (i : ℕ) (rows : List RowPin) (table table' : List (List ℕ)) (net : List ℕ) (number : ℕ) → i ≤ length lines → AreRowsOf (take i lines) rows table → IsNumberOf table net number table' → number ≤ length lines
-number_at_most lines i rows table table' net number le old new =
-    let most = at_most table table' net number new in
-    let outer = length-map (map named_of (take i lines)) (λ (n : NamedPin). n.net) in
-    let inner = length-map (take i lines) named_of in
-    let front = length-take-le i lines le in
-    omega (arith, most, outer, inner, front, old.numbers.few)
+-- there are no more nets than rows
+pub count_at_most : (named : List NamedPin) (list : RowList) → AreRowsOf named list → net_count list ≤ length named
+count_at_most named list a = let sized = length-map named (λ (n : NamedPin). n.net) in omega (arith, sized, a.numbers.few)

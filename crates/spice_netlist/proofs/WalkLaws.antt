@@ -1,13 +1,14 @@
 -- The walk of a subcircuit is put together from the walks of those that it refers to.
-use Rattle.std.proofs.Common.{◌≡◌, ℕ, zero, suc, ◌<◌, ◌≤◌, List, [], ◌∷◌, ◌++◌, length, map, get_or, Option, None, Some, refl, sym, ap, subst, ◌∙◌, arith}
+use Rattle.std.proofs.Common.{◌≡◌, inl, inr, ℕ, zero, suc, ◌<◌, ◌≤◌, List, [], ◌∷◌, ◌++◌, length, map, get_or, Option, None, Some, refl, sym, ap, subst, ◌∙◌, arith}
 use Rattle.std.specs.Prelude.{Contains}
+use Rattle.std.proofs.lemmas.List.{length-map, length-append}
 use Rattle.std.specs.List.{cons_option}
 use Rattle.reference_graph.specs.BottomUp.{IsBottomUp}
 use Rattle.spice_netlist.specs.declared.block.Block.{Block}
 use Rattle.spice_netlist.specs.declared.block.Part.{Part}
 use Rattle.spice_netlist.specs.Resolved.{parts_at, ports_at, places, graph}
 use Rattle.spice_netlist.specs.Walk.{Visit, visit_above, visits_in, visits_by, visits, walk_at}
-use Rattle.spice_netlist.proofs.ListLaws.{contains_first, contains_later}
+use Rattle.spice_netlist.proofs.ListLaws.{contains_none, contains_cases, contains_first, contains_later}
 
 -- what a subcircuit refers to are the places of its parts
 pub refers_places : (blocks : List Block) (node : ℕ) → get_or (graph blocks) node [] ≡ places (parts_at blocks node)
@@ -49,3 +50,19 @@ stable blocks order b (suc n) place below lt (suc depth) deep =
 pub walk_opens : (blocks : List Block) (order : List ℕ) (place : ℕ) → IsBottomUp (graph blocks) order → length order ≤ length blocks → place < length order
     → walk_at blocks (get_or order place 0) ≡ visits_by blocks (walk_at blocks) (parts_at blocks (get_or order place 0))
 walk_opens blocks order place b short lt = stable blocks order b (suc place) place (omega arith) lt (length blocks) (omega arith)
+
+in_longer : (blocks : List Block) (f : ℕ → List Visit) (part : Part) (place : Option ℕ) (rest : List ℕ) (others : List Visit) (k : ℕ) → (Contains rest k → length (f k) < length others) → Contains (cons_option place rest) k
+    → length (f k) < length (visits_in blocks f part place ++ others)
+in_longer blocks f part None rest others k h refers = h refers
+in_longer blocks f part (Some p) rest others k h refers =
+    let inside = map (visit_above part (ports_at blocks p)) (f p) in
+    let whole = length-append inside others in
+    elim (contains_cases p rest k refers) [
+      | inl this ↦ let long = length-map (f p) (visit_above part (ports_at blocks p)) in let same : length (f k) ≡ length (f p) = ap (λ (i : ℕ). length (f i)) this in omega (arith, whole, long, same)
+      | inr later ↦ omega (arith, whole, h later)
+    ]
+
+-- the walk through parts is longer than that through the subcircuit of one of them
+pub walk_longer : (blocks : List Block) (f : ℕ → List Visit) (parts : List Part) (k : ℕ) → Contains (places parts) k → length (f k) < length (visits_by blocks f parts)
+walk_longer blocks f [] k refers = absurd (contains_none k refers)
+walk_longer blocks f (p ∷ ps) k refers = in_longer blocks f p p.place (places ps) (visits_by blocks f ps) k (walk_longer blocks f ps k) refers

@@ -1,11 +1,13 @@
 -- Where paths are shorter than the levels, a level more says nothing more.
-use Rattle.std.proofs.Common.{◌≡◌, ℕ, zero, suc, ◌+◌, ◌<◌, List, [], ◌∷◌, length, get_or, refl, sym, subst, arith}
+use Rattle.std.proofs.Common.{◌≡◌, ℕ, zero, suc, ◌<◌, List, [], ◌∷◌, length, None, refl, sym, subst, arith}
 use Rattle.std.specs.Prelude.{Contains}
-use Rattle.reference_graph.specs.Reaches.{RefersTo, AreWithin, IsPath, IsAcyclic}
+use Rattle.reference_graph.specs.Reaches.{RefersTo, AreWithin, IsPath, Reaches, IsAcyclic}
 use Rattle.reference_graph.specs.BottomUp.{AcyclicPathsAreShort}
+use Rattle.reference_graph.proofs.PathLaws.{reaches_on, reaches_within}
 use Rattle.spice_netlist.specs.declared.block.Block.{Block}
 use Rattle.spice_netlist.specs.Resolved.{parts_at, graph}
-use Rattle.spice_netlist.specs.Walk.{visits_by, visits, walk_at}
+use Rattle.spice_netlist.specs.Walk.{visits_by, visits, walk_at, first_bad}
+use Rattle.spice_netlist.specs.Descent.{HaveNoA, IsWalkable}
 use Rattle.spice_netlist.proofs.ResolvedLaws.{graph_long}
 use Rattle.spice_netlist.proofs.WalkLaws.{refers_places, visits_same}
 
@@ -21,3 +23,18 @@ enough blocks (suc depth) node short =
 pub whole : AcyclicPathsAreShort → (blocks : List Block) (place : ℕ) → AreWithin (graph blocks) → place < length (graph blocks) → IsAcyclic (graph blocks) place → walk_at blocks place ≡ visits_by blocks (walk_at blocks) (parts_at blocks place)
 whole short blocks place within inside acyclic =
     enough blocks (length blocks) place (λ path to leads. let lt = short (graph blocks) place within inside acyclic path to leads in omega (arith, lt, graph_long blocks))
+
+-- what is reached from there is reached
+along : (graph : List (List ℕ)) (from middle to : ℕ) (path : List ℕ) → Reaches graph from middle → IsPath graph middle path to → Reaches graph from to
+along graph from middle to [] r leads = subst (Reaches graph from) (sym leads) r
+along graph from middle to (next ∷ rest) r leads = along graph from next to rest (reaches_on graph from middle next r leads.0) leads.1
+
+pub walkable : AcyclicPathsAreShort → (blocks : List Block) (top : ℕ) → AreWithin (graph blocks) → top < length blocks → IsAcyclic (graph blocks) top → first_bad blocks (walk_at blocks top) ≡ None → HaveNoA blocks → IsWalkable blocks top
+walkable short blocks top within inside acyclic good plain =
+    let reached = λ (place : ℕ) (r : Reaches (graph blocks) top place). reaches_within (graph blocks) top place within (omega (arith, inside, graph_long blocks)) r in
+    record {
+      within = λ place r. let lt = reached place r in omega (arith, lt, graph_long blocks);
+      whole = λ place r. whole short blocks place within (reached place r) (λ node n itself. acyclic node (along (graph blocks) top place node n.path r n.leads) itself);
+      good = good;
+      plain = plain;
+    }

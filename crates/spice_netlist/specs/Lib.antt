@@ -6,8 +6,11 @@ pub mod Walk
 pub mod Pins
 pub mod Numbers
 pub mod NetTable
-pub mod Lines
+pub mod Frames
+pub mod Rows
+pub mod Descent
 pub mod Tables
+pub mod Bad
 pub mod Faults
 pub mod Sizes
 pub mod NetText

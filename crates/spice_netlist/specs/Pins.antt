@@ -1,24 +1,27 @@
 -- The pins of the leaf instances of a walk, and the named rows of a top.
-use Rattle.std.specs.Prelude.{ℕ, ◌+◌, List, [], ◌∷◌, ◌++◌, map, Option, if◌then◌else◌, slice_index_or}
+use Rattle.std.specs.Prelude.{ℕ, ◌+◌, List, [], ◌∷◌, ◌++◌, map, if◌then◌else◌, slice_index_or}
 use Rattle.std.specs.List.{flat_map}
 use Rattle.spice_netlist.specs.declared.block.Block.{Block}
-use Rattle.spice_netlist.specs.declared.pins.Pin.{Pin}
 use Rattle.spice_netlist.specs.Resolved.{name_at, ports_at, leaf_at}
 use Rattle.spice_netlist.specs.declared.block.Part.{Part}
-use Rattle.spice_netlist.specs.Names.{place_of}
-use Rattle.spice_netlist.specs.Walk.{Visit, node_or, path_above, walk_at}
+use Rattle.spice_netlist.specs.Walk.{Visit, net_above, path_above, walk_at}
+
+-- a pin of a leaf instance: the names of the instances down to the leaf, separated by /, the place of the leaf, its place
+-- among the leaf's ports, and its net
+pub record Pin : Type 0 where
+  pub path : List ℕ
+  pub of : ℕ
+  pub port : ℕ
+  pub net : List ℕ
 
 -- pins from this port on, which are on the nets in their order
 abbrev pub pins_from : List ℕ → ℕ → ℕ → List (List ℕ) → List Pin
 pins_from path of port [] = []
 pins_from path of port (net ∷ nets) = record { path = path; of = of; port = port; net = net } ∷ pins_from path of (port + 1) nets
 
--- a pin inside the part, seen from outside, where `place` says which port a net is
-abbrev pub pin_by : Part → (List ℕ → Option ℕ) → Pin → Pin
-pin_by part place p = record { path = path_above part p.path; of = p.of; port = p.port; net = node_or (part.name ++ 65 ∷ p.net) part.nodes (place p.net) }
-
+-- a pin inside the part, seen from outside
 abbrev pub pin_above : Part → List (List ℕ) → Pin → Pin
-pin_above part ports p = pin_by part (place_of ports) p
+pin_above part ports p = record { path = path_above part p.path; of = p.of; port = p.port; net = net_above part ports p.net }
 
 -- the pins of the instance, where it is one of a leaf
 abbrev pub pins_in : List Block → Visit → List Pin

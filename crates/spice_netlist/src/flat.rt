@@ -5,6 +5,7 @@ ghost use Rattle.spice_netlist.specs.Resolved.{graph};
 ghost use Rattle.spice_netlist.specs.Walk.{walk_at, first_bad};
 ghost use Rattle.spice_netlist.specs.Pins.{named_rows};
 ghost use Rattle.spice_netlist.specs.Tables.{IsUpward};
+ghost use Rattle.spice_netlist.specs.Descent.{HaveNoA, AreSizes};
 ghost use Rattle.spice_netlist.specs.Numbers.{AreNumbered};
 ghost use Rattle.spice_netlist.specs.Faults.{AreAllThere, IsHierarchy, IsFaultAt, AreRowsAt, IsSmall, AreFlatRows, IsFlatFault};
 
@@ -12,15 +13,14 @@ use crate::block::Block;
 use crate::cycle::least_cyclic;
 use crate::fault::FlatFault;
 use crate::graph::graph_of;
-use crate::line::{add_pin_lines, port_lines, ports_of};
 use crate::lower::lower_name;
-use crate::pins::pin_lists;
-use crate::ports::bad_paths;
+use crate::ports::bad_path;
 use crate::resolve::resolve;
-use crate::rows::number_lines;
-use crate::size::{MOST_LEAVES, MOST_PINS, sizes};
-use crate::table::entry;
+use crate::rows::{RowList, add_port_rows};
+use crate::size::{MOST_LEAVES, MOST_PINS, Size, sizes};
+use crate::table::{entry, ports_of};
 use crate::unknown::least_unknown;
+use crate::walk::add_rows_below;
 use netlist::{Deck, RowPin, Rows};
 use or_geom::{Items, Memory, Name};
 use reference_graph::{order, paths_are_short, reached};
@@ -79,8 +79,7 @@ fn check_ports(
     requires upward { IsUpward blocks.now order.now }
     ensures { MatchResult result (λ _. first_bad blocks.now (walk_at blocks.now top) ≡ None) (IsFaultAt blocks.now top) }
 {
-    let paths = bad_paths(alloc, blocks, order)?;
-    match entry(&paths, top) {
+    match bad_path(alloc, blocks, order, top)? {
         Some(path) => Err(FlatFault::PortCount {
             path: Name::from_bytes(alloc, path.as_slice())?,
         }),
@@ -88,15 +87,22 @@ fn check_ports(
     }
 }
 
-/// Err where there are too many leaf instances or pins.
-fn check_size(alloc: Global, blocks: &[Block], order: &[usize], top: usize) -> Result<(), FlatFault>
+/// How many leaf instances and pins there are below each subcircuit of the order. Err where there are too many below the
+/// top.
+fn check_size(
+    alloc: Global,
+    blocks: &[Block],
+    order: &[usize],
+    top: usize,
+) -> Result<Vec<Size>, FlatFault>
     requires hierarchy { IsHierarchy blocks.now top }
     requires good { first_bad blocks.now (walk_at blocks.now top) ≡ None }
     requires order { IsOrder (graph blocks.now) top order.now }
     requires upward { IsUpward blocks.now order.now }
-    ensures { MatchResult result (λ _. IsSmall blocks.now top) (IsFaultAt blocks.now top) }
+    ensures { MatchResult result (λ sizes. IsSmall blocks.now top × AreSizes blocks.now top sizes.items) (IsFaultAt blocks.now top) }
 {
-    let size = *entry(&sizes(alloc, blocks, order)?, top);
+    let sizes = sizes(alloc, blocks, order)?;
+    let size = *entry(&sizes, top);
     if size.leaves > MOST_LEAVES {
         return Err(FlatFault::TooMany {
             count: MOST_LEAVES + 1,
@@ -108,39 +114,46 @@ fn check_size(alloc: Global, blocks: &[Block], order: &[usize], top: usize) -> R
             count: MOST_PINS + 1,
         });
     }
-    Ok(())
+    Ok(sizes)
 }
 
 /// The rows of the top, of which there are not too many.
 fn rows_of(
     alloc: Global,
     blocks: &[Block],
-    order: &[usize],
+    sizes: &[Size],
     top: usize,
 ) -> Result<Vec<RowPin>, Memory>
+    requires within { AreWithin (graph blocks.now) }
+    requires inside { top < length blocks.now }
+    requires hierarchy { IsHierarchy blocks.now top }
+    requires good { first_bad blocks.now (walk_at blocks.now top) ≡ None }
+    requires plain { HaveNoA blocks.now }
+    requires sizes { AreSizes blocks.now top sizes.now }
     requires small { length (named_rows blocks.now top) ≤ 2 ^ 24 }
-    requires order { IsOrder (graph blocks.now) top order.now }
-    requires upward { IsUpward blocks.now order.now }
     ensures { IfOk result (λ rows. AreNumbered (named_rows blocks.now top) rows.items) }
 {
-    let lists = pin_lists(alloc, blocks, order)?;
-    let mut lines = port_lines(alloc, ports_of(blocks, top))?;
-    add_pin_lines(blocks, entry(&lists, top).as_slice(), &mut lines)?;
-    number_lines(alloc, &lines)
+    paths_are_short();
+    let mut rows = RowList::new(alloc);
+    let ports = ports_of(blocks, top);
+    add_port_rows(alloc, ports, &mut rows)?;
+    add_rows_below(alloc, blocks, sizes, top, &mut rows)?;
+    Ok(rows.into_rows())
 }
 
 /// The rows of the top at this place.
 fn rows_at(alloc: Global, blocks: &[Block], top: usize) -> Result<Vec<RowPin>, FlatFault>
     requires within { AreWithin (graph blocks.now) }
     requires inside { top < length blocks.now }
+    requires plain { HaveNoA blocks.now }
     ensures { MatchResult result (λ rows. AreRowsAt blocks.now top rows.items) (IsFaultAt blocks.now top) }
 {
     let references = graph_of(alloc, blocks)?;
     let order = order_of(alloc, blocks, &references, top)?;
     paths_are_short();
     check_ports(alloc, blocks, &order, top)?;
-    check_size(alloc, blocks, &order, top)?;
-    Ok(rows_of(alloc, blocks, &order, top)?)
+    let sizes = check_size(alloc, blocks, &order, top)?;
+    Ok(rows_of(alloc, blocks, &sizes, top)?)
 }
 
 /// The flat rows of the top: first its ports, and then the pins of the leaf instances below it, in the order of a

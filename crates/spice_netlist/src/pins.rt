@@ -1,154 +1,76 @@
-ghost use Rattle.std.specs.Prelude.{◌≡◌, ◌++◌, ◌∷◌, length, map, OnOk, IfOk};
-ghost use Rattle.spice_netlist.specs.Found.{found};
-ghost use Rattle.spice_netlist.specs.Walk.{node_or, visits_by, walk_at};
-ghost use Rattle.spice_netlist.specs.Pins.{pins_from, pins_of, pin_by, pin_above};
-ghost use Rattle.spice_netlist.specs.Tables.{AreKnown, IsTable, IsUpward};
+ghost use Rattle.std.specs.Prelude.{◌≡◌, ◌++◌, ◌+◌, ◌<◌, ◌≤◌, ◌^◌, [], length, map, slice_index_or, OnOk, IfOk};
+ghost use Rattle.spice_netlist.specs.Pins.{pins_in, pin_row};
+ghost use Rattle.spice_netlist.specs.Frames.{text_of, AreNear, leaf_rows};
+ghost use Rattle.spice_netlist.specs.Rows.{Adds, net_count};
 
 use crate::block::{Block, Part};
-use crate::places::{Places, places_of};
-use crate::table::{block_at, entry};
-use crate::text::{copy_of, put_before};
+use crate::frame::Net;
+use crate::rows::RowList;
+use crate::table::block_at;
+use crate::text::joined;
+use crate::way::Way;
 use or_geom::{Items, Memory, Name};
 use std::alloc::Global;
 
-/// A pin of a leaf instance below a subcircuit.
-#[derive(Drop)]
-pub struct Pin {
-    /// The names of the instances down to the leaf, separated by `/`.
-    pub path: Items<u8>,
-    /// The place of the leaf in the deck.
-    pub of: usize,
-    /// Its place among the leaf's ports.
-    pub port: usize,
-    /// The names of the instances down to the outermost subcircuit in which the net is local, each with an `A` behind it,
-    /// and the net's name there. No name has an `A`, since names are in lower case.
-    pub net: Items<u8>,
+/// The name at the place, which is empty where there is none.
+fn port_of(ports: &[Name], place: usize) -> &[u8]
+    ensures { result.now ≡ slice_index_or ports.now place [] }
+{
+    match ports.get(place) {
+        Some(port) => port.as_bytes(),
+        None => b"",
+    }
 }
 
-/// Adds the pins of an instance of a leaf.
-fn add_leaf_pins(alloc: Global, part: &Part, of: usize, pins: &mut Vec<Pin>) -> Result<(), Memory>
-    ensures { OnOk result (pins.new.items ≡ pins.old.items ++ pins_from part.now.name of 0 part.now.nodes) }
+/// The whole text of the net, where this is the way.
+fn net_bytes(alloc: Global, way: &[u8], net: &Net) -> Result<Items<u8>, Memory>
+    requires { net.now.way ≤ length way.now }
+    ensures { IfOk result (λ text. text ≡ text_of way.now net.now) }
 {
-    for (port, node) in part.nodes.as_slice().iter().enumerate() {
-        let path = copy_of(alloc, part.name.as_bytes())?;
-        let net = copy_of(alloc, node.as_bytes())?;
-        pins.push(Pin {
-            path,
-            of,
-            port,
-            net,
-        })?;
+    joined(alloc, &way[..net.way], net.name)
+}
+
+/// Adds the rows of an instance of the leaf.
+fn add_leaf(
+    alloc: Global,
+    leaf: &Block,
+    path: &[u8],
+    way: &[u8],
+    nets: &[Net],
+    rows: &mut RowList,
+) -> Result<(), Memory>
+    requires near { AreNear (length way.now) nets.now }
+    requires few { net_count rows.old + length nets.now ≤ 2 ^ 24 }
+    ensures { OnOk result (Adds rows.old rows.new (leaf_rows leaf.now path.now way.now 0 nets.now)) }
+{
+    for (port, net) in nets.iter().enumerate() {
+        let pin = port_of(leaf.ports.as_slice(), port);
+        let text = net_bytes(alloc, way, net)?;
+        rows.add(alloc, path, leaf.name.as_bytes(), pin, text.as_slice())?;
     }
     Ok(())
 }
 
-/// The net of the part's subcircuit, as it's seen from outside.
-fn net_above(alloc: Global, part: &Part, places: &Places, net: &[u8]) -> Result<Items<u8>, Memory>
-    ensures { IfOk result (λ above. above ≡ node_or (part.now.name ++ 65 ∷ net.now) part.now.nodes (found places.now net.now)) }
-{
-    let nodes = part.nodes.as_slice();
-    match places.find(net) {
-        Some(place) if place < nodes.len() => copy_of(alloc, nodes[place].as_bytes()),
-        Some(_) => Ok(Items::new(alloc)),
-        None => put_before(alloc, part.name.as_bytes(), b'A', net),
-    }
-}
-
-/// The pin below the part, as it's seen from outside.
-fn pin_above(alloc: Global, part: &Part, places: &Places, pin: &Pin) -> Result<Pin, Memory>
-    ensures { IfOk result (λ above. above ≡ pin_by part.now (found places.now) pin.now) }
-{
-    let path = put_before(alloc, part.name.as_bytes(), b'/', pin.path.as_slice())?;
-    let net = net_above(alloc, part, places, pin.net.as_slice())?;
-    Ok(Pin {
-        path,
-        of: pin.of,
-        port: pin.port,
-        net,
-    })
-}
-
-/// Adds the pins below the part, as they're seen from outside. `ports` are those of its subcircuit.
-fn add_pins_above(
+/// Adds the rows of the instance itself, where it is one of a leaf. The way leads to where it stands, and `nets` are
+/// those of its nodes.
+pub fn add_pins(
     alloc: Global,
+    blocks: &[Block],
     part: &Part,
-    ports: &[Name],
-    inside: &[Pin],
-    pins: &mut Vec<Pin>,
+    place: usize,
+    way: &Way,
+    nets: &[Net],
+    rows: &mut RowList,
 ) -> Result<(), Memory>
-    ensures { OnOk result (pins.new.items ≡ pins.old.items ++ map (pin_above part.now ports.now) inside.now) }
+    requires within { place < length blocks.now }
+    requires near { AreNear (length way.now.net.items) nets.now }
+    requires few { net_count rows.old + length (pins_in blocks.now (record { path = way.now.path.items ++ part.now.name; of = place; nets = map (text_of way.now.net.items) nets.now })) ≤ 2 ^ 24 }
+    ensures { OnOk result (Adds rows.old rows.new (map (pin_row blocks.now) (pins_in blocks.now (record { path = way.now.path.items ++ part.now.name; of = place; nets = map (text_of way.now.net.items) nets.now })))) }
 {
-    if inside.is_empty() {
+    let block = block_at(blocks, place);
+    if !block.leaf {
         return Ok(());
     }
-    let places = places_of(alloc, ports)?;
-    for pin in inside {
-        pins.push(pin_above(alloc, part, &places, pin)?)?;
-    }
-    Ok(())
-}
-
-/// The pins of the leaf instances among the parts and all below them. `below` has them for each subcircuit that they
-/// refer to.
-fn pins_of(
-    alloc: Global,
-    blocks: &[Block],
-    parts: &[Part],
-    below: &[Items<Pin>],
-) -> Result<Items<Pin>, Memory>
-    requires sized { length below.now ≡ length blocks.now }
-    requires known { AreKnown (λ place. pins_of blocks.now (walk_at blocks.now place)) below.now parts.now }
-    ensures { IfOk result (λ pins. pins ≡ pins_of blocks.now (visits_by blocks.now (walk_at blocks.now) parts.now)) }
-{
-    let mut pins = Vec::new(alloc);
-    for part in parts {
-        let Some(place) = part.place else {
-            continue;
-        };
-        let block = block_at(blocks, place);
-        if block.leaf {
-            add_leaf_pins(alloc, part, place, &mut pins)?;
-        }
-        add_pins_above(
-            alloc,
-            part,
-            block.ports.as_slice(),
-            entry(below, place).as_slice(),
-            &mut pins,
-        )?;
-    }
-    Ok(Items::from_vec(pins))
-}
-
-/// For each of so many subcircuits no pins.
-fn no_pins(alloc: Global, count: usize) -> Result<Vec<Items<Pin>>, Memory>
-    ensures { IfOk result (λ lists. length lists.items ≡ count) }
-{
-    let mut lists = Vec::new(alloc);
-    for _ in 0..count {
-        lists.push(Items::new(alloc))?;
-    }
-    Ok(lists)
-}
-
-/// For each subcircuit of the order the pins of the leaf instances below it.
-pub fn pin_lists(
-    alloc: Global,
-    blocks: &[Block],
-    order: &[usize],
-) -> Result<Vec<Items<Pin>>, Memory>
-    requires { IsUpward blocks.now order.now }
-    ensures { IfOk result (λ lists. IsTable (λ place. pins_of blocks.now (walk_at blocks.now place)) order.now lists.items) }
-{
-    let mut lists = no_pins(alloc, blocks.len())?;
-    for node in order {
-        let pins = pins_of(
-            alloc,
-            blocks,
-            block_at(blocks, *node).parts.as_slice(),
-            &lists,
-        )?;
-        lists[*node] = pins;
-    }
-    Ok(lists)
+    let path = joined(alloc, &way.path, part.name.as_bytes())?;
+    add_leaf(alloc, block, path.as_slice(), &way.net, nets, rows)
 }

@@ -1,31 +1,70 @@
-ghost use Rattle.std.specs.Prelude.{◌^◌, ◌≤◌, length, map, IfOk};
-ghost use Rattle.spice_netlist.specs.Lines.{named_of};
-ghost use Rattle.spice_netlist.specs.Numbers.{AreNumbered};
+ghost use Rattle.std.specs.Prelude.{◌≡◌, ◌∷◌, [], ◌<◌, ◌≤◌, ◌+◌, ◌^◌, length, map, OnOk};
+ghost use Rattle.spice_netlist.specs.Pins.{port_row};
+ghost use Rattle.spice_netlist.specs.Rows.{AreRowsOf, Adds, net_count};
 
-use crate::line::Line;
 use crate::number::NetTable;
 use netlist::RowPin;
 use or_geom::{Memory, Name};
 use std::alloc::Global;
 
-/// The rows of the lines, with their nets numbered by first appearance.
-pub fn number_lines(alloc: Global, lines: &[Line]) -> Result<Vec<RowPin>, Memory>
-    requires { length lines.now ≤ 2 ^ 24 }
-    ensures { IfOk result (λ rows. AreNumbered (map named_of lines.now) rows.items) }
-{
-    let mut nets = NetTable::new(alloc);
-    let mut rows = Vec::new(alloc);
-    for line in lines {
-        let path = Name::from_bytes(alloc, line.path)?;
-        let leaf = Name::from_bytes(alloc, line.leaf)?;
-        let pin = Name::from_bytes(alloc, line.pin)?;
-        let net = nets.number(alloc, line.net)? as u32;
-        rows.push(RowPin {
+/// Rows whose nets are numbered by first appearance, as they come.
+#[derive(Drop)]
+pub struct RowList {
+    rows: Vec<RowPin>,
+    nets: NetTable,
+}
+
+impl RowList {
+    /// No rows.
+    pub fn new(alloc: Global) -> Self
+        ensures { AreRowsOf [] result }
+    {
+        RowList {
+            rows: Vec::new(alloc),
+            nets: NetTable::new(alloc),
+        }
+    }
+
+    /// Adds a row, with the number of its net.
+    pub fn add(
+        &mut self,
+        alloc: Global,
+        path: &[u8],
+        leaf: &[u8],
+        pin: &[u8],
+        net: &[u8],
+    ) -> Result<(), Memory>
+        requires { net_count self.old < 2 ^ 24 }
+        ensures { OnOk result (Adds self.old self.new (record { path = path.now; leaf = leaf.now; pin = pin.now; net = net.now } ∷ [])) }
+    {
+        let path = Name::from_bytes(alloc, path)?;
+        let leaf = Name::from_bytes(alloc, leaf)?;
+        let pin = Name::from_bytes(alloc, pin)?;
+        let net = self.nets.number(alloc, net)? as u32;
+        self.rows.push(RowPin {
             path,
             leaf,
             pin,
             net,
         })?;
+        Ok(())
     }
-    Ok(rows)
+
+    /// The rows.
+    pub fn into_rows(self) -> Vec<RowPin>
+        ensures { result ≡ self.rows }
+    {
+        self.rows
+    }
+}
+
+/// Adds the rows of the top's ports.
+pub fn add_port_rows(alloc: Global, ports: &[Name], rows: &mut RowList) -> Result<(), Memory>
+    requires { net_count rows.old + length ports.now ≤ 2 ^ 24 }
+    ensures { OnOk result (Adds rows.old rows.new (map port_row ports.now)) }
+{
+    for port in ports {
+        rows.add(alloc, b"", b"", port.as_bytes(), port.as_bytes())?;
+    }
+    Ok(())
 }

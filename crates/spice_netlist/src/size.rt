@@ -1,7 +1,7 @@
 ghost use Rattle.std.specs.Prelude.{◌≡◌, length, IfOk};
 ghost use Rattle.spice_netlist.specs.Walk.{visits_by, walk_at};
 ghost use Rattle.spice_netlist.specs.Tables.{AreKnown, IsTable, IsUpward};
-ghost use Rattle.spice_netlist.specs.Sizes.{both, size_of};
+ghost use Rattle.spice_netlist.specs.Sizes.{both, size_of, pins_at};
 
 use crate::block::{Block, Part};
 use crate::table::{block_at, entry};
@@ -64,4 +64,14 @@ pub fn sizes(alloc: Global, blocks: &[Block], order: &[usize]) -> Result<Vec<Siz
         sizes[*node] = size_of(blocks, block_at(blocks, *node).parts.as_slice(), &sizes);
     }
     Ok(sizes)
+}
+
+/// How many pins there are at the place; none past the end.
+pub fn pin_count(sizes: &[Size], place: usize) -> u64
+    ensures { result ≡ pins_at sizes.now place }
+{
+    match sizes.get(place) {
+        Some(size) => size.pins,
+        None => 0,
+    }
 }

@@ -2,6 +2,7 @@ ghost use Rattle.std.specs.Prelude.{◌≡◌, ◌<◌, length, slice_index_or};
 ghost use Rattle.spice_netlist.specs.Resolved.{name_at, ports_at, leaf_at, parts_at};
 
 use crate::block::Block;
+use or_geom::Name;
 
 /// The subcircuit at the place.
 pub fn block_at(blocks: &[Block], place: usize) -> &Block
@@ -12,6 +13,16 @@ pub fn block_at(blocks: &[Block], place: usize) -> &Block
     ensures parts { result.now.parts ≡ parts_at blocks.now place }
 {
     &blocks[place]
+}
+
+/// The ports of the subcircuit at the place; none where there is no subcircuit.
+pub fn ports_of(blocks: &[Block], place: usize) -> &[Name]
+    ensures { result.now ≡ ports_at blocks.now place }
+{
+    match blocks.get(place) {
+        Some(block) => block.ports.as_slice(),
+        None => &[],
+    }
 }
 
 /// What the table has for the place.

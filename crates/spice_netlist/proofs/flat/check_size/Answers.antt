@@ -10,12 +10,12 @@ use Rattle.spice_netlist.proofs.flat.check_size.Goals as goal
 
 pub entry-size-requires : goal.entry-size-requires
 entry-size-requires c =
-    let known = top_known (λ place. size_of c.args.blocks.now (walk_at c.args.blocks.now place)) c.args.blocks.now c.args.order.now c.in_ok-sizes.field-0.items c.args.top c.requires.order c.in_ok-sizes.ensures in
+    let known = top_known (λ place. size_of c.args.blocks.now (walk_at c.args.blocks.now place)) c.args.blocks.now c.args.order.now c.in_ok-sizes.sizes.items c.args.top c.requires.order c.in_ok-sizes.ensures in
     subst (λ (table : List Size). c.args.top < length table) (sym c.deref.ensures.value) known.within
 
 pub returns-then-size-gt-MOST_LEAVES : goal.returns-then-size-gt-MOST_LEAVES
 returns-then-size-gt-MOST_LEAVES c =
-    let known = top_known (λ place. size_of c.args.blocks.now (walk_at c.args.blocks.now place)) c.args.blocks.now c.args.order.now c.in_ok-sizes.field-0.items c.args.top c.requires.order c.in_ok-sizes.ensures in
+    let known = top_known (λ place. size_of c.args.blocks.now (walk_at c.args.blocks.now place)) c.args.blocks.now c.args.order.now c.in_ok-sizes.sizes.items c.args.top c.requires.order c.in_ok-sizes.ensures in
     let at : c.entry-size.result.now ≡ size_of c.args.blocks.now (walk_at c.args.blocks.now c.args.top) = at_top _ _ _ c.args.top c.entry-size.result.now _ known c.deref.ensures.value (c.entry-size.ensures c.entry-size.result.now) in
     let leaves : c.entry-size.result.now.leaves ≡ min (leaf_count c.args.blocks.now (walk_at c.args.blocks.now c.args.top)) (2 ^ 20 + 1) = ap (λ (s : Size). s.leaves) at in
     let many = c.if-size-gt-MOST_LEAVES.true in
@@ -23,7 +23,7 @@ returns-then-size-gt-MOST_LEAVES c =
 
 pub returns-then-saturating_add-gt-MOST_PINS : goal.returns-then-saturating_add-gt-MOST_PINS
 returns-then-saturating_add-gt-MOST_PINS c =
-    let known = top_known (λ place. size_of c.args.blocks.now (walk_at c.args.blocks.now place)) c.args.blocks.now c.args.order.now c.in_ok-sizes.field-0.items c.args.top c.requires.order c.in_ok-sizes.ensures in
+    let known = top_known (λ place. size_of c.args.blocks.now (walk_at c.args.blocks.now place)) c.args.blocks.now c.args.order.now c.in_ok-sizes.sizes.items c.args.top c.requires.order c.in_ok-sizes.ensures in
     let at : c.entry-size.result.now ≡ size_of c.args.blocks.now (walk_at c.args.blocks.now c.args.top) = at_top _ _ _ c.args.top c.entry-size.result.now _ known c.deref.ensures.value (c.entry-size.ensures c.entry-size.result.now) in
     let leaves : c.entry-size.result.now.leaves ≡ min (leaf_count c.args.blocks.now (walk_at c.args.blocks.now c.args.top)) (2 ^ 20 + 1) = ap (λ (s : Size). s.leaves) at in
     let pins : c.entry-size.result.now.pins ≡ min (length (pins_of c.args.blocks.now (walk_at c.args.blocks.now c.args.top))) (2 ^ 24 + 1) = ap (λ (s : Size). s.pins) at in
@@ -36,7 +36,7 @@ returns-then-saturating_add-gt-MOST_PINS c =
 
 pub returns : goal.returns
 returns c =
-    let known = top_known (λ place. size_of c.args.blocks.now (walk_at c.args.blocks.now place)) c.args.blocks.now c.args.order.now c.in_ok-sizes.field-0.items c.args.top c.requires.order c.in_ok-sizes.ensures in
+    let known = top_known (λ place. size_of c.args.blocks.now (walk_at c.args.blocks.now place)) c.args.blocks.now c.args.order.now c.in_ok-sizes.sizes.items c.args.top c.requires.order c.in_ok-sizes.ensures in
     let at : c.entry-size.result.now ≡ size_of c.args.blocks.now (walk_at c.args.blocks.now c.args.top) = at_top _ _ _ c.args.top c.entry-size.result.now _ known c.deref.ensures.value (c.entry-size.ensures c.entry-size.result.now) in
     let leaves : c.entry-size.result.now.leaves ≡ min (leaf_count c.args.blocks.now (walk_at c.args.blocks.now c.args.top)) (2 ^ 20 + 1) = ap (λ (s : Size). s.leaves) at in
     let pins : c.entry-size.result.now.pins ≡ min (length (pins_of c.args.blocks.now (walk_at c.args.blocks.now c.args.top))) (2 ^ 24 + 1) = ap (λ (s : Size). s.pins) at in
@@ -45,4 +45,4 @@ returns c =
     let few = c.if-size-gt-MOST_LEAVES.false in
     let fits = c.if-saturating_add-gt-MOST_PINS.false in
     let sum = c.saturating_add.ensures in
-    record { leaves = omega (arith, leaves, few); pins = omega (arith, pins, ports, rows, fits, sum) }
+    (record { leaves = omega (arith, leaves, few); pins = omega (arith, pins, ports, rows, fits, sum) }, λ place r. c.in_ok-sizes.ensures place ((c.requires.order.exact place).1 r))

@@ -6,8 +6,10 @@ use Rattle.reference_graph.specs.Reaches.{AreWithin}
 use Rattle.spice_netlist.specs.declared.block.Block.{Block}
 use Rattle.spice_netlist.specs.Names.{lower, place_of}
 use Rattle.spice_netlist.specs.Resolved.{names_of, blocks_of, graph}
+use Rattle.spice_netlist.specs.Descent.{HaveNoA}
 use Rattle.spice_netlist.specs.Faults.{AreRows}
 use Rattle.spice_netlist.proofs.ResolvedLaws.{place_within, blocks_long, resolved_within}
+use Rattle.spice_netlist.proofs.NetTextLaws.{resolved_plain}
 use Rattle.spice_netlist.proofs.FlatLaws.{fault_at, rows_at, top_absent}
 use Rattle.spice_netlist.proofs.flat.flat_rows.Goals as goal
 
@@ -28,6 +30,11 @@ rows_at-requires-clause-inside c =
     let lt : c.in-Some.place < length (names_of c.as_slice.result.now) = place_within (names_of c.as_slice.result.now) c.in_ok-top.top c.in-Some.place (sym c.in_ok-design.ensures.top ∙ c.in-Some.is) in
     subst (λ (blocks : List Block). c.in-Some.place < length blocks) (sym same)
     (subst (λ (n : ℕ). c.in-Some.place < n) (sym (blocks_long c.as_slice.result.now c.in_ok-top.top c.args.leaves.now)) lt)
+
+pub rows_at-requires-clause-plain : goal.rows_at-requires-clause-plain
+rows_at-requires-clause-plain c =
+    let same : c.as_slice-2.result.now ≡ blocks_of c.as_slice.result.now c.in_ok-top.top c.args.leaves.now = c.as_slice-2.ensures ∙ c.in_ok-design.ensures.blocks in
+    subst HaveNoA (sym same) (resolved_plain c.as_slice.result.now c.in_ok-top.top c.args.leaves.now)
 
 pub returns-in_err-pins-clause-fault : goal.returns-in_err-pins-clause-fault
 returns-in_err-pins-clause-fault c =

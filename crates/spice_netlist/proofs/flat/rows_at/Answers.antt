@@ -3,6 +3,7 @@ use Rattle.std.proofs.Common.{ℕ, List, sym, subst, ◌∙◌}
 use Rattle.reference_graph.specs.Reaches.{AreWithin}
 use Rattle.reference_graph.specs.BottomUp.{IsOrder}
 use Rattle.spice_netlist.specs.Tables.{IsUpward}
+use Rattle.spice_netlist.specs.Descent.{AreSizes}
 use Rattle.spice_netlist.proofs.FlatLaws.{upward}
 use Rattle.spice_netlist.proofs.flat.rows_at.Goals as goal
 
@@ -21,8 +22,5 @@ check_size-requires-clause-upward c =
     (upward c.args.blocks.now c.args.top c.in_ok-order.order.items c.requires.within
     (subst (λ (g : List (List ℕ)). IsOrder g c.args.top c.in_ok-order.order.items) (c.deref.ensures.value ∙ c.in_ok-references.ensures) c.in_ok-order.ensures.1) c.paths_are_short.ensures.ordered)
 
-pub rows_of-requires-clause-upward : goal.rows_of-requires-clause-upward
-rows_of-requires-clause-upward c =
-    subst (IsUpward c.args.blocks.now) (sym c.deref-4.ensures.value)
-    (upward c.args.blocks.now c.args.top c.in_ok-order.order.items c.requires.within
-    (subst (λ (g : List (List ℕ)). IsOrder g c.args.top c.in_ok-order.order.items) (c.deref.ensures.value ∙ c.in_ok-references.ensures) c.in_ok-order.ensures.1) c.paths_are_short.ensures.ordered)
+pub rows_of-requires-clause-sizes : goal.rows_of-requires-clause-sizes
+rows_of-requires-clause-sizes c = subst (AreSizes c.args.blocks.now c.args.top) (sym c.deref-4.ensures.value) c.in_ok-sizes.ensures.1

@@ -1,6 +1,10 @@
-use Rattle.std.proofs.Common.{◌≡◌, drop}
-use Rattle.spice_netlist.specs.Walk.{visits_by, walk_at, first_bad}
+use Rattle.std.proofs.Common.{length}
+use Rattle.spice_netlist.specs.Walk.{walk_at}
+use Rattle.spice_netlist.proofs.BadLaws.{GoesOn}
 use Rattle.spice_netlist.proofs.ports.bad_path.Given as goal
 
-abbrev pub invariant-loop-part : goal.invariant-loop-part
-invariant-loop-part l = first_bad l.blocks (visits_by l.blocks (walk_at l.blocks) l.parts) ≡ first_bad l.blocks (visits_by l.blocks (walk_at l.blocks) (drop l.part-index l.parts))
+abbrev pub invariant-levels : goal.invariant-levels
+invariant-levels l = GoesOn l.blocks l.fn.order l.top l.place l.path.items
+
+abbrev pub decreases-levels : goal.decreases-levels
+decreases-levels l = length (walk_at l.blocks l.place)

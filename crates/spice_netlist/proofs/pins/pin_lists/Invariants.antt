@@ -1,8 +1,0 @@
-use Rattle.std.proofs.Common.{length}
-use Rattle.spice_netlist.specs.Walk.{walk_at}
-use Rattle.spice_netlist.specs.Pins.{pins_of}
-use Rattle.spice_netlist.proofs.TableLaws.{IsFilled}
-use Rattle.spice_netlist.proofs.pins.pin_lists.Given as goal
-
-abbrev pub invariant-loop-node : goal.invariant-loop-node
-invariant-loop-node l = IsFilled (λ place. pins_of l.blocks (walk_at l.blocks place)) (length l.blocks) l.order l.lists.items l.node-index
