@@ -1,5 +1,9 @@
 -- How much of a text was printed.
-use Rattle.std.specs.Prelude.{◌≡◌, ℕ, List, ◌++◌}
+use Rattle.std.specs.Prelude.{◌≡◌, ℕ, ◌<◌, List, ◌++◌, length, take, Option, Result, Ok, Err}
+use Rattle.or_host.specs.Text.{Grows}
+use Rattle.or_host.specs.declared.sink.PutFail.{PutFail}
+use Rattle.or_host.specs.declared.sink.PutFail.TheVariants.{Failed, Memory}
+use Rattle.reply_lines.specs.Lines.{lines_text}
 
 -- all of it
 abbrev pub IsWhole : List ℕ → List ℕ → Type 0
@@ -8,3 +12,23 @@ IsWhole whole text = text ≡ whole
 -- a front of it, which may be nothing or all
 abbrev pub IsFrontOf : List ℕ → List ℕ → Type 0
 IsFrontOf whole text = (rest : List ℕ) × (whole ≡ text ++ rest)
+
+-- the first lines, each whole, before one that is not printed: so never all of them
+pub record AreFirstLines (lines : List (List ℕ)) (text : List ℕ) : Type 0 where
+  pub count : ℕ
+  pub not_all : count < length lines
+  pub is : text ≡ lines_text (take count lines)
+
+-- two texts, one after the other
+pub record IsFollowedBy (IsFront IsEnd : List ℕ → Type 0) (text : List ℕ) : Type 0 where
+  pub front : List ℕ
+  pub end : List ℕ
+  pub parts : text ≡ front ++ end
+  pub is_front : IsFront front
+  pub is_end : IsEnd end
+
+-- Lines printed one by one. Where a put failed, a front of them stands there, cut anywhere; where one found no memory, whole lines.
+abbrev pub Prints : List (List ℕ) → Option (List ℕ) → Option (List ℕ) → Result (Unit {0}) PutFail → Type 0
+Prints lines old new (Ok done) = Grows (IsWhole (lines_text lines)) old new
+Prints lines old new (Err Failed) = Grows (IsFrontOf (lines_text lines)) old new
+Prints lines old new (Err Memory) = Grows (AreFirstLines lines) old new

@@ -1,10 +1,10 @@
 ghost use Rattle.std.specs.Prelude.{◌≡◌, ◌⊎◌, ◌<◌, [], IfOk};
 ghost use Rattle.or_host.specs.Fault.{Rose};
 ghost use Rattle.or_host.specs.Text.{Grows};
-ghost use Rattle.openram_cli.specs.Finished.{IsFrontThenMemory, IsFrontThenCut};
+ghost use Rattle.openram_cli.specs.Finished.{IsCut, IsStopped};
 ghost use Rattle.reply_lines.specs.Lines.{lines_text};
 ghost use Rattle.openram_cli.specs.Printed.{IsWhole, IsFrontOf};
-ghost use Rattle.openram_cli.specs.Run.{memory_line, read_line};
+ghost use Rattle.openram_cli.specs.Run.{IsMemorySaid, memory_line, read_line};
 
 use crate::print::print;
 use or_geom::{Memory, Name};
@@ -24,7 +24,7 @@ pub fn no_memory<K: Sink>(out: &mut K) -> u8
     ensures fault { result ≡ 4 → Rose (K.faults out.old) (K.faults out.new) }
     ensures cut { result ≡ 4 → Grows (IsFrontOf memory_line) (K.written out.old) (K.written out.new) }
     ensures clean { result ≡ 5 → K.faults out.new ≡ K.faults out.old }
-    ensures printed { result ≡ 5 → Grows (λ text. (text ≡ memory_line) ⊎ (text ≡ [])) (K.written out.old) (K.written out.new) }
+    ensures printed { result ≡ 5 → Grows IsMemorySaid (K.written out.old) (K.written out.new) }
 {
     match out.put(b"openram: 94 Memory\n") {
         Ok(()) => NO_MEMORY,
@@ -41,8 +41,8 @@ pub fn finish<K: Sink>(reply: &Reply, out: &mut K) -> u8
     ensures printed { result < 4 → Grows (IsWhole (lines_text reply.now.lines)) (K.written out.old) (K.written out.new) }
     ensures clean { result < 4 → K.faults out.new ≡ K.faults out.old }
     ensures fault { result ≡ 4 → Rose (K.faults out.old) (K.faults out.new) }
-    ensures cut { result ≡ 4 → Grows (IsFrontThenCut (lines_text reply.now.lines)) (K.written out.old) (K.written out.new) }
-    ensures memory { result ≡ 5 → Grows (IsFrontThenMemory (lines_text reply.now.lines)) (K.written out.old) (K.written out.new) }
+    ensures cut { result ≡ 4 → Grows (IsCut reply.now.lines) (K.written out.old) (K.written out.new) }
+    ensures memory { result ≡ 5 → Grows (IsStopped reply.now.lines) (K.written out.old) (K.written out.new) }
     ensures memory_clean { result ≡ 5 → K.faults out.new ≡ K.faults out.old }
 {
     match print(reply.lines.as_slice(), out) {

@@ -1,12 +1,12 @@
-ghost use Rattle.std.specs.Prelude.{◌≡◌, ◌<◌, ◌⊎◌, ◌↔◌, true, None, map, string_bytes};
+ghost use Rattle.std.specs.Prelude.{◌≡◌, ◌<◌, ◌⊎◌, ◌↔◌, [], true, None, map, string_bytes};
 ghost use Rattle.or_host.specs.Fault.{Rose};
 ghost use Rattle.or_host.specs.Text.{Grows};
 ghost use Rattle.openram_cli.specs.Command.{command_of};
-ghost use Rattle.openram_cli.specs.Finished.{IsFrontThenMemory, IsFrontThenCut};
+ghost use Rattle.openram_cli.specs.Finished.{IsCut, IsStopped};
 ghost use Rattle.reply_lines.specs.Lines.{lines_text};
 ghost use Rattle.openram_cli.specs.Printed.{IsWhole};
 ghost use Rattle.reply_lines.specs.Reply.{refusal_reply};
-ghost use Rattle.openram_cli.specs.Run.{IsAnswered, IsFaultEnd, IsMemoryText};
+ghost use Rattle.openram_cli.specs.Run.{IsAnswered, IsFaultEnd, IsMemoryEnd};
 ghost use Rattle.openram_cli.specs.Told.{IfTold, is_usage_refusal};
 
 use crate::finish::{finish, no_memory, read_failed};
@@ -24,8 +24,8 @@ fn refuse<K: Sink>(alloc: Global, refusal: &Refusal, out: &mut K) -> u8
     ensures printed { result < 4 → Grows (IsWhole (lines_text (refusal_reply refusal.now).lines)) (K.written out.old) (K.written out.new) }
     ensures clean { result < 4 → K.faults out.new ≡ K.faults out.old }
     ensures fault { result ≡ 4 → Rose (K.faults out.old) (K.faults out.new) }
-    ensures cut { result ≡ 4 → Grows (IsFrontThenCut (lines_text (refusal_reply refusal.now).lines)) (K.written out.old) (K.written out.new) }
-    ensures memory { result ≡ 5 → Grows (IsFrontThenMemory (lines_text (refusal_reply refusal.now).lines)) (K.written out.old) (K.written out.new) }
+    ensures cut { result ≡ 4 → Grows (IsCut (refusal_reply refusal.now).lines) (K.written out.old) (K.written out.new) }
+    ensures memory { result ≡ 5 → Grows (IsStopped (refusal_reply refusal.now).lines) (K.written out.old) (K.written out.new) }
     ensures memory_clean { result ≡ 5 → K.faults out.new ≡ K.faults out.old }
 {
     match Reply::refused(alloc, refusal) {
@@ -50,8 +50,9 @@ pub fn run<R: Threads + Sync, S: Store, K: Sink>(
     ensures usage { result < 4 → ((result ≡ 2) ↔ (command_of (map string_bytes words.now) ≡ None)) }
     ensures fault { result ≡ 4 → Rose (S.faults store.old) (S.faults store.new) ⊎ Rose (K.faults out.old) (K.faults out.new) }
     ensures cut { result ≡ 4 → IfTold (S.files store.old) (λ files. IsFaultEnd (map string_bytes words.now) files (S.faults store.old) (S.faults store.new) (K.faults out.old) (K.faults out.new) (K.written out.old) (K.written out.new)) }
-    ensures memory { result ≡ 5 → IfTold (S.files store.old) (λ files. Grows (IsMemoryText (map string_bytes words.now) files) (K.written out.old) (K.written out.new)) }
+    ensures memory { result ≡ 5 → IfTold (S.files store.old) (λ files. IsMemoryEnd (map string_bytes words.now) files (S.faults store.old) (S.faults store.new) (K.written out.old) (K.written out.new)) }
     ensures memory_clean { result ≡ 5 → K.faults out.new ≡ K.faults out.old }
+    ensures silent { result ≡ 5 → (S.faults store.new ≡ S.faults store.old) ⊎ (Rose (S.faults store.old) (S.faults store.new) × Grows (λ text. text ≡ []) (K.written out.old) (K.written out.new)) }
     ensures files { S.files store.new ≡ S.files store.old }
 {
     match reply_to(alloc, words, store) {

@@ -304,6 +304,25 @@ fn calls_that_fail(rt: HostRuntime) -> Result<(), Fail> {
     Ok(())
 }
 
+/// Of two lines the second put fails, and so the second line alone is cut.
+#[test]
+fn each_line_is_one_put(rt: HostRuntime) -> Result<(), Fail> {
+    let (status, text) = answer(
+        rt.alloc(),
+        &CHECK,
+        PLAIN,
+        &[FIRST, [8, 0, 12, 4], [16, 0, 20, 4]],
+        &rt,
+        Failing { store: 0, sink: 2 },
+    )?;
+    assert_eq!(rt; status, 4);
+    assert_eq!(rt;
+        text.written(),
+        b"1 m1 0 0 4 4 m1 8 0 12 4\n1 m1 8 0 12 4".as_slice()
+    );
+    Ok(())
+}
+
 /// GENERATIONS after LIBNAME and PLEX after BOUNDARY are dropped.
 #[test]
 fn dropped_records(rt: HostRuntime) -> Result<(), Fail> {
