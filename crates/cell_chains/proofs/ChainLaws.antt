@@ -73,7 +73,7 @@ pub item_from : (structs : List Structure) (from name : List ℕ) → AllByRecur
 item_from structs from name w h = item_among 0 (elements_of structs from) name (writable_elements structs from w) h
 
 -- an element that stands for an item refers to its structure
-refers_for : (n : ℕ) (e : Element) (item : Item) → HasItem n e item → referred_name e ≡ Some item.cell
+pub refers_for : (n : ℕ) (e : Element) (item : Item) → HasItem n e item → referred_name e ≡ Some item.cell
 refers_for n (Boundary layer datatype points props) item h = absurd h
 refers_for n (Path layer datatype kind width points props) item h = absurd h
 refers_for n (Sref name place props) item h = ap (λ (m : List ℕ). Some m) (sym h.cell)

@@ -1,30 +1,21 @@
 -- A structure has one total.
-use Rattle.std.proofs.Common.{◌≡◌, ℕ, zero, suc, ◌*◌, List, [], ◌∷◌, length, Option, Some, None, Bool, true, false, cond, sym, ap, ◌∙◌, length-append, nat_abs}
+use Rattle.std.proofs.Common.{◌≡◌, ℕ, zero, suc, ◌*◌, List, [], ◌∷◌, length, Option, Some, None, sym, ap, ◌∙◌, length-append, nat_abs}
 use Rattle.std.specs.List.{AllByRecursion}
-use Rattle.std.specs.Str.{bytes_eq}
 use Rattle.std.proofs.lemmas.List.{length-map}
 use Rattle.or_geom.specs.declared.shape.Rect.{Rect}
 use Rattle.or_geom.specs.declared.shape.Shape.{Shape}
 use Rattle.gds_stream.specs.declared.library.Element.{Element}
 use Rattle.gds_stream.specs.declared.library.Element.TheVariants.{Boundary, Path, Sref, Aref, Text}
-use Rattle.gds_stream.specs.declared.library.Structure.{Structure}
-use Rattle.gds_stream.specs.Writable.{IsWritableBody, IsWritableElement, IsWritableCell}
+use Rattle.gds_stream.specs.Writable.{IsWritableBody, IsWritableElement}
 use Rattle.tech_rules.specs.declared.tech.Layer.{Layer}
 use Rattle.element_drawing.specs.Drawing.{IsDrawing}
 use Rattle.element_drawing.specs.OwnShapes.{layer_of, on_layer, AreOn, AreOwnShapes}
 use Rattle.cell_chains.specs.Chains.{elements_of}
+use Rattle.cell_chains.proofs.ChainLaws.{writable_elements}
 use Rattle.cell_counts.specs.Counts.{Total, IsOwnTotal, IsBelow, IsTotalWithin, sum, times}
 use Rattle.cell_counts.specs.OneTotal.{IsOneTotal}
 use Rattle.cell_counts.proofs.PathLaws.{one_path}
 use Rattle.cell_counts.proofs.DistinctLaws.{same_length}
-
-writable_one_of : (here : Bool) (xs ys : List Element) → AllByRecursion IsWritableElement xs → AllByRecursion IsWritableElement ys → AllByRecursion IsWritableElement (cond here xs ys)
-writable_one_of true xs ys a b = a
-writable_one_of false xs ys a b = b
-
-writable_elements : (structs : List Structure) (name : List ℕ) → AllByRecursion IsWritableCell structs → AllByRecursion IsWritableElement (elements_of structs name)
-writable_elements [] name w = tt
-writable_elements (s ∷ ss) name w = writable_one_of (bytes_eq s.name name) s.elements (elements_of ss name) w.0.elements (writable_elements ss name w.1)
 
 -- an element draws one number of rectangles
 one_number : (e : Element) (rs ss : List Rect) → IsWritableBody e → IsDrawing e rs → IsDrawing e ss → length rs ≡ length ss

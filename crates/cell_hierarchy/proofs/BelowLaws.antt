@@ -1,5 +1,5 @@
 -- What the items of arrays and the elements give, one after another.
-use Rattle.std.proofs.Common.{◌≡◌, ◌⊎◌, inl, inr, ℕ, zero, suc, ◌+◌, ◌<◌, ◌≤◌, ℤ, pos, negsuc, w16, FitsSigned, to_z, of_z, true, false, nat_lt, ◌≤ℤ◌, List, [], ◌∷◌, length, get_or, drop, Option, Some, refl, sym, ap, subst, ◌∙◌, arith}
+use Rattle.std.proofs.Common.{◌≡◌, ◌⊎◌, inl, inr, ℕ, zero, suc, ◌+◌, ◌<◌, ◌≤◌, ℤ, pos, negsuc, w16, FitsSigned, to_z, of_z, true, false, nat_lt, ◌≤ℤ◌, List, [], ◌∷◌, length, get_or, drop, Some, refl, sym, ap, subst, ◌∙◌, arith}
 use Rattle.std.proofs.lemmas.Int.{ints, to_z-of_z}
 use Rattle.std.proofs.lemmas.Option.{slice_get_read, slice_get_within}
 use Rattle.std.proofs.lemmas.Bool.{ltb-true, ltb-false}
@@ -45,7 +45,7 @@ below_ends P n m old new le ge a =
 abbrev pub reference_item : ℕ → List ℕ → Place → List Prop → Item
 reference_item n name place props = record { name = reference_name n props; cell = name; place = place }
 
-same_item : (a b : Item) → a.name ≡ b.name → a.cell ≡ b.cell → a.place ≡ b.place → a ≡ b
+pub same_item : (a b : Item) → a.name ≡ b.name → a.cell ≡ b.cell → a.place ≡ b.place → a ≡ b
 same_item a b name cell place = λ i. record { name = name i; cell = cell i; place = place i }
 
 pub reference_gives : {X : Type 0} (Moves : Item → X → X → Type 0) (n : ℕ) (name : List ℕ) (place : Place) (props : List Prop) (xs : List X) (x : X)
@@ -166,9 +166,6 @@ adds_none_there Moves Has n e xs none = adds_none xs (ElementGives Moves Has n e
 -- what stands at a place of a list
 pub got : {Y : Type 0} (ys : List Y) (i : ℕ) (y : Y) → true ≡ nat_lt i (length ys) → y ≡ get_or ys i y → slice_get ys i ≡ Some y
 got ys i y lt is = slice_get_read ys (length ys) i y refl (ltb-true i (length ys) (sym lt)) is
-
-pub one_some : {Y : Type 0} (x y : Y) → ◌≡◌ {A = Option Y} (Some x) (Some y) → x ≡ y
-one_some x y e = cc
 
 pub not_got : {Y : Type 0} (ys : List Y) (i : ℕ) (y : Y) → false ≡ nat_lt i (length ys) → slice_get ys i ≡ Some y → ⊥
 not_got ys i y no_more is =

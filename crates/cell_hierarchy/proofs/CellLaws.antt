@@ -3,6 +3,7 @@ use Rattle.std.proofs.Common.{◌≡◌, ◌⊎◌, inl, inr, ℕ, zero, suc, �
 use Rattle.std.specs.Prelude.{Contains, slice_get, slice_index}
 use Rattle.std.specs.List.{AllByRecursion}
 use Rattle.std.proofs.lemmas.List.Elements.{Contains-append_left, Contains-append_right, Contains-append_cases}
+use Rattle.std.proofs.lemmas.Option.{same_Some}
 use Rattle.or_geom.specs.declared.shape.Shape.{Shape}
 use Rattle.ordered_set.proofs.OneListLaws.{all_contained}
 use Rattle.gds_stream.specs.declared.library.Element.{Element}
@@ -15,13 +16,13 @@ use Rattle.element_drawing.specs.OwnLabels.{own_labels, IsLabelWithin}
 use Rattle.cell_chains.specs.declared.cell.Cell.{Cell}
 use Rattle.cell_chains.specs.Chains.{elements_of}
 use Rattle.cell_chains.specs.Hierarchy.{IsCell, IsTarget, referred_name}
+use Rattle.cell_chains.proofs.ChainLaws.{refers_for}
 use Rattle.cell_counts.specs.OneSet.{AreOneSet}
 use Rattle.cell_hierarchy.specs.declared.drawing.Drawing.{Drawing}
 use Rattle.cell_hierarchy.specs.FlatSet.{IsOwnShape, IsFlatShape, IsFlatLabel}
 use Rattle.cell_hierarchy.specs.Below.{MovesShape, HoldsShape, MovesLabel, HoldsLabel}
 use Rattle.cell_hierarchy.specs.Drawings.{AreCellShapes, AreCellLabels, IsCellDrawing, IsFlatDrawing, AreFlatDrawings, reach}
-use Rattle.cell_hierarchy.proofs.BelowLaws.{one_some}
-use Rattle.cell_hierarchy.proofs.ChainLaws.{IsTaken, AllFrom, all_from, refers_to, IsResolved, taken, gives_taken, MakesEach, given_have, flat_shape_cases, own_is_flat, taken_is_flat, flat_label_cases, own_label_is_flat, taken_label_is_flat}
+use Rattle.cell_hierarchy.proofs.ChainLaws.{IsTaken, AllFrom, all_from, IsResolved, taken, gives_taken, MakesEach, given_have, flat_shape_cases, own_is_flat, taken_is_flat, flat_label_cases, own_label_is_flat, taken_label_is_flat}
 use Rattle.cell_hierarchy.proofs.NearLaws.{item_near, moved_within, shape_further, label_within, further}
 
 pub from_zero : (Q : ℕ → Element → Type 0) (es : List Element) → ((k : ℕ) (e : Element) → slice_get es k ≡ Some e → Q k e) → AllFrom Q 0 es
@@ -29,7 +30,7 @@ from_zero Q es f = all_from Q 0 es (λ k e h. let z : k ≡ 0 + k = omega arith 
 
 pub all_got : {Y : Type 0} (P : Y → Type 0) (ys : List Y) (k : ℕ) (y : Y) → AllByRecursion P ys → slice_get ys k ≡ Some y → P y
 all_got P [] k y all is = absurd cc
-all_got {Y} P (x ∷ xs) zero y all is = subst P (one_some x y is) all.0
+all_got {Y} P (x ∷ xs) zero y all is = subst P (same_Some x y is) all.0
 all_got P (x ∷ xs) (suc k) y all is = all_got P xs k y all.1 is
 
 pub record IsThereAt {Y : Type 0} (ys : List Y) (k : ℕ) : Type 0 where
@@ -98,11 +99,11 @@ target_drawn layers structs cells below k height target name sized flat t =
     let lt = t.before in
     let there = there_at below target (omega arith) in
     let drawn = flat.each target t.cell there.item t.is there.is in
-    let one : drawn.structure ≡ t.structure = one_some drawn.structure t.structure (sym drawn.stands ∙ t.stands) in
+    let one : drawn.structure ≡ t.structure = same_Some drawn.structure t.structure (sym drawn.stands ∙ t.stands) in
     record { drawing = there.item; is = there.is; cell = t.cell; lower = t.lower; flat = drawn; named = ap (λ (s : Structure). s.name) one ∙ t.named }
 
 same_drawing : (below : List Drawing) (target : ℕ) (a b : Drawing) → slice_get below target ≡ Some a → slice_get below target ≡ Some b → a ≡ b
-same_drawing below target a b p q = one_some a b (sym p ∙ q)
+same_drawing below target a b p q = same_Some a b (sym p ∙ q)
 
 shapes_resolved : (layers : List Layer) (structs : List Structure) (below : List Drawing) (targets : List ℕ) (height n : ℕ) (name : List ℕ) → IsTargetDrawn layers structs below height (slice_index targets n) name
     → (s : Shape) → HoldsShape below targets n s ↔ IsFlatShape layers structs name s
@@ -127,14 +128,14 @@ own_reach g = omega arith
 shapes_made_near : (layers : List Layer) (structs : List Structure) (below : List Drawing) (targets : List ℕ) (height n : ℕ) (e : Element) → IsWritableElement e
     → ((name : List ℕ) → referred_name e ≡ Some name → IsTargetDrawn layers structs below height (slice_index targets n) name) → MakesEach MovesShape (HoldsShape below targets) (IsShapeWithin (reach height)) n e
 shapes_made_near layers structs below targets height n e writable drawn item stands inner held s moved =
-    let t = drawn item.cell (refers_to n e item stands) in
+    let t = drawn item.cell (refers_for n e item stands) in
     let within = t.flat.shapes_near inner (subst (λ (d : Drawing). Contains d.shapes inner) (same_drawing below (slice_index targets n) held.drawing t.drawing held.is t.is) held.among) in
     shape_further (reach t.cell.height + 2 ^ 33) (reach height) s (lower_reach t.cell.height height t.lower) (moved_within (reach t.cell.height) (2 ^ 33) item.place inner s (item_near n e item writable stands) within moved)
 
 labels_made_near : (layers : List Layer) (structs : List Structure) (below : List Drawing) (targets : List ℕ) (height n : ℕ) (e : Element) → IsWritableElement e
     → ((name : List ℕ) → referred_name e ≡ Some name → IsTargetDrawn layers structs below height (slice_index targets n) name) → MakesEach MovesLabel (HoldsLabel below targets) (IsLabelWithin (reach height)) n e
 labels_made_near layers structs below targets height n e writable drawn item stands inner held label moved =
-    let t = drawn item.cell (refers_to n e item stands) in
+    let t = drawn item.cell (refers_for n e item stands) in
     let within = t.flat.labels_near inner (subst (λ (d : Drawing). Contains d.labels inner) (same_drawing below (slice_index targets n) held.drawing t.drawing held.is t.is) held.among) in
     further (reach t.cell.height + 2 ^ 33) (reach height) label.at (lower_reach t.cell.height height t.lower) (label_within (reach t.cell.height) (2 ^ 33) item.name item.place inner label (item_near n e item writable stands) within moved)
 
@@ -185,7 +186,7 @@ drawn_flat layers structs below cell structure drawing one_set writable stands f
 pub cell_flat : (layers : List Layer) (structs : List Structure) (cells : List Cell) (below : List Drawing) (k : ℕ) (cell : Cell) (drawing : Drawing) → AreOneSet → AllByRecursion IsWritableCell structs → IsCell structs cells k cell
     → length below ≡ k → AreFlatDrawings layers structs cells below → IsCellDrawing layers structs below cell drawing → IsFlatDrawing layers structs cell drawing
 cell_flat layers structs cells below k cell drawing one_set writable is_cell sized flat drawn =
-    let one : drawn.structure ≡ is_cell.structure = one_some drawn.structure is_cell.structure (sym drawn.stands ∙ is_cell.stands) in
+    let one : drawn.structure ≡ is_cell.structure = same_Some drawn.structure is_cell.structure (sym drawn.stands ∙ is_cell.stands) in
     let es_one : drawn.structure.elements ≡ is_cell.structure.elements = ap (λ (s : Structure). s.elements) one in
     drawn_flat layers structs below cell is_cell.structure drawing one_set (all_got IsWritableCell structs cell.structure is_cell.structure writable is_cell.stands).elements is_cell.stands is_cell.first
     (λ n e name is refers. target_drawn layers structs cells below k cell.height (slice_index cell.targets n) name sized flat (is_cell.each n e name is refers))

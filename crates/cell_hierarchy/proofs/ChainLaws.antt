@@ -1,9 +1,8 @@
 -- A flat set, one reference after another.
-use Rattle.std.proofs.Common.{◌≡◌, ◌⊎◌, inl, inr, ℕ, suc, ◌+◌, List, [], ◌∷◌, Some, refl, sym, ap, subst, ◌↔◌, arith}
+use Rattle.std.proofs.Common.{◌≡◌, ◌⊎◌, inl, inr, ℕ, suc, ◌+◌, List, [], ◌∷◌, Some, refl, subst, ◌↔◌, arith}
 use Rattle.std.specs.Prelude.{Contains, slice_get}
 use Rattle.or_geom.specs.declared.shape.Shape.{Shape}
 use Rattle.gds_stream.specs.declared.library.Element.{Element}
-use Rattle.gds_stream.specs.declared.library.Element.TheVariants.{Boundary, Path, Sref, Aref, Text}
 use Rattle.gds_stream.specs.declared.library.Structure.{Structure}
 use Rattle.tech_rules.specs.declared.tech.Layer.{Layer}
 use Rattle.element_drawing.specs.declared.label.OwnLabel.{OwnLabel}
@@ -11,6 +10,7 @@ use Rattle.element_drawing.specs.OwnLabels.{own_labels}
 use Rattle.cell_chains.specs.Instances.{Item, HasItem}
 use Rattle.cell_chains.specs.Chains.{elements_of, IsItemFrom}
 use Rattle.cell_chains.specs.Hierarchy.{referred_name}
+use Rattle.cell_chains.proofs.ChainLaws.{refers_for}
 use Rattle.cell_hierarchy.specs.FlatSet.{IsOwnShape, IsShapeBy, IsFlatShape, IsLabelMoved, IsLabelBy, IsFlatLabel}
 use Rattle.cell_hierarchy.specs.Below.{SomeElementGives, MovesShape, MovesLabel, IsLabelUnder}
 
@@ -36,13 +36,6 @@ all_from Q n (e ∷ es) f =
     subst (λ (m : ℕ). Q m d) more (f (suc k) d h) in
     (subst (λ (m : ℕ). Q m e) here (f 0 e refl), all_from Q (suc n) es later)
 
-pub refers_to : (n : ℕ) (e : Element) (item : Item) → HasItem n e item → referred_name e ≡ Some item.cell
-refers_to n (Boundary layer datatype points props) item h = absurd h
-refers_to n (Path layer datatype kind width points props) item h = absurd h
-refers_to n (Sref name place props) item h = ap (λ (m : List ℕ). Some m) (sym h.cell)
-refers_to n (Aref name place columns rows across down props) item h = ap (λ (m : List ℕ). Some m) (sym h.cell)
-refers_to n (Text layer texttype at string props) item h = absurd h
-
 -- what the target of an element has is what is flat in the structure to which it refers
 abbrev pub IsResolved : {X : Type 0} → (ℕ → X → Type 0) → (List ℕ → X → Type 0) → ℕ → Element → Type 0
 IsResolved {X} Has In n e = (name : List ℕ) → referred_name e ≡ Some name → (x : X) → Has n x ↔ In name x
@@ -54,7 +47,7 @@ taken Moves Has In n (e ∷ es) x all (inl g) = record {
   item = g.item;
   stands = inl g.stands;
   inner = g.inner;
-  is_there = (all.0 g.item.cell (refers_to n e g.item g.stands) g.inner).0 g.is_there;
+  is_there = (all.0 g.item.cell (refers_for n e g.item g.stands) g.inner).0 g.is_there;
   moved = g.moved;
 }
 taken Moves Has In n (e ∷ es) x all (inr g) =
@@ -65,7 +58,7 @@ pub gives_taken : {X : Type 0} (Moves : Item → X → X → Type 0) (Has : ℕ 
     → IsItemFrom n es item → In item.cell inner → Moves item inner x → SomeElementGives Moves Has n es x
 gives_taken Moves Has In n [] x item inner all s h m = absurd s
 gives_taken Moves Has In n (e ∷ es) x item inner all (inl s) h m =
-    inl (record { item = item; stands = s; inner = inner; is_there = (all.0 item.cell (refers_to n e item s) inner).1 h; moved = m })
+    inl (record { item = item; stands = s; inner = inner; is_there = (all.0 item.cell (refers_for n e item s) inner).1 h; moved = m })
 gives_taken Moves Has In n (e ∷ es) x item inner all (inr s) h m = inr (gives_taken Moves Has In (suc n) es x item inner all.1 s h m)
 
 -- what the elements give has P where each item makes that of what its target has

@@ -1,10 +1,10 @@
 -- A loop over the cells from the bottom up.
-use Rattle.std.proofs.Common.{◌≡◌, ◌⊎◌, inl, inr, ℕ, zero, suc, ◌+◌, ◌^◌, ◌<◌, ◌≤◌, List, [], ◌∷◌, ◌++◌, length, get_or, Option, Some, None, refl, sym, ap, subst, ◌∙◌, arith}
+use Rattle.std.proofs.Common.{◌≡◌, ◌⊎◌, inl, inr, ℕ, zero, suc, ◌+◌, ◌^◌, ◌<◌, ◌≤◌, List, [], ◌∷◌, ◌++◌, length, Option, Some, None, refl, sym, ap, subst, ◌∙◌, arith}
 use Rattle.std.specs.Prelude.{Contains, slice_get}
 use Rattle.std.specs.List.{AllByRecursion}
 use Rattle.std.proofs.lemmas.Int.{ints}
 use Rattle.std.proofs.lemmas.List.{length-append}
-use Rattle.std.proofs.lemmas.Option.{slice_get_within, slice_get_read}
+use Rattle.std.proofs.lemmas.Option.{slice_get_within, same_Some}
 use Rattle.or_geom.specs.declared.shape.Point.{Point}
 use Rattle.or_geom.specs.declared.shape.Rect.{Rect}
 use Rattle.or_geom.specs.declared.shape.Shape.{Shape}
@@ -21,19 +21,15 @@ use Rattle.cell_chains.specs.Hierarchy.{IsCell}
 use Rattle.cell_hierarchy.specs.declared.drawing.Drawing.{Drawing}
 use Rattle.cell_hierarchy.specs.Below.{AreNearLabels}
 use Rattle.cell_hierarchy.specs.Drawings.{IsNearDrawing, IsFlatDrawing, AreFlatDrawings, AreAllCells, reach}
-use Rattle.cell_hierarchy.proofs.BelowLaws.{one_some}
 use Rattle.cell_hierarchy.proofs.CellLaws.{there_at}
 use Rattle.cell_hierarchy.proofs.NearLaws.{further}
-
-pub at_place : {Y : Type 0} (ys : List Y) (i : ℕ) (y : Y) → i < length ys → y ≡ get_or ys i y → slice_get ys i ≡ Some y
-at_place ys i y lt is = slice_get_read ys (length ys) i y refl lt is
 
 pub structure_stands : (structs : List Structure) (cells : List Cell) (k : ℕ) (cell : Cell) → IsCell structs cells k cell → cell.structure < length structs
 structure_stands structs cells k cell is = slice_get_within structs cell.structure is.structure is.stands
 
 pub targets_sized : (structs : List Structure) (cells : List Cell) (k : ℕ) (cell : Cell) → IsCell structs cells k cell → (s : Structure) → slice_get structs cell.structure ≡ Some s → length cell.targets ≡ length s.elements
 targets_sized structs cells k cell is s at =
-    let one : is.structure ≡ s = one_some is.structure s (sym is.stands ∙ at) in
+    let one : is.structure ≡ s = same_Some is.structure s (sym is.stands ∙ at) in
     is.sized ∙ ap (λ (t : Structure). length t.elements) one
 
 near_point : (p : Point) → IsWithin (2 ^ 39) p → IsNearPoint p
@@ -48,7 +44,7 @@ near_rect r w =
 reach_low : (h : ℕ) → h ≤ 32 → reach h ≤ 2 ^ 39
 reach_low h le = omega arith
 
-shapes_near : (ss : List Shape) → ((s : Shape) → Contains ss s → IsReachable s.rect) → AreReachable ss
+pub shapes_near : (ss : List Shape) → ((s : Shape) → Contains ss s → IsReachable s.rect) → AreReachable ss
 shapes_near [] f = tt
 shapes_near (s ∷ ss) f = (f s (contains_first s ss), shapes_near ss (λ t h. f t (contains_later s ss t h)))
 
@@ -78,7 +74,7 @@ record IsLast {Y : Type 0} (ys : List Y) (y : Y) (k : ℕ) (z : Y) : Type 0 wher
   pub is : z ≡ y
 
 after_push : {Y : Type 0} (ys : List Y) (y : Y) (k : ℕ) (z : Y) → slice_get (ys ++ y ∷ []) k ≡ Some z → (slice_get ys k ≡ Some z) ⊎ IsLast ys y k z
-after_push [] y zero z is = inr (record { place = refl; is = one_some z y (sym is) })
+after_push [] y zero z is = inr (record { place = refl; is = same_Some z y (sym is) })
 after_push [] y (suc k) z is = absurd cc
 after_push (x ∷ xs) y zero z is = inl is
 after_push (x ∷ xs) y (suc k) z is = elim (after_push xs y k z is) [ inl h ↦ inl h | inr l ↦ inr (record { place = ap suc l.place; is = l.is }) ]
@@ -89,7 +85,7 @@ drawings_go_on layers structs cells drawings next k cell drawing at sized flat h
   each = λ j other d at_j is_j. elim (after_push drawings drawing j d (ap (λ (l : List Drawing). slice_get l j) (sym is) ∙ is_j)) [
     | inl old ↦ flat.each j other d at_j old
     | inr last ↦
-        let same : other ≡ cell = one_some other cell (sym at_j ∙ (ap (slice_get cells) (last.place ∙ sized) ∙ at)) in
+        let same : other ≡ cell = same_Some other cell (sym at_j ∙ (ap (slice_get cells) (last.place ∙ sized) ∙ at)) in
         subst (λ (c : Cell). IsFlatDrawing layers structs c d) (sym same) (subst (λ (e : Drawing). IsFlatDrawing layers structs cell e) (sym last.is) here)
   ];
 }

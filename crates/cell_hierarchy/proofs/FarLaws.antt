@@ -6,7 +6,7 @@ use Rattle.std.specs.Ordering.{ordering_reverse, is_gt}
 use Rattle.std.specs.declared.cmp.Ordering.{Ordering}
 use Rattle.std.specs.declared.cmp.Ordering.TheVariants.{Less, Equal, Greater}
 use Rattle.std.proofs.lemmas.Cmp.{on_total, then_total, int_cmp_total, upto, tied_itself}
-use Rattle.std.proofs.lemmas.Option.{slice_get_within, slice_get_read, get_or_from_slice_get}
+use Rattle.std.proofs.lemmas.Option.{slice_get_within, get_or_from_slice_get, same_Some, slice_get_read}
 use Rattle.or_geom.specs.declared.shape.Point.{Point}
 use Rattle.or_geom.specs.declared.shape.Shape.{Shape}
 use Rattle.or_geom.proofs.PlaceLaws.{same_point}
@@ -15,7 +15,7 @@ use Rattle.element_drawing.specs.declared.label.OwnLabel.{OwnLabel}
 use Rattle.cell_hierarchy.specs.FlatLists.{point_order}
 use Rattle.cell_hierarchy.specs.Below.{SomeBelow}
 use Rattle.cell_hierarchy.specs.Far.{IsFirst, IsFirstOf, earlier, first_of, lower_left, upper_left, lower_right, upper_right, IsFarAt, IsFarCorner, HasFarCorner, HasFarLabel, IsFarCornerAt, IsFarLabelAt}
-use Rattle.cell_hierarchy.proofs.BelowLaws.{step_to, step_from, one_some}
+use Rattle.cell_hierarchy.proofs.BelowLaws.{step_to, step_from}
 
 pub point_total : IsTotalOrder point_order
 point_total = then_total (on_total (λ (p : Point). p.x) int_cmp_total) (on_total (λ (p : Point). p.y) int_cmp_total)
@@ -124,28 +124,25 @@ first_goes_on At k Here now here next is to from a b =
     first_as (λ p. SomeBelow At k p ⊎ At k p) (SomeBelow At (k + 1)) next (step_to At k) (step_from At k)
     (joined (SomeBelow At k) (At k) now here next is a (first_as Here (At k) here to from b))
 
-at_place : {Y : Type 0} (ys : List Y) (i : ℕ) (y : Y) → i < length ys → y ≡ get_or ys i y → slice_get ys i ≡ Some y
-at_place ys i y lt is = slice_get_read ys (length ys) i y refl lt is
-
 pub corner_goes_on : (shapes : List Shape) (k : ℕ) (shape : Shape) (now here next : Option Point) → k < length shapes → shape ≡ get_or shapes k shape → next ≡ first_of now here
     → IsFirstOf (SomeBelow (IsFarCornerAt shapes) k) now → IsFirstOf (IsFarCorner shape) here → IsFirstOf (SomeBelow (IsFarCornerAt shapes) (k + 1)) next
 corner_goes_on shapes k shape now here next lt is e a b =
-    let stands = at_place shapes k shape lt is in
+    let stands = slice_get_read shapes _ k shape refl lt is in
     first_goes_on (IsFarCornerAt shapes) k (IsFarCorner shape) now here next e (λ p h. record { shape = shape; stands = stands; is = h })
-    (λ p h. subst (λ (s : Shape). IsFarCorner s p) (one_some h.shape shape (sym h.stands ∙ stands)) h.is) a b
+    (λ p h. subst (λ (s : Shape). IsFarCorner s p) (same_Some h.shape shape (sym h.stands ∙ stands)) h.is) a b
 
 pub label_goes_on : (labels : List OwnLabel) (k : ℕ) (label : OwnLabel) (now here next : Option Point) → k < length labels → label ≡ get_or labels k label → next ≡ first_of now here
     → IsFirstOf (SomeBelow (IsFarLabelAt labels) k) now → IsFirstOf (IsFarAt label.at) here → IsFirstOf (SomeBelow (IsFarLabelAt labels) (k + 1)) next
 label_goes_on labels k label now here next lt is e a b =
-    let stands = at_place labels k label lt is in
+    let stands = slice_get_read labels _ k label refl lt is in
     first_goes_on (IsFarLabelAt labels) k (IsFarAt label.at) now here next e (λ p h. record { label = label; stands = stands; is = h })
-    (λ p h. subst (λ (l : OwnLabel). IsFarAt l.at p) (one_some h.label label (sym h.stands ∙ stands)) h.is) a b
+    (λ p h. subst (λ (l : OwnLabel). IsFarAt l.at p) (same_Some h.label label (sym h.stands ∙ stands)) h.is) a b
 
 held : {Y : Type 0} (ys : List Y) (k : ℕ) (y : Y) → slice_get ys k ≡ Some y → Contains ys y
 held ys k y is = (k, slice_get_within ys k y is, get_or_from_slice_get ys k y y is)
 
 stands_at : {Y : Type 0} (ys : List Y) (k : ℕ) (y : Y) → k < length ys → get_or ys k y ≡ y → slice_get ys k ≡ Some y
-stands_at ys k y lt is = at_place ys k y lt (sym is)
+stands_at ys k y lt is = slice_get_read ys _ k y refl lt (sym is)
 
 pub corner_ends : (shapes : List Shape) (k : ℕ) (o : Option Point) → length shapes ≤ k → IsFirstOf (SomeBelow (IsFarCornerAt shapes) k) o → IsFirstOf (HasFarCorner shapes) o
 corner_ends shapes k o le a =

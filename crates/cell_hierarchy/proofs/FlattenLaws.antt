@@ -1,8 +1,9 @@
 -- The flat lists put together.
-use Rattle.std.proofs.Common.{◌≡◌, ◌⊎◌, inl, inr, ℕ, ◌-◌, ◌≤◌, Bool, true, false, ◌&&◌, eqb, List, length, get_or, Some, refl, sym, ap, subst, ◌∙◌, ◌↔◌, arith}
+use Rattle.std.proofs.Common.{◌≡◌, ◌⊎◌, inl, inr, ℕ, ◌-◌, ◌≤◌, true, ◌&&◌, eqb, List, length, get_or, Some, sym, ap, subst, ◌∙◌, ◌↔◌, arith, refl}
 use Rattle.std.specs.Prelude.{Contains, slice_get, IfOk, IfErr, Result, Ok, Err}
 use Rattle.std.specs.Ordering.{is_eq, int_cmp}
-use Rattle.std.proofs.lemmas.Bool.{eqb-true}
+use Rattle.std.proofs.lemmas.Bool.{and_parts, eqb-true}
+use Rattle.std.proofs.lemmas.Option.{same_Some, slice_get_read}
 use Rattle.or_geom.specs.declared.shape.Point.{Point}
 use Rattle.or_geom.specs.declared.shape.Shape.{Shape}
 use Rattle.or_geom.proofs.PlaceLaws.{same_box}
@@ -21,17 +22,11 @@ use Rattle.cell_hierarchy.specs.FlatLists.{AreFlatLists, IsFault, HasFew}
 use Rattle.cell_hierarchy.specs.Drawings.{AreFlatDrawings, AreAllCells}
 use Rattle.cell_hierarchy.specs.Far.{IsFarIn}
 use Rattle.cell_hierarchy.specs.Settled.{IsTopDrawing, AreListsOf, IsFarFault}
-use Rattle.cell_hierarchy.proofs.BelowLaws.{one_some}
-use Rattle.cell_hierarchy.proofs.DrawnLaws.{at_place}
-
-both_true : (a b : Bool) → a && b ≡ true → (a ≡ true) × (b ≡ true)
-both_true true b e = (refl, e)
-both_true false b e = absurd cc
 
 -- shapes that the code finds equal are one
 pub same_shape : (s t : Shape) → (eqb s.layer t.layer && (is_eq (int_cmp s.rect.x1 t.rect.x1) && (is_eq (int_cmp s.rect.y1 t.rect.y1) && (is_eq (int_cmp s.rect.x2 t.rect.x2) && is_eq (int_cmp s.rect.y2 t.rect.y2))))) ≡ true → s ≡ t
 same_shape s t e =
-    let both = both_true (eqb s.layer t.layer) _ e in
+    let both = and_parts (eqb s.layer t.layer) _ e in
     let layer = eqb-true s.layer t.layer both.0 in
     let rect = same_box s.rect t.rect both.1 in
     λ i. record { layer = layer i; rect = rect i }
@@ -55,9 +50,9 @@ pub top_drawn : (layers : List Layer) (structs : List Structure) (top : List ℕ
 top_drawn layers structs top cells drawings last drawing c sized flat e is =
     let count = c.count in
     let same : last ≡ c.before = omega arith in
-    let at = at_place drawings last drawing (omega arith) is in
+    let at = slice_get_read drawings _ last drawing refl (omega arith) is in
     let here = flat.each c.before c.last.cell drawing c.last.is (subst (λ (k : ℕ). slice_get drawings k ≡ Some drawing) same at) in
-    let one : here.structure ≡ c.last.structure = one_some here.structure c.last.structure (sym here.stands ∙ c.last.stands) in
+    let one : here.structure ≡ c.last.structure = same_Some here.structure c.last.structure (sym here.stands ∙ c.last.stands) in
     let named = ap (λ (s : Structure). s.name) one ∙ c.last.named in
     record {
       shapes = subst (λ (n : List ℕ). (s : Shape) → Contains drawing.shapes s ↔ IsFlatShape layers structs n s) named here.shapes;

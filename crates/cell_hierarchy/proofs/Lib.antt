@@ -1,11 +1,11 @@
 mod StepLaws
 mod MovedLaws
-mod BelowLaws
+pub mod BelowLaws
 mod HeldLaws
 mod ChainLaws
 mod NearLaws
 mod CellLaws
-mod DrawnLaws
+pub mod DrawnLaws
 mod FarLaws
 mod CountLaws
 mod FlattenLaws

@@ -7,9 +7,8 @@ use Rattle.or_geom.specs.declared.shape.Point.{Point}
 use Rattle.or_geom.specs.declared.shape.Rect.{Rect}
 use Rattle.or_geom.specs.declared.shape.Shape.{Shape}
 use Rattle.or_geom.specs.declared.place.Place.{Place}
-use Rattle.or_geom.specs.declared.place.Orient.{Orient}
-use Rattle.or_geom.specs.declared.place.Orient.TheVariants.{R0, R90, R180, R270, MX, MX90, MX180, MX270}
 use Rattle.or_geom.specs.Place.{IsWithin, turned, placed, low_corner, high_corner, IsBetween}
+use Rattle.or_geom.proofs.PlaceLaws.{turned_within, plus_within}
 use Rattle.gds_records.specs.Values.{IsShort}
 use Rattle.gds_stream.specs.declared.library.Element.{Element}
 use Rattle.gds_stream.specs.declared.library.Element.TheVariants.{Boundary, Path, Sref, Aref, Text}
@@ -22,21 +21,10 @@ use Rattle.cell_hierarchy.specs.Below.{IsLabelUnder}
 use Rattle.cell_hierarchy.specs.declared.grid.Grid.{Grid}
 use Rattle.cell_hierarchy.proofs.StepLaws.{near_in}
 
-turned_within : (o : Orient) (n : ℕ) (p : Point) → IsWithin n p → IsWithin n (turned o p)
-turned_within R0 n p w = record { x_above = omega (arith, ints); x_below = omega (arith, ints); y_above = omega (arith, ints); y_below = omega (arith, ints) }
-turned_within R90 n p w = record { x_above = omega (arith, ints); x_below = omega (arith, ints); y_above = omega (arith, ints); y_below = omega (arith, ints) }
-turned_within R180 n p w = record { x_above = omega (arith, ints); x_below = omega (arith, ints); y_above = omega (arith, ints); y_below = omega (arith, ints) }
-turned_within R270 n p w = record { x_above = omega (arith, ints); x_below = omega (arith, ints); y_above = omega (arith, ints); y_below = omega (arith, ints) }
-turned_within MX n p w = record { x_above = omega (arith, ints); x_below = omega (arith, ints); y_above = omega (arith, ints); y_below = omega (arith, ints) }
-turned_within MX90 n p w = record { x_above = omega (arith, ints); x_below = omega (arith, ints); y_above = omega (arith, ints); y_below = omega (arith, ints) }
-turned_within MX180 n p w = record { x_above = omega (arith, ints); x_below = omega (arith, ints); y_above = omega (arith, ints); y_below = omega (arith, ints) }
-turned_within MX270 n p w = record { x_above = omega (arith, ints); x_below = omega (arith, ints); y_above = omega (arith, ints); y_below = omega (arith, ints) }
-
-sum_within : (m n : ℕ) (p q : Point) → IsWithin m p → IsWithin n q → IsWithin (m + n) (record { x = p.x +ℤ q.x; y = p.y +ℤ q.y })
-sum_within m n p q v w = record { x_above = omega (arith, ints); x_below = omega (arith, ints); y_above = omega (arith, ints); y_below = omega (arith, ints) }
-
 pub placed_within : (m n : ℕ) (place : Place) (p : Point) → IsWithin m p → IsWithin n place.at → IsWithin (m + n) (placed place p)
-placed_within m n place p v w = sum_within m n (turned place.orient p) place.at (turned_within place.orient m p v) w
+placed_within m n place p v w =
+    let sum : n + m ≡ m + n = omega arith in
+    subst (λ (k : ℕ). IsWithin k (placed place p)) sum (plus_within n m place.at (turned place.orient p) w (turned_within place.orient m p v))
 
 low_within : (n : ℕ) (a b x : ℤ) → x ≡ int_min a b → pos 0 ≤ℤ (a +ℤ pos n) → pos 0 ≤ℤ (b +ℤ pos n) → pos 0 ≤ℤ (x +ℤ pos n)
 low_within n a b x e p q = omega (arith, ints, clamps)

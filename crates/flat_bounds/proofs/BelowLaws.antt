@@ -9,9 +9,10 @@ use Rattle.gds_stream.specs.declared.library.Element.{Element}
 use Rattle.gds_stream.specs.declared.library.Element.TheVariants.{Boundary, Path, Sref, Aref, Text}
 use Rattle.gds_stream.specs.declared.library.Structure.{Structure}
 use Rattle.tech_rules.specs.declared.tech.Layer.{Layer}
-use Rattle.cell_chains.specs.Instances.{Item, HasItem, IsReferenceItem, IsArrayItem, reference_name, array_name, item_place}
+use Rattle.cell_chains.specs.Instances.{Item, HasItem, IsReferenceItem, IsArrayItem}
 use Rattle.cell_chains.specs.Chains.{elements_of, IsItemFrom, IsItemOf}
 use Rattle.cell_counts.specs.Counts.{Total, IsOwnTotal, IsBelow, IsTotalWithin, none, sum, times}
+use Rattle.cell_hierarchy.proofs.BelowLaws.{reference_item, same_item, array_item}
 use Rattle.flat_bounds.proofs.ListedLaws.{IsListed, IsMadeOf, IsAtOneOf, nothing_listed, fewer_listed, number_listed, both_listed, images_listed, places_listed}
 
 -- numbers that a total has, which add up as the total does
@@ -28,9 +29,6 @@ pub record IsBelowItem (X : Type 0) (move : Item → X → X) (Inner : List ℕ 
   pub has : Inner item.cell inner
   pub is : x ≡ move item inner
 
-same_item : (a b : Item) → a.name ≡ b.name → a.cell ≡ b.cell → a.place ≡ b.place → a ≡ b
-same_item a b name cell place = λ i. record { name = name i; cell = cell i; place = place i }
-
 -- below one item stands what it makes of its structure's things
 made_of : (X : Type 0) (move : Item → X → X) (Inner : List ℕ → X → Type 0) (item it : Item) (inner x : X) → item ≡ it → Inner item.cell inner → x ≡ move item inner
     → IsMadeOf X (move it) (Inner it.cell) x
@@ -40,9 +38,6 @@ made_of X move Inner item it inner x same has is = record {
   is = is ∙ ap (λ (i : Item). move i inner) same;
 }
 
-abbrev reference_item : ℕ → List ℕ → Place → List Prop → Item
-reference_item n name place props = record { name = reference_name n props; cell = name; place = place }
-
 below_reference : (X : Type 0) (move : Item → X → X) (Inner : List ℕ → X → Type 0) (n : ℕ) (name : List ℕ) (place : Place) (props : List Prop) (number : ℕ)
     → IsListed X number (Inner name) → IsListed X number (IsBelowItem X move Inner (IsReferenceItem n name place props))
 below_reference X move Inner n name place props number l =
@@ -50,9 +45,6 @@ below_reference X move Inner n name place props number l =
     fewer_listed X number (IsMadeOf X (move it) (Inner name)) (IsBelowItem X move Inner (IsReferenceItem n name place props))
     (λ x h. made_of X move Inner h.item it h.inner x (same_item h.item it h.among.named h.among.cell h.among.placed) h.has h.is)
     (images_listed X number (move it) (Inner name) l)
-
-abbrev array_item : ℕ → List ℕ → Place → Point → Point → ℕ → ℕ → Item
-array_item n name place across down column row = record { name = array_name n column row; cell = name; place = item_place place column row across down }
 
 below_count : (n : ℕ) (z : ℤ) → pos n <ℤ z → n < nat_abs z
 below_count n (pos m) lt = omega (arith, ints)

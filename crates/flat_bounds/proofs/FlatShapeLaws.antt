@@ -1,8 +1,7 @@
 -- Flat lists have no more shapes than stand below their structure.
-use Rattle.std.proofs.Common.{◌≡◌, ℕ, ℤ, List, [], ◌∷◌, map, length, Bool, true, false, cond, refl, sym, subst, ◌∙◌, arith}
+use Rattle.std.proofs.Common.{◌≡◌, ℕ, ℤ, List, [], ◌∷◌, map, length, refl, sym, subst, ◌∙◌, arith}
 use Rattle.std.specs.Prelude.{Contains}
 use Rattle.std.specs.Int.{int_max, int_min}
-use Rattle.std.specs.Str.{bytes_eq}
 use Rattle.std.specs.Cmp.{IsTotalOrder, on_total, then_total, nat_cmp_total, int_cmp_total}
 use Rattle.std.specs.Ordering.{ordering_then, int_cmp, nat_cmp}
 use Rattle.std.specs.List.{AllByRecursion}
@@ -12,13 +11,13 @@ use Rattle.std.proofs.lemmas.List.{length-map}
 use Rattle.or_geom.specs.declared.shape.Point.{Point}
 use Rattle.or_geom.specs.declared.shape.Shape.{Shape}
 use Rattle.or_geom.specs.Place.{placed}
-use Rattle.gds_stream.specs.declared.library.Element.{Element}
 use Rattle.gds_stream.specs.declared.library.Structure.{Structure}
-use Rattle.gds_stream.specs.Writable.{IsWritableElement, IsWritableCell}
+use Rattle.gds_stream.specs.Writable.{IsWritableCell}
 use Rattle.tech_rules.specs.declared.tech.Layer.{Layer}
 use Rattle.ordered_set.specs.ShapeOrder.{shape_order}
 use Rattle.cell_chains.specs.Instances.{Item}
 use Rattle.cell_chains.specs.Chains.{elements_of, IsChain, IsItemOf}
+use Rattle.cell_chains.proofs.ChainLaws.{writable_elements}
 use Rattle.cell_counts.specs.OneSet.{AreOneSet}
 use Rattle.cell_counts.specs.Counts.{Total, IsOwnTotal}
 use Rattle.cell_hierarchy.specs.FlatSet.{IsShapeBy, IsOwnShape}
@@ -59,14 +58,6 @@ moved_numbers item n =
 
 same_numbers : (m n : Numbers) → m.layer ≡ n.layer → m.x1 ≡ n.x1 → m.y1 ≡ n.y1 → m.x2 ≡ n.x2 → m.y2 ≡ n.y2 → m ≡ n
 same_numbers m n layer x1 y1 x2 y2 = λ i. record { layer = layer i; x1 = x1 i; y1 = y1 i; x2 = x2 i; y2 = y2 i }
-
-writable_one_of : (here : Bool) (xs ys : List Element) → AllByRecursion IsWritableElement xs → AllByRecursion IsWritableElement ys → AllByRecursion IsWritableElement (cond here xs ys)
-writable_one_of true xs ys a b = a
-writable_one_of false xs ys a b = b
-
-writable_elements : (structs : List Structure) (name : List ℕ) → AllByRecursion IsWritableCell structs → AllByRecursion IsWritableElement (elements_of structs name)
-writable_elements [] name w = tt
-writable_elements (s ∷ ss) name w = writable_one_of (bytes_eq s.name name) s.elements (elements_of ss name) w.0.elements (writable_elements ss name w.1)
 
 own_numbers : AreOneSet → (layers : List Layer) (structs : List Structure) → AllByRecursion IsWritableCell structs → (name : List ℕ) (total : Total) → IsOwnTotal layers (elements_of structs name) total
     → IsListed Numbers total.shapes (IsNumbersBy layers structs name [])

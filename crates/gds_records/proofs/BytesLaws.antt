@@ -1,6 +1,7 @@
 -- The records of some bytes, one after the other.
 use Rattle.std.proofs.Common.{◌≡◌, ℕ, zero, suc, ◌+◌, ◌-◌, ◌*◌, ◌%◌, ◌<◌, ◌≤◌, List, [], ◌∷◌, length, take, drop, Bool, true, false, cond, ◌&&◌, leb, eqb, Option, Some, None, Result, Err, refl, sym, ap, subst, ◌∙◌, arith}
 use Rattle.std.proofs.lemmas.List.{length-drop, length-take}
+use Rattle.std.proofs.lemmas.Option.{same_Some}
 use borrow.Author.Tests.{leb-true}
 use Rattle.gds_records.specs.Record.{Entry, entry_of}
 use Rattle.gds_records.specs.Bytes.{cut, broken_entry, entries_more, entries_at, entries_of, byte_length, size_of, Fails}
@@ -20,22 +21,19 @@ whole_divides : (code size : ℕ) (a b c d : ℕ) (rest : List ℕ) → 4 ≤ si
 whole_divides code size a b c d rest low high =
     record { sum = omega (arith, length-drop (size - 4) rest, length-take (size - 4) rest); some = omega arith }
 
-some_same : {A : Type 0} (x y : A) → Some x ≡ Some y → x ≡ y
-some_same x y is = cc
-
 pick : (bytes : List ℕ) (x y p : Entry × List ℕ) (low even high : Bool) → cond (low && (even && high)) (Some x) (Some y) ≡ Some p
     → (low ≡ true → high ≡ true → Divides bytes x) → Divides bytes y → Divides bytes p
-pick bytes x y p false even high is f g = subst (Divides bytes) (some_same y p is) g
-pick bytes x y p true false high is f g = subst (Divides bytes) (some_same y p is) g
-pick bytes x y p true true false is f g = subst (Divides bytes) (some_same y p is) g
-pick bytes x y p true true true is f g = subst (Divides bytes) (some_same x p is) (f refl refl)
+pick bytes x y p false even high is f g = subst (Divides bytes) (same_Some y p is) g
+pick bytes x y p true false high is f g = subst (Divides bytes) (same_Some y p is) g
+pick bytes x y p true true false is f g = subst (Divides bytes) (same_Some y p is) g
+pick bytes x y p true true true is f g = subst (Divides bytes) (same_Some x p is) (f refl refl)
 
 divides : (bytes : List ℕ) (p : Entry × List ℕ) → cut bytes ≡ Some p → Divides bytes p
 unfolding cut
 divides [] p is = absurd cc
-divides (a ∷ []) p is = subst (Divides (a ∷ [])) (some_same _ p is) (broken_divides a [])
-divides (a ∷ b ∷ []) p is = subst (Divides (a ∷ b ∷ [])) (some_same _ p is) (broken_divides a (b ∷ []))
-divides (a ∷ b ∷ c ∷ []) p is = subst (Divides (a ∷ b ∷ c ∷ [])) (some_same _ p is) (broken_divides a (b ∷ c ∷ []))
+divides (a ∷ []) p is = subst (Divides (a ∷ [])) (same_Some _ p is) (broken_divides a [])
+divides (a ∷ b ∷ []) p is = subst (Divides (a ∷ b ∷ [])) (same_Some _ p is) (broken_divides a (b ∷ []))
+divides (a ∷ b ∷ c ∷ []) p is = subst (Divides (a ∷ b ∷ c ∷ [])) (same_Some _ p is) (broken_divides a (b ∷ c ∷ []))
 divides (a ∷ b ∷ c ∷ d ∷ rest) p is =
     pick (a ∷ b ∷ c ∷ d ∷ rest) _ _ p (leb 4 (256 * a + b)) (eqb (b % 2) 0) (leb (256 * a + b) (length rest + 4)) is
     (λ low high. whole_divides (256 * c + d) (256 * a + b) a b c d rest (leb-true _ _ low) (leb-true _ _ high))

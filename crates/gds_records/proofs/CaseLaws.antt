@@ -1,17 +1,14 @@
 -- Parts that are told apart by their first record, and other forms of their values.
-use Rattle.std.proofs.Common.{◌≡◌, ◌⊎◌, inl, inr, ℕ, zero, suc, ◌+◌, ◌<◌, ◌≤◌, List, [], ◌∷◌, ◌++◌, length, Bool, true, false, eqb, Some, Result, Ok, Err, refl, sym, ap, subst, ◌∙◌, append_assoc, arith, cond}
+use Rattle.std.proofs.Common.{◌≡◌, ◌⊎◌, inl, inr, ℕ, ◌≤◌, List, [], ◌∷◌, ◌++◌, length, Bool, true, false, eqb, Result, Ok, Err, refl, sym, ap, subst, ◌∙◌, cond}
 use Rattle.std.proofs.lemmas.Bool.{eqb-true, eq-eqb}
-use Rattle.std.proofs.lemmas.List.{length-append}
-use Rattle.gds_records.specs.Record.{Entry, entry_of, is_formed, AreFormed}
-use Rattle.gds_records.specs.Part.{through, Rest, Judge, Part, ◌▸◌, value, any, maybe, each_after}
-use Rattle.gds_records.specs.declared.stop.Demand.{Demand}
-use Rattle.gds_records.specs.declared.stop.Demand.TheVariants.{Plain}
+use Rattle.gds_records.specs.Record.{Entry}
+use Rattle.gds_records.specs.Part.{through, Rest, Judge, Part}
 use Rattle.gds_records.specs.declared.stop.Fault.{Fault}
 use Rattle.gds_records.specs.declared.stop.Fault.TheVariants.{BadRecord, NotInPlace, Unmet}
 use Rattle.gds_records.specs.declared.stop.Stop.{Stop}
 use Rattle.gds_records.specs.declared.stop.Stop.TheVariants.{Short, At, Memory}
-use Rattle.gds_records.specs.Reading.{Reader, Taking, with_value, meant_at, value_at, any_at, as_value, fork_at, then_at, done_at, until_at, past, next_at, skip_at, same, taken_at, maybe_at}
-use Rattle.gds_records.proofs.PartLaws.{Begins, Any, Without, IsDead, Counts, Why, IsStop, IsTaken, room, IsPart, with_ok, with_err, Valued, value_part}
+use Rattle.gds_records.specs.Reading.{Reader, as_value, fork_at}
+use Rattle.gds_records.proofs.PartLaws.{Begins, Any, Without, IsDead, Counts, Why, IsStop, IsTaken, room, IsPart}
 
 -- A is P where the list is good, which its first record decides
 pub record IsCase {X Z : Type 0} (Good : List Entry → Type 0) (i : X → Z) (A : X → Part) (P : Z → Part) : Type 1 where

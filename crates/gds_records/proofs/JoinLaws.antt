@@ -1,16 +1,15 @@
 -- Parts that are made of others, one after the other.
-use Rattle.std.proofs.Common.{◌≡◌, ◌⊎◌, inl, inr, ℕ, zero, suc, ◌+◌, ◌<◌, ◌≤◌, List, [], ◌∷◌, ◌++◌, length, Bool, true, false, eqb, Some, Result, Ok, Err, refl, sym, ap, subst, ◌∙◌, append_assoc, arith, cond}
-use Rattle.std.proofs.lemmas.Bool.{eqb-true, eq-eqb}
+use Rattle.std.proofs.Common.{◌≡◌, ◌⊎◌, inl, inr, ℕ, ◌+◌, ◌≤◌, List, [], ◌∷◌, ◌++◌, length, Bool, true, false, eqb, Some, Result, Ok, Err, refl, sym, ap, subst, ◌∙◌, append_assoc, arith, cond}
 use Rattle.std.proofs.lemmas.List.{length-append}
 use Rattle.gds_records.specs.Record.{Entry, entry_of, is_formed, AreFormed}
-use Rattle.gds_records.specs.Part.{through, Rest, Judge, Part, ◌▸◌, value, any, maybe, each_after}
+use Rattle.gds_records.specs.Part.{Rest, Judge, Part, ◌▸◌, value, any, maybe}
 use Rattle.gds_records.specs.declared.stop.Demand.{Demand}
 use Rattle.gds_records.specs.declared.stop.Demand.TheVariants.{Plain}
 use Rattle.gds_records.specs.declared.stop.Fault.{Fault}
 use Rattle.gds_records.specs.declared.stop.Fault.TheVariants.{BadRecord, NotInPlace, Unmet}
 use Rattle.gds_records.specs.declared.stop.Stop.{Stop}
 use Rattle.gds_records.specs.declared.stop.Stop.TheVariants.{Short, At, Memory}
-use Rattle.gds_records.specs.Reading.{Reader, Taking, with_value, meant_at, value_at, any_at, as_value, fork_at, then_at, done_at, until_at, past, next_at, skip_at, same, taken_at, maybe_at}
+use Rattle.gds_records.specs.Reading.{Reader, Taking, with_value, meant_at, value_at, any_at, as_value, fork_at, then_at, done_at, past, next_at, skip_at, same, taken_at, maybe_at}
 use Rattle.gds_records.proofs.PartLaws.{Begins, Any, Without, IsDead, Counts, Why, IsStop, IsTaken, room, IsPart, with_ok, with_err, Valued, value_part}
 use Rattle.gds_records.proofs.CaseLaws.{Heads, Others, fork_part, heads_carry, others_carry, same_part}
 
@@ -142,7 +141,7 @@ as_second : {X Y : Type 0} (x : X) (r : Result (Y × List Entry) Stop) → as_va
 as_second x (Ok r) = refl
 as_second x (Err s) = refl
 
-as_same : {X : Type 0} (r : Result (X × List Entry) Stop) → as_value same r ≡ r
+pub as_same : {X : Type 0} (r : Result (X × List Entry) Stop) → as_value same r ≡ r
 as_same (Ok r) = refl
 as_same (Err s) = refl
 

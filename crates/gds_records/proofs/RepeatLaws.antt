@@ -1,17 +1,14 @@
 -- Items one after the other, up to a record.
-use Rattle.std.proofs.Common.{◌≡◌, ◌⊎◌, inl, inr, ℕ, zero, suc, ◌+◌, ◌<◌, ◌≤◌, List, [], ◌∷◌, ◌++◌, length, Bool, true, false, eqb, Some, Result, Ok, Err, refl, sym, ap, subst, ◌∙◌, append_assoc, arith, cond}
-use Rattle.std.proofs.lemmas.Bool.{eqb-true, eq-eqb}
+use Rattle.std.proofs.Common.{◌≡◌, inl, inr, ℕ, zero, suc, ◌+◌, ◌<◌, ◌≤◌, List, [], ◌∷◌, ◌++◌, length, true, eqb, Ok, Err, refl, ap, subst, arith}
+use Rattle.std.proofs.lemmas.Bool.{eqb-true}
 use Rattle.std.proofs.lemmas.List.{length-append}
-use Rattle.gds_records.specs.Record.{Entry, entry_of, is_formed, AreFormed}
-use Rattle.gds_records.specs.Part.{through, Rest, Judge, Part, ◌▸◌, value, any, maybe, each_after}
-use Rattle.gds_records.specs.declared.stop.Demand.{Demand}
+use Rattle.gds_records.specs.Record.{Entry}
+use Rattle.gds_records.specs.Part.{Rest, Judge, Part, ◌▸◌, any, each_after}
 use Rattle.gds_records.specs.declared.stop.Demand.TheVariants.{Plain}
-use Rattle.gds_records.specs.declared.stop.Fault.{Fault}
-use Rattle.gds_records.specs.declared.stop.Fault.TheVariants.{BadRecord, NotInPlace, Unmet}
 use Rattle.gds_records.specs.declared.stop.Stop.{Stop}
-use Rattle.gds_records.specs.declared.stop.Stop.TheVariants.{Short, At, Memory}
-use Rattle.gds_records.specs.Reading.{Reader, Taking, with_value, meant_at, value_at, any_at, as_value, fork_at, then_at, done_at, until_at, past, next_at, skip_at, same, taken_at, maybe_at}
-use Rattle.gds_records.proofs.PartLaws.{Begins, Any, Without, IsDead, Counts, Why, IsStop, IsTaken, room, IsPart, with_ok, with_err, Valued, value_part}
+use Rattle.gds_records.specs.declared.stop.Stop.TheVariants.{Short}
+use Rattle.gds_records.specs.Reading.{Reader, any_at, as_value, then_at, done_at, until_at}
+use Rattle.gds_records.proofs.PartLaws.{Begins, Any, IsDead, IsStop, IsTaken, room, IsPart}
 use Rattle.gds_records.proofs.CaseLaws.{IsCase, as_ok, as_err, case_begins, case_taken, case_stops, Heads, Others, heads_carry, others_carry, picked, not_code}
 use Rattle.gds_records.proofs.JoinLaws.{Joined, join_taken, join_stops_first, join_stops_second, Leaf, leaf_part, HasForm, Nothing, any_part, AreOther, other_others, other_heads, value_heads, heads_others, then_ok, then_err}
 

@@ -1,7 +1,8 @@
 -- Bytes and their records: what a part takes off the records, it takes off the bytes.
 use Rattle.std.proofs.Common.{◌≡◌, ◌⊎◌, inl, inr, ℕ, zero, suc, ◌+◌, ◌-◌, ◌*◌, ◌/◌, ◌%◌, ◌<◌, ◌≤◌, List, [], ◌∷◌, ◌++◌, length, take, drop, Bool, true, false, cond, ◌&&◌, leb, eqb, Option, Some, None, refl, sym, ap, subst, ◌∙◌, append_assoc, arith}
 use Rattle.std.proofs.lemmas.List.{length-take, take-append-drop, length-append}
-use Rattle.std.proofs.lemmas.Bool.{eqb-true, eq-eqb, le-leb}
+use Rattle.std.proofs.lemmas.Bool.{eqb-true, eq-eqb, le-leb, and_parts, lt-leb}
+use Rattle.std.proofs.lemmas.Option.{same_Some}
 use Rattle.std.proofs.Math.Seq.{drop-append_seam, take-append_seam}
 use Rattle.std.specs.List.{list_all}
 use borrow.Author.Tests.{leb-true, leb-false}
@@ -24,15 +25,12 @@ two_back n a b is small = (omega arith, omega arith)
 abbrev Rebuilds : List ℕ → Entry × List ℕ → Type 0
 Rebuilds bytes p = entry_bytes p.0 ++ p.1 ≡ bytes
 
-some_same : {A : Type 0} (x y : A) → Some x ≡ Some y → x ≡ y
-some_same x y is = cc
-
 pick : (bytes : List ℕ) (x y p : Entry × List ℕ) (low even high : Bool) → cond (low && (even && high)) (Some x) (Some y) ≡ Some p
     → (low ≡ true → high ≡ true → Rebuilds bytes x) → Rebuilds bytes y → Rebuilds bytes p
-pick bytes x y p false even high is f g = subst (Rebuilds bytes) (some_same y p is) g
-pick bytes x y p true false high is f g = subst (Rebuilds bytes) (some_same y p is) g
-pick bytes x y p true true false is f g = subst (Rebuilds bytes) (some_same y p is) g
-pick bytes x y p true true true is f g = subst (Rebuilds bytes) (some_same x p is) (f refl refl)
+pick bytes x y p false even high is f g = subst (Rebuilds bytes) (same_Some y p is) g
+pick bytes x y p true false high is f g = subst (Rebuilds bytes) (same_Some y p is) g
+pick bytes x y p true true false is f g = subst (Rebuilds bytes) (same_Some y p is) g
+pick bytes x y p true true true is f g = subst (Rebuilds bytes) (same_Some x p is) (f refl refl)
 
 append-nil : (xs : List ℕ) → xs ++ [] ≡ xs
 append-nil [] = refl
@@ -50,9 +48,9 @@ whole_rebuilds a b c d rest small tiny low high =
 rebuild : (bytes : List ℕ) (p : Entry × List ℕ) → AreBytes bytes → cut bytes ≡ Some p → Rebuilds bytes p
 unfolding cut
 rebuild [] p are is = absurd cc
-rebuild (a ∷ []) p are is = subst (Rebuilds (a ∷ [])) (some_same _ p is) refl
-rebuild (a ∷ b ∷ []) p are is = subst (Rebuilds (a ∷ b ∷ [])) (some_same _ p is) refl
-rebuild (a ∷ b ∷ c ∷ []) p are is = subst (Rebuilds (a ∷ b ∷ c ∷ [])) (some_same _ p is) refl
+rebuild (a ∷ []) p are is = subst (Rebuilds (a ∷ [])) (same_Some _ p is) refl
+rebuild (a ∷ b ∷ []) p are is = subst (Rebuilds (a ∷ b ∷ [])) (same_Some _ p is) refl
+rebuild (a ∷ b ∷ c ∷ []) p are is = subst (Rebuilds (a ∷ b ∷ c ∷ [])) (same_Some _ p is) refl
 rebuild (a ∷ b ∷ c ∷ d ∷ rest) p are is =
     pick (a ∷ b ∷ c ∷ d ∷ rest) _ _ p (leb 4 (256 * a + b)) (eqb (b % 2) 0) (leb (256 * a + b) (length rest + 4)) is
     (λ low high. whole_rebuilds a b c d rest are.1.0 are.1.1.1.0 (leb-true _ _ low) (leb-true _ _ high))
@@ -117,20 +115,16 @@ is_even_form Text = true
 is_even_form Even = true
 is_even_form Unknown = true
 
-and_true : (a b : Bool) → (a && b) ≡ true → (a ≡ true) × (b ≡ true)
-and_true true b is = (refl, is)
-and_true false b is = absurd cc
-
 even_has : (f : Form) (content : List ℕ) → is_even_form f ≡ true → has_form f content ≡ true → length content % 2 ≡ 0
 even_has (Sized n) content even is =
     let size : length content ≡ n = eqb-true (length content) n is in
     let half : n % 2 ≡ 0 = eqb-true (n % 2) 0 even in
     ap (λ m. m % 2) size ∙ half
 even_has Points content even is =
-    let both = and_true (leb 8 (length content)) (eqb (length content % 8) 0) is in
+    let both = and_parts (leb 8 (length content)) (eqb (length content % 8) 0) is in
     let h : length content % 8 ≡ 0 = eqb-true (length content % 8) 0 both.1 in
     omega (arith, h)
-even_has Text content even is = eqb-true (length content % 2) 0 (and_true _ _ is).0
+even_has Text content even is = eqb-true (length content % 2) 0 (and_parts _ _ is).0
 even_has Even content even is = eqb-true (length content % 2) 0 is
 even_has Unknown content even is = absurd cc
 
@@ -141,12 +135,12 @@ even_choice false f g h k = k
 even_rows : (code : ℕ) (rows : List (ℕ × Form)) → list_all (λ (row : ℕ × Form). is_even_form row.1) rows ≡ true → is_even_form (form_in code rows) ≡ true
 even_rows code [] all = refl
 even_rows code (row ∷ rows) all =
-    let both = and_true (is_even_form row.1) (list_all (λ (row : ℕ × Form). is_even_form row.1) rows) all in
+    let both = and_parts (is_even_form row.1) (list_all (λ (row : ℕ × Form). is_even_form row.1) rows) all in
     even_choice (eqb row.0 code) row.1 (form_in code rows) both.0 (even_rows code rows both.1)
 
 formed_even : (e : Entry) → is_formed e ≡ true → length e.content % 2 ≡ 0
 unfolding is_formed
-formed_even e is = even_has (form_of e.code) e.content (even_rows e.code record_table refl) (and_true _ _ is).1
+formed_even e is = even_has (form_of e.code) e.content (even_rows e.code record_table refl) (and_parts _ _ is).1
 
 -- a whole record is cut off
 cut_whole : (code : ℕ) (content rest : List ℕ) → length content % 2 ≡ 0 → cut (record_bytes (entry_of true code content) ++ rest) ≡ Some (entry_of true code content, rest)
@@ -180,33 +174,27 @@ IsAll bytes p = p.0.whole ≡ false → p.0.content ≡ bytes
 
 all_of : (bytes : List ℕ) (code : ℕ) (content rest : List ℕ) (y p : Entry × List ℕ) (low even high : Bool)
     → cond (low && (even && high)) (Some (entry_of true code content, rest)) (Some y) ≡ Some p → IsAll bytes y → IsAll bytes p
-all_of bytes code content rest y p false even high is g = subst (IsAll bytes) (some_same y p is) g
-all_of bytes code content rest y p true false high is g = subst (IsAll bytes) (some_same y p is) g
-all_of bytes code content rest y p true true false is g = subst (IsAll bytes) (some_same y p is) g
-all_of bytes code content rest y p true true true is g = subst (IsAll bytes) (some_same (entry_of true code content, rest) p is) (λ w. absurd cc)
+all_of bytes code content rest y p false even high is g = subst (IsAll bytes) (same_Some y p is) g
+all_of bytes code content rest y p true false high is g = subst (IsAll bytes) (same_Some y p is) g
+all_of bytes code content rest y p true true false is g = subst (IsAll bytes) (same_Some y p is) g
+all_of bytes code content rest y p true true true is g = subst (IsAll bytes) (same_Some (entry_of true code content, rest) p is) (λ w. absurd cc)
 
 broken_is_all : (bytes : List ℕ) (p : Entry × List ℕ) → cut bytes ≡ Some p → IsAll bytes p
 unfolding cut
 broken_is_all [] p is = absurd cc
-broken_is_all (a ∷ []) p is = subst (IsAll (a ∷ [])) (some_same _ p is) (λ w. refl)
-broken_is_all (a ∷ b ∷ []) p is = subst (IsAll (a ∷ b ∷ [])) (some_same _ p is) (λ w. refl)
-broken_is_all (a ∷ b ∷ c ∷ []) p is = subst (IsAll (a ∷ b ∷ c ∷ [])) (some_same _ p is) (λ w. refl)
+broken_is_all (a ∷ []) p is = subst (IsAll (a ∷ [])) (same_Some _ p is) (λ w. refl)
+broken_is_all (a ∷ b ∷ []) p is = subst (IsAll (a ∷ b ∷ [])) (same_Some _ p is) (λ w. refl)
+broken_is_all (a ∷ b ∷ c ∷ []) p is = subst (IsAll (a ∷ b ∷ c ∷ [])) (same_Some _ p is) (λ w. refl)
 broken_is_all (a ∷ b ∷ c ∷ d ∷ rest) p is =
     all_of (a ∷ b ∷ c ∷ d ∷ rest) _ _ _ _ p (leb 4 (256 * a + b)) (eqb (b % 2) 0) (leb (256 * a + b) (length rest + 4)) is (λ w. refl)
 
 -- zero bytes can't be cut
-not_le : (m n : ℕ) → n < m → leb m n ≡ false
-not_le m n lt = elim (leb m n) as (λ b. leb m n ≡ b → leb m n ≡ false) [
-  | true ↦ λ is. absurd (let h = leb-true m n is in omega (arith, h))
-  | false ↦ λ is. is
-] refl
-
 zero_cut : (z : ℕ) (zs : List ℕ) → AreZero (z ∷ zs) → cut (z ∷ zs) ≡ Some (broken_entry (z ∷ zs), [])
 unfolding cut
 zero_cut z [] h = refl
 zero_cut z (y ∷ []) h = refl
 zero_cut z (y ∷ x ∷ []) h = refl
-zero_cut z (y ∷ x ∷ w ∷ zs) h = let low : leb 4 (256 * z + y) ≡ false = not_le 4 (256 * z + y) (omega (arith, h.0, h.1.0)) in rw low refl
+zero_cut z (y ∷ x ∷ w ∷ zs) h = let low : leb 4 (256 * z + y) ≡ false = lt-leb 4 (256 * z + y) (omega (arith, h.0, h.1.0)) in rw low refl
 
 tail_same : (x y : Entry) (xs ys : List Entry) → ◌≡◌ {A = List Entry} (x ∷ xs) (y ∷ ys) → xs ≡ ys
 tail_same x y xs ys is = cc
@@ -282,10 +270,10 @@ first_broken b bytes why = record { code = λ le. refl; whole = λ w. absurd cc;
 first_at : (bytes : List ℕ) (x y p : Entry × List ℕ) (low even high : Bool) → cond (low && (even && high)) (Some x) (Some y) ≡ Some p
     → (low ≡ true → even ≡ true → high ≡ true → IsFirst bytes x.0 x.1) → (low ≡ false → IsFirst bytes y.0 y.1) → (even ≡ false → IsFirst bytes y.0 y.1) → (high ≡ false → IsFirst bytes y.0 y.1)
     → IsFirst bytes p.0 p.1
-first_at bytes x y p false even high is f g h k = subst (λ (q : Entry × List ℕ). IsFirst bytes q.0 q.1) (some_same y p is) (g refl)
-first_at bytes x y p true false high is f g h k = subst (λ (q : Entry × List ℕ). IsFirst bytes q.0 q.1) (some_same y p is) (h refl)
-first_at bytes x y p true true false is f g h k = subst (λ (q : Entry × List ℕ). IsFirst bytes q.0 q.1) (some_same y p is) (k refl)
-first_at bytes x y p true true true is f g h k = subst (λ (q : Entry × List ℕ). IsFirst bytes q.0 q.1) (some_same x p is) (f refl refl refl)
+first_at bytes x y p false even high is f g h k = subst (λ (q : Entry × List ℕ). IsFirst bytes q.0 q.1) (same_Some y p is) (g refl)
+first_at bytes x y p true false high is f g h k = subst (λ (q : Entry × List ℕ). IsFirst bytes q.0 q.1) (same_Some y p is) (h refl)
+first_at bytes x y p true true false is f g h k = subst (λ (q : Entry × List ℕ). IsFirst bytes q.0 q.1) (same_Some y p is) (k refl)
+first_at bytes x y p true true true is f g h k = subst (λ (q : Entry × List ℕ). IsFirst bytes q.0 q.1) (same_Some x p is) (f refl refl refl)
 
 above : (m n : ℕ) → leb m n ≡ false → n < m
 above m n is = leb-false m n is
@@ -293,10 +281,10 @@ above m n is = leb-false m n is
 pub first_of : (rest : List ℕ) (e : Entry) (after : List ℕ) → AreBytes rest → cut rest ≡ Some (e, after) → IsFirst rest e after
 unfolding cut
 first_of [] e after are is = absurd cc
-first_of (a ∷ []) e after are is = subst (λ (q : Entry × List ℕ). IsFirst (a ∷ []) q.0 q.1) (some_same _ (e, after) is) (first_broken a [] (inl (omega arith)))
-first_of (a ∷ b ∷ []) e after are is = subst (λ (q : Entry × List ℕ). IsFirst (a ∷ b ∷ []) q.0 q.1) (some_same _ (e, after) is) (first_broken a (b ∷ []) (inl (omega arith)))
+first_of (a ∷ []) e after are is = subst (λ (q : Entry × List ℕ). IsFirst (a ∷ []) q.0 q.1) (same_Some _ (e, after) is) (first_broken a [] (inl (omega arith)))
+first_of (a ∷ b ∷ []) e after are is = subst (λ (q : Entry × List ℕ). IsFirst (a ∷ b ∷ []) q.0 q.1) (same_Some _ (e, after) is) (first_broken a (b ∷ []) (inl (omega arith)))
 first_of (a ∷ b ∷ c ∷ []) e after are is =
-    subst (λ (q : Entry × List ℕ). IsFirst (a ∷ b ∷ c ∷ []) q.0 q.1) (some_same _ (e, after) is) (first_broken a (b ∷ c ∷ []) (inl (omega arith)))
+    subst (λ (q : Entry × List ℕ). IsFirst (a ∷ b ∷ c ∷ []) q.0 q.1) (same_Some _ (e, after) is) (first_broken a (b ∷ c ∷ []) (inl (omega arith)))
 first_of (a ∷ b ∷ c ∷ d ∷ rest) e after are is =
     first_at (a ∷ b ∷ c ∷ d ∷ rest) _ _ (e, after) (leb 4 (256 * a + b)) (eqb (b % 2) 0) (leb (256 * a + b) (length rest + 4)) is
     (λ low even high. record {

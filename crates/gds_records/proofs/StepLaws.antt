@@ -8,7 +8,7 @@ use Rattle.gds_records.specs.declared.code.TheConstants.{ELFLAGS, PLEX}
 use Rattle.gds_records.specs.Reading.{Reader, Taking, as_value, value_at, any_at, maybe_at, fork_at, refuse_at, value_or, same, has_next, next_at, skip_at, taken_at, with_value, then_at, past, refusal, done_at, or_at, bar_at, begin_at}
 use Rattle.gds_records.proofs.PartLaws.{IsPart, IsMeaning, Begins, Without, Valued, value_part}
 use Rattle.gds_records.proofs.CaseLaws.{same_part, Heads, Others, heads_carry, others_carry, fork_part}
-use Rattle.gds_records.proofs.JoinLaws.{equal_part, HasForm, any_part, AreOther, Leaf, leaf_part, other_others, other_heads, heads_others, maybe_part, value_heads, Joined}
+use Rattle.gds_records.proofs.JoinLaws.{equal_part, HasForm, any_part, AreOther, Leaf, leaf_part, other_others, other_heads, heads_others, maybe_part, value_heads, Joined, as_same}
 use Rattle.gds_records.proofs.ChoiceLaws.{optional_part, maybe_other, heads_other}
 use Rattle.gds_records.proofs.RefuseLaws.{Refusing, refuse_part}
 
@@ -19,10 +19,6 @@ with_as x (Err s) = refl
 pub as_as : {X Y Z : Type 0} (f : Y → Z) (g : X → Y) (r : Result (X × List Entry) Stop) → as_value f (as_value g r) ≡ as_value (λ x. f (g x)) r
 as_as f g (Ok r) = refl
 as_as f g (Err s) = refl
-
-pub as_same : {X : Type 0} (r : Result (X × List Entry) Stop) → as_value same r ≡ r
-as_same (Ok r) = refl
-as_same (Err s) = refl
 
 pub past_past : {X Y Z : Type 0} (r : Result (X × List Entry) Stop) (f : Reader Y) (q : Reader Z) → past (past r f) q ≡ past r (λ rs. past (f rs) q)
 past_past (Ok r) f q = refl

@@ -2,7 +2,8 @@
 use Rattle.std.proofs.Common.{◌≡◌, ◌⊎◌, inl, inr, ℕ, suc, ◌-◌, ◌%◌, ◌<◌, ◌≤◌, ◌^◌, List, [], ◌∷◌, length, ℤ, pos, negsuc, ◌≤ℤ◌, Bool, true, false, cond, ◌&&◌, eqb, ltb, Some, None, refl, ap, subst, ◌∙◌, arith, int_rem, int_le}
 use Rattle.std.proofs.lemmas.Int.{ints}
 use mir.Val.{sel}
-use Rattle.std.proofs.lemmas.Bool.{eqb-true}
+use Rattle.std.proofs.lemmas.Bool.{eqb-true, and_parts}
+use Rattle.std.proofs.lemmas.Option.{cond_some}
 use Rattle.std.specs.Int.{w16, w32, from_be_bytes, cast_signed}
 use Rattle.std.specs.Prelude.{FitsSigned}
 use Rattle.std.specs.List.{AllByRecursion}
@@ -13,13 +14,10 @@ use Rattle.gds_records.specs.Bytes.{AreBytes}
 use Rattle.gds_records.specs.Values.{int32_of, IsShort}
 use Rattle.gds_stream.specs.Values.{IsOutline, IsSpine, Lattice, IsLattice, displaced, width_of, path_kind_of, counts_of, int16_in}
 use Rattle.gds_stream.specs.Writable.{IsWritableRing, IsWritableTrack}
-use Rattle.gds_stream.proofs.SoundLaws.{IsData, are_points, fits_16, fits_32, and_true}
+use Rattle.gds_stream.proofs.SoundLaws.{IsData, are_points, fits_16, fits_32}
 use Rattle.gds_stream.proofs.RingLaws.{short_corners, few_corners}
 use Rattle.gds_stream.proofs.TurnLaws.{AreTurning, corners_turn, nothing_dropped}
-
-picked : {A : Type 0} (b : Bool) (x y : A) → cond b (Some x) None ≡ Some y → (b ≡ true) × (x ≡ y)
-picked true x y is = (refl, cc)
-picked false x y is = absurd cc
+use Rattle.gds_stream.proofs.LatticeLaws.{least_one}
 
 -- a ring
 pub ring : (corners : List Point) (content : List ℕ) → IsData XY content → IsOutline corners content → IsWritableRing corners
@@ -38,9 +36,6 @@ pub record IsWidth (width : ℤ) : Type 0 where
   pub positive : pos 1 ≤ℤ width
   pub most : width ≤ℤ pos 0x7FFFFFFF
   pub even : int_rem width (pos 2) ≡ pos 0
-
-least_one : (z : ℤ) → int_le (pos 1) z ≡ true → pos 1 ≤ℤ z
-least_one z is = grind (arith, ints)
 
 halves : (low : Bool) (n m : ℕ) → pos 1 ≤ℤ sel low (pos n) (negsuc m) → sel low (pos n) (negsuc m) ≡ pos n
 halves true n m some = refl
@@ -64,8 +59,8 @@ most_16 z fits = omega (arith, ints)
 
 pub width_is : (content : List ℕ) (width : ℤ) → AreBytes content → width_of content ≡ Some width → IsWidth width
 width_is (a ∷ b ∷ c ∷ d ∷ []) width are is =
-    let chosen = picked (int_le (pos 1) (int32_of a b c d) && eqb (d % 2) 0) (int32_of a b c d) width is in
-    let tests = and_true (int_le (pos 1) (int32_of a b c d)) (eqb (d % 2) 0) chosen.0 in
+    let chosen = cond_some (int_le (pos 1) (int32_of a b c d) && eqb (d % 2) 0) (int32_of a b c d) width is in
+    let tests = and_parts (int_le (pos 1) (int32_of a b c d)) (eqb (d % 2) 0) chosen.0 in
     let some = least_one (int32_of a b c d) tests.0 in
     subst IsWidth chosen.1 (record {
       positive = some;
@@ -106,8 +101,8 @@ pub record AreCounts (counts : ℤ × ℤ) : Type 0 where
 
 pub counts_are : (content : List ℕ) (counts : ℤ × ℤ) → AreBytes content → counts_of content ≡ Some counts → AreCounts counts
 counts_are (a ∷ b ∷ c ∷ d ∷ []) counts are is =
-    let chosen = picked (int_le (pos 1) (int16_in a b) && int_le (pos 1) (int16_in c d)) (int16_in a b, int16_in c d) counts is in
-    let tests = and_true (int_le (pos 1) (int16_in a b)) (int_le (pos 1) (int16_in c d)) chosen.0 in
+    let chosen = cond_some (int_le (pos 1) (int16_in a b) && int_le (pos 1) (int16_in c d)) (int16_in a b, int16_in c d) counts is in
+    let tests = and_parts (int_le (pos 1) (int16_in a b)) (int_le (pos 1) (int16_in c d)) chosen.0 in
     subst AreCounts chosen.1 (record {
       some_columns = least_one (int16_in a b) tests.0;
       few_columns = most_16 (int16_in a b) (fits_16 a b are.0 are.1.0);

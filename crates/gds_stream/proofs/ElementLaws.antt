@@ -8,10 +8,10 @@ use Rattle.gds_records.specs.Part.{Part, ◌▸◌, value, any, ◌or◌, nothin
 use Rattle.gds_records.specs.Values.{Means}
 use Rattle.gds_records.specs.Reading.{Reader, as_value, same, taken_at, then_at, past, any_at, bar_at}
 use Rattle.gds_records.proofs.PartLaws.{IsPart, Begins, Without}
-use Rattle.gds_records.proofs.JoinLaws.{join_part, equal_part, HasForm, any_part, AreOther, value_heads}
+use Rattle.gds_records.proofs.JoinLaws.{join_part, equal_part, HasForm, any_part, AreOther, value_heads, as_same}
 use Rattle.gds_records.proofs.ChoiceLaws.{meaning, renamed, any_other, heads_other}
 use Rattle.gds_records.proofs.RefuseLaws.{Refusing, Never, refused_live, loosely}
-use Rattle.gds_records.proofs.StepLaws.{taken_part, begin_part, bar_part, or_part, as_same, value_begins, join_begins}
+use Rattle.gds_records.proofs.StepLaws.{taken_part, begin_part, bar_part, or_part, value_begins, join_begins}
 use Rattle.gds_stream.specs.Values.{IsOutline, IsSpine, path_kind_of, width_of}
 use Rattle.gds_stream.specs.Grammar.{begin, layered, end, spine, element, dropped_rest}
 use Rattle.gds_stream.specs.ReadElements.{layers_at, properties_at, outline_of, as_boundary, spine_of, drawn_at, wide_at, spine_at, track_at, as_path, dropped_at}

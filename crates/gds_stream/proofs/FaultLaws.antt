@@ -1,18 +1,11 @@
 -- What stands where reading stops.
 use Rattle.std.proofs.Common.{◌≡◌, ℕ, ◌<◌, ◌≤◌, List, [], ◌∷◌, ◌++◌, length, true, false, cond, leb, Option, Some, None, refl, sym, ap, ◌∙◌, append_assoc, arith}
-use Rattle.std.proofs.lemmas.Bool.{le-leb}
-use borrow.Author.Tests.{leb-true}
+use Rattle.std.proofs.lemmas.Bool.{le-leb, lt-leb}
 use Rattle.gds_records.specs.Record.{Entry}
 use Rattle.gds_records.specs.Bytes.{AreZero, entries_of, byte_length, cut}
 use Rattle.gds_records.proofs.BytesLaws.{one_more, none_left, all_left}
 use Rattle.gds_stream.specs.FirstFault.{wanted_after}
 use Rattle.gds_stream.specs.ReadFault.{wanted_before, SkipsZeros}
-
-not_le : (m n : ℕ) → n < m → leb m n ≡ false
-not_le m n lt = elim (leb m n) as (λ b. leb m n ≡ b → leb m n ≡ false) [
-  | true ↦ λ is. absurd (let h = leb-true m n is in omega (arith, h))
-  | false ↦ λ is. is
-] refl
 
 here_at : (left : ℕ) (now : Option ℕ) (es : List Entry) → byte_length es ≤ left → wanted_before left now es ≡ now
 here_at left now [] le = refl
@@ -28,7 +21,7 @@ pub wanted_next : (left : ℕ) (now : Option ℕ) (rest after : List ℕ) (e : E
 wanted_next left now rest after e is lt =
     let more : entries_of rest ≡ e ∷ entries_of after = one_more rest e after is in
     let all : byte_length (e ∷ entries_of after) ≡ length rest = ap byte_length (sym more) ∙ all_left rest in
-    let no_end : leb (byte_length (e ∷ entries_of after)) left ≡ false = not_le _ _ (omega (arith, all)) in
+    let no_end : leb (byte_length (e ∷ entries_of after)) left ≡ false = lt-leb _ _ (omega (arith, all)) in
     ap (wanted_before left now) more ∙ ap (λ b. cond b now (wanted_before left (wanted_after now e.code) (entries_of after))) no_end
 
 pub wanted_nowhere : (left : ℕ) (now : Option ℕ) (rest : List ℕ) → cut rest ≡ None → wanted_before left now (entries_of rest) ≡ now

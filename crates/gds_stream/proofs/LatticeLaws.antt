@@ -1,7 +1,9 @@
 -- What the data of arrays means, as it is divided.
-use Rattle.std.proofs.Common.{◌≡◌, inl, inr, ℕ, suc, ◌*◌, ◌-◌, ◌/◌, ◌%◌, ◌≤◌, List, [], ◌∷◌, ℤ, pos, negsuc, ◌≤ℤ◌, ◌+ℤ◌, ◌-ℤ◌, ◌*ℤ◌, Bool, true, false, cond, ◌&&◌, Option, Some, None, refl, sym, ap, subst, ◌∙◌, arith, int_div, int_rem, int_le}
+use Rattle.std.proofs.Common.{◌≡◌, inl, inr, ℕ, suc, ◌*◌, ◌-◌, ◌/◌, ◌%◌, ◌≤◌, List, [], ◌∷◌, ℤ, pos, negsuc, ◌≤ℤ◌, ◌+ℤ◌, ◌-ℤ◌, ◌*ℤ◌, true, ◌&&◌, Option, Some, None, refl, sym, ap, subst, ◌∙◌, arith, int_div, int_rem, int_le}
 use Rattle.std.proofs.lemmas.Int.{ints, quot-rem}
 use Rattle.std.proofs.lemmas.Bool.Decides.{Decides-int_eq}
+use Rattle.std.proofs.lemmas.Bool.{and_parts}
+use Rattle.std.proofs.lemmas.Option.{cond_some}
 use Rattle.std.proofs.Math.IntN.{*ℤ_comm, *ℤ-zero, +ℤ_idr, neg_ℤ}
 use Rattle.std.proofs.Math.Nat.{mul-mod_right, mul-div_right}
 use Rattle.std.specs.Ordering.{int_eq}
@@ -51,14 +53,10 @@ step_there n a some =
     let none : int_eq (int_rem (n *ℤ a) n) (pos 0) ≡ true = (Decides-int_eq (int_rem (n *ℤ a) n) (pos 0)).1 d.0 in
     rw none (ap (λ (z : ℤ). Some z) d.1)
 
-picked : {A : Type 0} (b : Bool) (x y : A) → cond b (Some x) None ≡ Some y → (b ≡ true) × (x ≡ y)
-picked true x y is = (refl, cc)
-picked false x y is = absurd cc
-
 step_back : (n d a : ℤ) → step_of n d ≡ Some a → d ≡ n *ℤ a
 unfolding step_of
 step_back n d a is =
-    let both = picked (int_eq (int_rem d n) (pos 0)) (int_div d n) a is in
+    let both = cond_some (int_eq (int_rem d n) (pos 0)) (int_div d n) a is in
     let none : int_rem d n ≡ pos 0 = (Decides-int_eq (int_rem d n) (pos 0)).0 both.0 in
     sym (quot-rem d n) ∙ ap (λ (r : ℤ). int_div d n *ℤ n +ℤ r) none ∙ +ℤ_idr (int_div d n *ℤ n) ∙ *ℤ_comm (int_div d n) n ∙ ap (λ (z : ℤ). n *ℤ z) both.1
 
@@ -203,19 +201,15 @@ lattice_meaning counts columns rows = record {
   has = λ i. Some (origin ∷ sym (nowhere counts.0) i ∷ sym (nowhere counts.1) i ∷ []);
 }
 
-and_true : (a b : Bool) → (a && b) ≡ true → (a ≡ true) × (b ≡ true)
-and_true true b is = (refl, is)
-and_true false b is = absurd cc
-
-at_least : (z : ℤ) → int_le (pos 1) z ≡ true → pos 1 ≤ℤ z
-at_least z is = grind (arith, ints)
+pub least_one : (z : ℤ) → int_le (pos 1) z ≡ true → pos 1 ≤ℤ z
+least_one z is = grind (arith, ints)
 
 -- there is one column or more, and one row
 one_or_more : (a b c d : ℕ) (counts : ℤ × ℤ) → counts_of (a ∷ b ∷ c ∷ d ∷ []) ≡ Some counts → (pos 1 ≤ℤ counts.0) × (pos 1 ≤ℤ counts.1)
 one_or_more a b c d counts is =
-    let both = picked (int_le (pos 1) (int16_in a b) && int_le (pos 1) (int16_in c d)) (int16_in a b, int16_in c d) counts is in
-    let tests = and_true (int_le (pos 1) (int16_in a b)) (int_le (pos 1) (int16_in c d)) both.0 in
-    subst (λ (n : ℤ × ℤ). (pos 1 ≤ℤ n.0) × (pos 1 ≤ℤ n.1)) both.1 (at_least (int16_in a b) tests.0, at_least (int16_in c d) tests.1)
+    let both = cond_some (int_le (pos 1) (int16_in a b) && int_le (pos 1) (int16_in c d)) (int16_in a b, int16_in c d) counts is in
+    let tests = and_parts (int_le (pos 1) (int16_in a b)) (int_le (pos 1) (int16_in c d)) both.0 in
+    subst (λ (n : ℤ × ℤ). (pos 1 ≤ℤ n.0) × (pos 1 ≤ℤ n.1)) both.1 (least_one (int16_in a b) tests.0, least_one (int16_in c d) tests.1)
 
 pub some_counts : (counts : ℤ × ℤ) (content : List ℕ) → Means counts_of counts content → (pos 1 ≤ℤ counts.0) × (pos 1 ≤ℤ counts.1)
 some_counts counts (a ∷ b ∷ c ∷ d ∷ []) is = one_or_more a b c d counts is

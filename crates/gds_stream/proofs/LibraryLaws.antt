@@ -1,6 +1,7 @@
 -- Structures and the library, with their readers.
 use Rattle.std.proofs.Common.{◌≡◌, ◌≢◌, ℕ, ◌<◌, ◌≤◌, List, [], ◌∷◌, ◌++◌, length, Bool, true, false, cond, ◌||◌, Option, Some, None, Ok, Err, refl, sym, ap, subst, ◌∙◌, arith}
 use Rattle.std.proofs.lemmas.Slice.Eq.{bytes_eq-Decides}
+use Rattle.std.proofs.lemmas.Bool.{or_parts, false_from_ne_true}
 use Rattle.std.specs.List.{AllByRecursion}
 use Rattle.std.specs.Str.{bytes_eq}
 use Rattle.gds_records.specs.declared.code.TheConstants.{HEADER, BGNLIB, LIBNAME, UNITS, ENDLIB, BGNSTR, STRNAME, ENDSTR, REFLIBS, FONTS, GENERATIONS, ATTRTABLE}
@@ -26,31 +27,23 @@ use Rattle.gds_stream.proofs.PropertyLaws.{bare}
 use Rattle.gds_stream.proofs.ItemLaws.{Items, items_part}
 use Rattle.gds_stream.proofs.FreshLaws.{fresh_name}
 
--- a name that is new, as the test finds it
-or_false : (a b : Bool) → (a || b) ≡ false → (a ≡ false) × (b ≡ false)
-or_false true b is = absurd cc
-or_false false b is = (refl, is)
-
 -- what is left where a test lets a text through
 tested : (b : Bool) (text x : List ℕ) → cond b None (Some text) ≡ Some x → (b ≡ false) × (text ≡ x)
 tested true text x is = absurd cc
 tested false text x is = (refl, cc)
 
+-- a name that is new, as the test finds it
 all_new : (text : List ℕ) (before : List Structure) → is_taken before text ≡ false → AllByRecursion (λ (s : Structure). s.name ≢ text) before
 all_new text [] is = tt
 all_new text (s ∷ before) is =
     let d = bytes_eq-Decides text s.name in
-    let parts = or_false (bytes_eq text s.name) (is_taken before text) is in
+    let parts = or_parts (bytes_eq text s.name) (is_taken before text) is in
     (λ e. (let both : true ≡ false = sym (d.1 (sym e)) ∙ parts.0 in absurd cc), all_new text before parts.1)
-
-not_true : (b : Bool) → (b ≡ true → ⊥) → b ≡ false
-not_true true f = absurd (f refl)
-not_true false f = refl
 
 new_all : (text : List ℕ) (before : List Structure) → AllByRecursion (λ (s : Structure). s.name ≢ text) before → is_taken before text ≡ false
 new_all text [] h = refl
 new_all text (s ∷ before) h =
-    let off : bytes_eq text s.name ≡ false = not_true (bytes_eq text s.name) (λ is. h.0 (sym ((bytes_eq-Decides text s.name).0 is))) in
+    let off : bytes_eq text s.name ≡ false = false_from_ne_true (bytes_eq text s.name) (λ is. h.0 (sym ((bytes_eq-Decides text s.name).0 is))) in
     rw off (new_all text before h.1)
 
 new_gives : (before : List Structure) (content : List ℕ) (x : List ℕ) → new_text_of before content ≡ Some x → IsNewText before x content

@@ -1,7 +1,7 @@
 -- Each fault by its name.
 use Rattle.std.proofs.Common.{◌≡◌, ◌⊎◌, inl, inr, ◌↔◌, ℕ, ◌+◌, ◌-◌, ◌/◌, ◌%◌, ◌<◌, ◌≤◌, List, [], ◌∷◌, ◌++◌, length, drop, Bool, true, false, cond, leb, Option, Some, None, Ok, Err, refl, sym, ap, subst, ◌∙◌, arith}
 use Rattle.std.proofs.lemmas.List.{length-append, append-nil}
-use Rattle.std.proofs.lemmas.Bool.{le-leb, leb-false}
+use Rattle.std.proofs.lemmas.Bool.{le-leb, leb-false, lt-leb}
 use borrow.Author.Tests.{leb-true}
 use Rattle.gds_records.specs.declared.stop.Demand.{Demand}
 use Rattle.gds_records.specs.declared.stop.Demand.TheVariants.{Plain, Units, Outline, Transform, Track, NewName}
@@ -68,12 +68,6 @@ at_unformed bytes left code s off =
 positive : (d : Entry) → d.whole ≡ true → 0 < size_of d
 positive d whole = subst (λ (w : Bool). 0 < cond w (length d.content + 4) (length d.content)) (sym whole) (omega arith)
 
-not_here : (n left : ℕ) → left < n → leb n left ≡ false
-not_here n left lt = at (leb n left) refl where
-  at : (b : Bool) → leb n left ≡ b → leb n left ≡ false
-  at true is = absurd (let h = leb-true n left is in omega (arith, h))
-  at false is = is
-
 longer : (done es : List Entry) → byte_length es ≤ byte_length (done ++ es)
 unfolding byte_length
 longer [] es = omega arith
@@ -85,7 +79,7 @@ wanted_there left now [] e after formed size = let yes : leb (byte_length (e ∷
 wanted_there left now (d ∷ done) e after formed size =
     let some = positive d (formed_whole d formed.0) in
     let more = longer done (e ∷ after) in
-    let off : leb (byte_length (d ∷ (done ++ e ∷ after))) left ≡ false = not_here _ left (omega (arith, some, more, size)) in
+    let off : leb (byte_length (d ∷ (done ++ e ∷ after))) left ≡ false = lt-leb _ left (omega (arith, some, more, size)) in
     ap (λ b. cond b now (wanted_before left (wanted_after now d.code) (done ++ e ∷ after))) off ∙ wanted_there left (wanted_after now d.code) done e after formed.1 size
 
 -- the count is as it is tested

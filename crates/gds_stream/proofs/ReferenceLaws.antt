@@ -12,9 +12,9 @@ use Rattle.gds_records.specs.Values.{Means, text_of, point_of}
 use Rattle.gds_records.specs.Reading.{Reader, Taking, as_value, taken_at, value_at, then_at, past, with_value, any_at, maybe_at, skip_at, or_at, fork_at, has_next, next_at, same}
 use Rattle.gds_records.proofs.PartLaws.{IsPart, value_part}
 use Rattle.gds_records.proofs.CaseLaws.{fork_part, heads_carry, others_carry}
-use Rattle.gds_records.proofs.JoinLaws.{join_part, equal_part, HasForm, any_part, maybe_part, AreOther, value_heads, other_heads, other_others, heads_others}
+use Rattle.gds_records.proofs.JoinLaws.{join_part, equal_part, HasForm, any_part, maybe_part, AreOther, value_heads, other_heads, other_others, heads_others, as_same}
 use Rattle.gds_records.proofs.ChoiceLaws.{meaning, text_meaning, value_other, maybe_other, any_heads, heads_other}
-use Rattle.gds_records.proofs.StepLaws.{taken_part, begin_part, or_part, maybe_value_part, value_begins, join_begins, with_as, as_same, past_past}
+use Rattle.gds_records.proofs.StepLaws.{taken_part, begin_part, or_part, maybe_value_part, value_begins, join_begins, with_as, past_past}
 use Rattle.gds_stream.specs.declared.library.Prop.{Prop}
 use Rattle.gds_stream.specs.declared.transform.Turn.{Turn}
 use Rattle.gds_stream.specs.declared.transform.Turn.TheVariants.{Zero, Quarter, Half, ThreeQuarters}

@@ -1,11 +1,12 @@
 -- What follows where a part stands: a fact, and that the rest stands after it.
 use Rattle.std.proofs.Common.{◌≡◌, inl, inr, ℕ, List, [], ◌∷◌, ◌++◌, true, false, subst}
+use Rattle.std.proofs.lemmas.Bool.{and_parts}
 use Rattle.gds_records.specs.declared.stop.Demand.{Demand}
 use Rattle.gds_records.specs.declared.stop.Demand.TheVariants.{Plain}
 use Rattle.gds_records.specs.Record.{Entry, is_formed, form_of, has_form}
 use Rattle.gds_records.specs.Part.{Rest, Part, ◌▸◌, value, any, maybe, ◌or◌, nothing, refused, maybe_refused, through, each_after}
 use Rattle.gds_records.specs.Spelling.{all_count}
-use Rattle.gds_stream.proofs.SoundLaws.{AreSound, IsData, and_true}
+use Rattle.gds_stream.proofs.SoundLaws.{AreSound, IsData}
 
 -- a fact, and a rest of the records
 pub record Found (F : Type 0) (K : Rest) : Type 0 where
@@ -37,7 +38,7 @@ before {F} P Q p q = as_fact (P ▸ Q) (λ (h : F × Unit {0}). h.0) (both P Q p
 
 formed_data : (e : Entry) (code : ℕ) → is_formed e ≡ true → e.code ≡ code → has_form (form_of code) e.content ≡ true
 unfolding is_formed
-formed_data e code formed is = subst (λ c. has_form (form_of c) e.content ≡ true) is (and_true e.whole (has_form (form_of e.code) e.content) formed).1
+formed_data e code formed is = subst (λ c. has_form (form_of c) e.content ≡ true) is (and_parts e.whole (has_form (form_of e.code) e.content) formed).1
 
 value_at : {X F : Type 0} (demand : Demand) (code : ℕ) (V : X → List ℕ → Type 0) (x : X) → ((content : List ℕ) → IsData code content → V x content → F)
     → (K : Rest) (rs : List Entry) → AreSound rs → value demand code V x all_count K rs → Found F K

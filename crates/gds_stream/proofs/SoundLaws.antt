@@ -1,5 +1,7 @@
 -- What the bytes of a file say of its records, and what their data can be.
-use Rattle.std.proofs.Common.{◌≡◌, ℕ, ◌+◌, ◌*◌, ◌<◌, List, [], ◌∷◌, ◌++◌, length, Bool, true, false, ◌&&◌, leb, eqb, Option, Some, None, refl, subst, append_assoc, arith}
+use Rattle.std.proofs.Common.{◌≡◌, ℕ, ◌+◌, ◌*◌, ◌<◌, List, [], ◌∷◌, ◌++◌, length, true, leb, eqb, Option, Some, None, refl, subst, append_assoc, arith}
+use Rattle.std.proofs.lemmas.Bool.{and_parts}
+use Rattle.std.proofs.lemmas.Option.{same_Some}
 use Rattle.std.proofs.Math.Facts.{sfits_to_z}
 use Rattle.std.specs.Int.{w16, w32, from_be_bytes}
 use Rattle.std.specs.Prelude.{FitsSigned}
@@ -38,35 +40,28 @@ sound (e ∷ es) zeros are =
     let both = bytes_both e.content (records_bytes es ++ zeros) (subst AreBytes (append_assoc e.content (records_bytes es) zeros) are.1.1.1.1) in
     (record { bytes = both.0; size = omega (arith, are.0) }, sound es zeros both.1)
 
-pub and_true : (a b : Bool) → (a && b) ≡ true → (a ≡ true) × (b ≡ true)
-and_true true b is = (refl, is)
-and_true false b is = absurd cc
-
 -- texts
 printable_is : (b : ℕ) → is_printable b ≡ true → IsPrintable b
 printable_is b is =
-    let both = and_true (leb 32 b) (leb b 126) is in
+    let both = and_parts (leb 32 b) (leb b 126) is in
     record { above = leb-true 32 b both.0; below = leb-true b 126 both.1 }
 
 all_printable : (text : List ℕ) → list_all is_printable text ≡ true → AllByRecursion IsPrintable text
 all_printable [] is = tt
 all_printable (b ∷ text) is =
-    let both = and_true (is_printable b) (list_all is_printable text) is in
+    let both = and_parts (is_printable b) (list_all is_printable text) is in
     (printable_is b both.0, all_printable text both.1)
 
 text_is : (text : List ℕ) → is_text text ≡ true → IsText text
 text_is text is =
-    let a = and_true (leb 1 (length text)) _ is in
-    let b = and_true (leb (length text) 512) (list_all is_printable text) a.1 in
+    let a = and_parts (leb 1 (length text)) _ is in
+    let b = and_parts (leb (length text) 512) (list_all is_printable text) a.1 in
     record { some = leb-true 1 (length text) a.0; few = leb-true (length text) 512 b.0; printable = all_printable text b.1 }
-
-some_same : {A : Type 0} (x y : A) → Some x ≡ Some y → x ≡ y
-some_same x y is = cc
 
 pub is_text_of : (code : ℕ) (content text : List ℕ) → form_of code ≡ Text → IsData code content → text_of content ≡ Some text → IsText text
 is_text_of code content text form d is =
     let has = subst (λ f. has_form f content ≡ true) form d.form in
-    subst IsText (some_same (unpadded content) text is) (text_is (unpadded content) (and_true (eqb _ 0) (is_text (unpadded content)) has).1)
+    subst IsText (same_Some (unpadded content) text is) (text_is (unpadded content) (and_parts (eqb _ 0) (is_text (unpadded content)) has).1)
 
 -- numbers
 pub fits_32 : (a b c d : ℕ) → a < 256 → b < 256 → c < 256 → d < 256 → FitsSigned w32 (int32_of a b c d)
@@ -85,11 +80,11 @@ one_more : (p : Point) (rest content : List ℕ) (points : List Point) (read : O
 one_more p rest content points None short size f is = absurd cc
 one_more p rest content points (Some ps) short size f is =
     let more = f ps refl in
-    subst (ArePoints content) (some_same (p ∷ ps) points is) (record { short = (short, more.short); size = omega (arith, more.size) })
+    subst (ArePoints content) (same_Some (p ∷ ps) points is) (record { short = (short, more.short); size = omega (arith, more.size) })
 
 pub are_points : (content : List ℕ) (points : List Point) → AreBytes content → points_of content ≡ Some points → ArePoints content points
 unfolding points_of
-are_points [] points are is = subst (ArePoints []) (some_same [] points is) (record { short = tt; size = refl })
+are_points [] points are is = subst (ArePoints []) (same_Some [] points is) (record { short = tt; size = refl })
 are_points (a ∷ b ∷ c ∷ d ∷ e ∷ f ∷ g ∷ h ∷ rest) points are is =
     let far = are.1.1.1.1 in
     one_more (record { x = int32_of a b c d; y = int32_of e f g h }) rest (a ∷ b ∷ c ∷ d ∷ e ∷ f ∷ g ∷ h ∷ rest) points (points_of rest)
@@ -100,6 +95,6 @@ are_points content points are is = absurd cc
 pub is_point : (content : List ℕ) (p : Point) → AreBytes content → point_of content ≡ Some p → IsShort p
 is_point (a ∷ b ∷ c ∷ d ∷ e ∷ f ∷ g ∷ h ∷ []) p are is =
     let far = are.1.1.1.1 in
-    subst IsShort (some_same _ p is)
+    subst IsShort (same_Some _ p is)
     (record { x = fits_32 a b c d are.0 are.1.0 are.1.1.0 are.1.1.1.0; y = fits_32 e f g h far.0 far.1.0 far.1.1.0 far.1.1.1.0 })
 is_point content p are is = absurd cc

@@ -2,13 +2,13 @@
 use Rattle.std.proofs.Common.{◌≡◌, ◌⊎◌, inl, inr, List, [], ◌∷◌, map, ℤ, ◌≤ℤ◌, ◌<ℤ◌, Bool, true, false, cond, ◌&&◌, refl, sym, ap, subst, ◌∙◌, arith, int_lt}
 use Rattle.std.proofs.lemmas.Int.{ints}
 use Rattle.std.proofs.lemmas.Bool.Decides.{Decides-int_eq}
+use Rattle.std.proofs.lemmas.Bool.{and_right, and_from, and_parts}
 use Rattle.std.specs.Ordering.{int_eq}
 use Rattle.or_geom.specs.declared.shape.Point.{Point}
 use Rattle.rectilinear.specs.declared.ring.Side.{Side}
 use Rattle.rectilinear.specs.Ring.{sides_on, sides_of}
 use Rattle.rectilinear.specs.Corners.{is_zero, is_up, is_down, is_right, is_left, is_run, steps, turns_after, last_of, turns, corners_of}
 use Rattle.rectilinear.specs.Simple.{IsStraight, AllStraight}
-use Rattle.gds_stream.proofs.SoundLaws.{and_true}
 
 abbrev side : Point → Point → Side
 side p q = record { a = p; b = q }
@@ -42,14 +42,6 @@ is_less a b h = grind (arith, ints)
 not_less : (a b : ℤ) → b ≤ℤ a → int_lt a b ≡ false
 not_less a b h = grind (arith, ints)
 
-and_false : (a b : Bool) → b ≡ false → (a && b) ≡ false
-and_false true b is = is
-and_false false b is = refl
-
-and_both : (a b : Bool) → a ≡ true → b ≡ true → (a && b) ≡ true
-and_both true b e is = is
-and_both false b e is = absurd cc
-
 -- at equal x and rising y
 record Rises (x y z w : ℤ) : Type 0 where
   level : x ≡ y
@@ -57,20 +49,20 @@ record Rises (x y z w : ℤ) : Type 0 where
 
 rises : (x y z w : ℤ) → (int_eq x y && int_lt z w) ≡ true → Rises x y z w
 rises x y z w is =
-    let tests = and_true (int_eq x y) (int_lt z w) is in
+    let tests = and_parts (int_eq x y) (int_lt z w) is in
     record { level = (Decides-int_eq x y).0 tests.0; less = below z w tests.1 }
 
 is_rising : (x y z w : ℤ) → Rises x y z w → (int_eq x y && int_lt z w) ≡ true
-is_rising x y z w r = and_both (int_eq x y) (int_lt z w) ((Decides-int_eq x y).1 r.level) (is_less z w r.less)
+is_rising x y z w r = and_from (int_eq x y) (int_lt z w) ((Decides-int_eq x y).1 r.level) (is_less z w r.less)
 
 rise_on : (x y z a b c : ℤ) → Rises x y a b → Rises y z b c → Rises x z a c
 rise_on x y z a b c r s = record { level = r.level ∙ s.level; less = omega (arith, ints, r.less, s.less) }
 
 not_back : (x y z w : ℤ) → Rises x y z w → (int_eq x y && int_lt w z) ≡ false
-not_back x y z w r = and_false (int_eq x y) (int_lt w z) (not_less w z (omega (arith, ints, r.less)))
+not_back x y z w r = and_right (int_eq x y) (int_lt w z) (not_less w z (omega (arith, ints, r.less)))
 
 level : (b : Bool) (x y : ℤ) → x ≡ y → (b && int_lt x y) ≡ false
-level b x y is = and_false b (int_lt x y) (not_less x y (omega (arith, ints, is)))
+level b x y is = and_right b (int_lt x y) (not_less x y (omega (arith, ints, is)))
 
 -- a side that goes along an axis goes one way
 record IsWay (u d r l : Bool) (s : Side) : Type 0 where
@@ -247,7 +239,7 @@ from_sides p (q ∷ qs) last = (refl, from_sides q qs last)
 
 zero_ends : (s : Side) → is_zero s ≡ true → s.a ≡ s.b
 zero_ends s is =
-    let tests = and_true (int_eq s.a.x s.b.x) (int_eq s.a.y s.b.y) is in
+    let tests = and_parts (int_eq s.a.x s.b.x) (int_eq s.a.y s.b.y) is in
     let x = (Decides-int_eq s.a.x s.b.x).0 tests.0 in
     let y = (Decides-int_eq s.a.y s.b.y).0 tests.1 in
     λ i. record { x = x i; y = y i }

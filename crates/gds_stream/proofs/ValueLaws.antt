@@ -1,8 +1,9 @@
 -- What the data of outlines and spines means, as it is tested.
-use Rattle.std.proofs.Common.{◌≡◌, inr, ℕ, List, [], ◌∷◌, length, ℤ, pos, Bool, true, false, cond, ◌&&◌, leb, Option, Some, None, refl, sym, ap, subst, arith}
+use Rattle.std.proofs.Common.{◌≡◌, inr, ℕ, List, [], ◌∷◌, length, ℤ, pos, true, ◌&&◌, leb, Option, Some, None, refl, sym, ap, subst, arith}
 use Rattle.std.proofs.lemmas.Int.{ints}
-use Rattle.std.proofs.lemmas.Bool.{le-leb}
+use Rattle.std.proofs.lemmas.Bool.{le-leb, and_parts}
 use Rattle.std.proofs.lemmas.Bool.Decides.{Decides-int_eq}
+use Rattle.std.proofs.lemmas.Option.{cond_some}
 use Rattle.std.specs.Ordering.{int_eq}
 use borrow.Author.Tests.{leb-true}
 use Rattle.or_geom.specs.declared.shape.Point.{Point}
@@ -16,16 +17,12 @@ use Rattle.rectilinear.proofs.SimpleTest.{simple_test, test_simple, simple_teste
 use Rattle.gds_stream.specs.Values.{last_point, is_same_point, IsClosed, IsOutline, segments, IsSpine}
 use Rattle.gds_stream.specs.ReadElements.{is_closed, outline_in, outline_of, spine_in, spine_of}
 
-and_true : (a b : Bool) → (a && b) ≡ true → (a ≡ true) × (b ≡ true)
-and_true true b is = (refl, is)
-and_true false b is = absurd cc
-
 same_number : (a b : ℤ) → int_eq a b ≡ true → a ≡ b
 same_number a b is = (Decides-int_eq a b).0 is
 
 same_point : (p q : Point) → is_same_point p q ≡ true → p ≡ q
 same_point p q is =
-    let both = and_true (int_eq p.x q.x) (int_eq p.y q.y) is in
+    let both = and_parts (int_eq p.x q.x) (int_eq p.y q.y) is in
     let x = same_number p.x q.x both.0 in
     let y = same_number p.y q.y both.1 in
     λ i. record { x = x i; y = y i }
@@ -44,15 +41,11 @@ is_tested_closed : (points : List Point) → IsClosed points → is_closed point
 is_tested_closed [] h = absurd h
 is_tested_closed (p ∷ ps) h = subst (λ (q : Point). is_same_point q p ≡ true) (sym h) (itself p)
 
-picked : {A : Type 0} (b : Bool) (x y : A) → cond b (Some x) None ≡ Some y → (b ≡ true) × (x ≡ y)
-picked true x y is = (refl, cc)
-picked false x y is = absurd cc
-
 outline_gives_at : (content : List ℕ) (x : List Point) (o : Option (List Point)) → points_of content ≡ o → outline_in o ≡ Some x → IsOutline x content
 outline_gives_at content x None means is = absurd cc
 outline_gives_at content x (Some points) means is =
-    let both = picked (is_closed points && simple_test (corners_of points)) (corners_of points) x is in
-    let tests = and_true (is_closed points) (simple_test (corners_of points)) both.0 in
+    let both = cond_some (is_closed points && simple_test (corners_of points)) (corners_of points) x is in
+    let tests = and_parts (is_closed points) (simple_test (corners_of points)) both.0 in
     record {
       points = points;
       means = means;
@@ -90,8 +83,8 @@ outline_meaning = record {
 spine_gives_at : (content : List ℕ) (x : List Point) (o : Option (List Point)) → points_of content ≡ o → spine_in o ≡ Some x → IsSpine x content
 spine_gives_at content x None means is = absurd cc
 spine_gives_at content x (Some points) means is =
-    let both = picked (leb 2 (length points) && straight_test (segments points)) points x is in
-    let tests = and_true (leb 2 (length points)) (straight_test (segments points)) both.0 in
+    let both = cond_some (leb 2 (length points) && straight_test (segments points)) points x is in
+    let tests = and_parts (leb 2 (length points)) (straight_test (segments points)) both.0 in
     subst (λ (l : List Point). IsSpine l content) both.1
     (record { means = means; two = leb-true 2 (length points) tests.0; straight = test_straight (segments points) tests.1 })
 

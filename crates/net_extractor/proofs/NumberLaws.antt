@@ -1,8 +1,8 @@
 -- How the places of one net get a number.
-use Rattle.std.proofs.Common.{◌≡◌, ◌⊎◌, inl, inr, ℕ, zero, suc, ◌+◌, ◌<◌, replicate, Bool, true, false, cond, List, [], ◌∷◌, length, get_or, refl, sym, ap, subst, ◌∙◌, arith}
+use Rattle.std.proofs.Common.{◌≡◌, ◌⊎◌, inl, inr, ℕ, zero, suc, ◌+◌, ◌<◌, replicate, Bool, false, cond, List, [], ◌∷◌, length, get_or, refl, sym, ap, subst, ◌∙◌, arith}
 use Rattle.std.specs.Prelude.{Option, Some, None}
 use Rattle.std.proofs.lemmas.List.{get_or_past, length-replicate}
-use Rattle.std.proofs.lemmas.Bool.{cases_lt}
+use Rattle.std.proofs.lemmas.Bool.{cases_lt, cases_Bool}
 use Rattle.reference_graph.specs.Reaches.{AreWithin, IsPath, Reaches, IsMarked, MarksReached}
 use Rattle.reference_graph.proofs.PathLaws.{reaches_on, reaches_start, reaches_within}
 use Rattle.net_extractor.specs.declared.numbering.Numbering.{Numbering}
@@ -21,10 +21,6 @@ along graph from mid to (next ∷ rest) r leads = along graph from next to rest 
 
 pub reaches_over : (graph : List (List ℕ)) (from mid to : ℕ) → Reaches graph from mid → Reaches graph mid to → Reaches graph from to
 reaches_over graph from mid to r s = along graph from mid to s.path r s.leads
-
-truth : (b : Bool) → (b ≡ true) ⊎ (b ≡ false)
-truth true = inl refl
-truth false = inr refl
 
 -- a place with a number is one of the list
 pub on_within : (nets : List (Option ℕ)) (k m : ℕ) → IsOn nets k m → k < length nets
@@ -52,7 +48,7 @@ given_cases number marks old new k m g on =
     let h = on_within new k m on in
     let s = g.sized in
     let lt : k < length old = omega (arith, h, s) in
-    elim (truth (get_or marks k false)) [
+    elim (cases_Bool (get_or marks k false)) [
       | inl marked ↦ inl (record { marked = marked; is = on_one new k number m (marked_gets number marks old new k g lt marked) on })
       | inr unmarked ↦ inr (sym (ap (λ (b : Bool). cond b (Some number) (get_or old k None)) unmarked) ∙ (sym (g.each k lt) ∙ on))
     ]
@@ -72,7 +68,7 @@ pub new_number : (graph : List (List ℕ)) (old new : Numbering) (place : ℕ) (
 new_number graph old new place marks within both inside n none reached g next =
     let before = old.nets.items in
     let after = new.nets.items in
-    let keeps : (k m : ℕ) → IsOn before k m → IsOn after k m = λ k m on. elim (truth (get_or marks k false)) [
+    let keeps : (k m : ℕ) → IsOn before k m → IsOn after k m = λ k m on. elim (cases_Bool (get_or marks k false)) [
       | inl marked ↦ absurd (unnumbered graph old place k m both n none ((reached.exact k).0 marked) on)
       | inr unmarked ↦ other_keeps old.next marks before after k m g unmarked on
     ] in

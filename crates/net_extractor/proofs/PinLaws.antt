@@ -1,16 +1,16 @@
 -- The nets of the pins, found one by one.
-use Rattle.std.proofs.Common.{◌≡◌, ◌⊎◌, inl, inr, ℕ, ◌+◌, ◌<◌, ◌≤◌, List, [], ◌∷◌, ◌++◌, length, get_or, sym, ap, subst, ◌∙◌, arith}
+use Rattle.std.proofs.Common.{◌≡◌, ◌⊎◌, inl, inr, ℕ, ◌+◌, ◌<◌, ◌≤◌, List, [], ◌∷◌, ◌++◌, length, get_or, sym, ap, subst, ◌∙◌, arith, refl}
 use Rattle.std.specs.Prelude.{slice_get, Some}
 use Rattle.std.proofs.lemmas.Bool.{cases_lt}
 use Rattle.std.proofs.lemmas.List.{get_or_append_left, get_or_push, length_push}
-use Rattle.std.proofs.lemmas.Option.{slice_get_within, slice_get_cases, get_or_from_slice_get}
+use Rattle.std.proofs.lemmas.Option.{slice_get_within, slice_get_cases, get_or_from_slice_get, slice_get_read}
 use Rattle.netlist.specs.declared.rows.RowPin.{RowPin}
 use Rattle.net_extractor.specs.declared.label.NetLabel.{NetLabel}
 use Rattle.net_extractor.specs.declared.pins.PinNet.{PinNet}
 use Rattle.net_extractor.specs.Difference.{IsLabelOf, IsLabelled}
 use Rattle.net_extractor.specs.FirstDifference.{IsUnlabelledAt, AreLabelled}
 use Rattle.net_extractor.specs.PinNets.{IsPinNet, ArePinNets}
-use Rattle.net_extractor.proofs.PlaceLaws.{at_index, one_at, at_contained}
+use Rattle.net_extractor.proofs.PlaceLaws.{one_at, at_contained}
 
 pub exists_at : {X : Type 0} (xs : List X) (i : ℕ) → i < length xs → (x : X) × (slice_get xs i ≡ Some x)
 exists_at xs i lt = elim (slice_get_cases xs i).1 [
@@ -26,7 +26,7 @@ push_cases {X} xs new x k y grown there =
     let longer = length_push xs x in
     let size = ap length grown in
     elim (cases_lt k (length xs)) [
-      | inl lt ↦ inl (at_index xs k y lt (sym (sym (get_or_append_left xs (x ∷ []) y k lt) ∙ is)))
+      | inl lt ↦ inl (slice_get_read xs _ k y refl lt (sym (sym (get_or_append_left xs (x ∷ []) y k lt) ∙ is)))
       | inr ge ↦ let e : length xs ≡ k = omega (arith, within, longer, size, ge) in inr (e, sym (get_or_push xs x y k e) ∙ is)
     ]
 

@@ -1,11 +1,8 @@
 -- What stands at a place of a list.
-use Rattle.std.proofs.Common.{◌≡◌, inl, inr, ℕ, ◌+◌, ◌<◌, List, length, get_or, refl, sym, subst, ◌∙◌, arith, Some}
+use Rattle.std.proofs.Common.{◌≡◌, inl, inr, ℕ, ◌+◌, ◌<◌, List, refl, sym, subst, ◌∙◌, arith, Some}
 use Rattle.std.specs.Prelude.{slice_get, Contains}
 use Rattle.std.proofs.lemmas.Bool.{cases_lt}
 use Rattle.std.proofs.lemmas.Option.{slice_get_read, slice_get_within, get_or_from_slice_get}
-
-pub at_index : {X : Type 0} (xs : List X) (i : ℕ) (x : X) → i < length xs → x ≡ get_or xs i x → slice_get xs i ≡ Some x
-at_index xs i x lt is = slice_get_read xs (length xs) i x refl lt is
 
 -- a place has one item
 pub one_at : {X : Type 0} (xs : List X) (i : ℕ) (x y : X) → slice_get xs i ≡ Some x → slice_get xs i ≡ Some y → x ≡ y
@@ -23,7 +20,7 @@ each_more {X} P xs i x here holds before k y below there = elim (cases_lt k i) [
 ]
 
 pub at_contained : {X : Type 0} (xs : List X) (x : X) (h : Contains xs x) → slice_get xs h.0 ≡ Some x
-at_contained xs x h = at_index xs h.0 x h.1 (sym h.2)
+at_contained xs x h = slice_get_read xs _ h.0 x refl h.1 (sym h.2)
 
 pub contained_at : {X : Type 0} (xs : List X) (k : ℕ) (x : X) → slice_get xs k ≡ Some x → Contains xs x
 contained_at xs k x at_k = (k, slice_get_within xs k x at_k, get_or_from_slice_get xs k x x at_k)

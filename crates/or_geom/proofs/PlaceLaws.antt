@@ -76,7 +76,7 @@ pub corners_differ : (place : Place) (r : Rect) → ((placed place (low_corner r
 corners_differ place r = differ place.orient place.at r.x1 r.y1 r.x2 r.y2 r.wide r.tall
 
 -- a turn keeps a bound
-turned_within : (o : Orient) (n : ℕ) (p : Point) → IsWithin n p → IsWithin n (turned o p)
+pub turned_within : (o : Orient) (n : ℕ) (p : Point) → IsWithin n p → IsWithin n (turned o p)
 turned_within R0 n p w = record { x_above = omega (arith, ints); x_below = omega (arith, ints); y_above = omega (arith, ints); y_below = omega (arith, ints) }
 turned_within R90 n p w = record { x_above = omega (arith, ints); x_below = omega (arith, ints); y_above = omega (arith, ints); y_below = omega (arith, ints) }
 turned_within R180 n p w = record { x_above = omega (arith, ints); x_below = omega (arith, ints); y_above = omega (arith, ints); y_below = omega (arith, ints) }
@@ -86,7 +86,7 @@ turned_within MX90 n p w = record { x_above = omega (arith, ints); x_below = ome
 turned_within MX180 n p w = record { x_above = omega (arith, ints); x_below = omega (arith, ints); y_above = omega (arith, ints); y_below = omega (arith, ints) }
 turned_within MX270 n p w = record { x_above = omega (arith, ints); x_below = omega (arith, ints); y_above = omega (arith, ints); y_below = omega (arith, ints) }
 
-plus_within : (m n : ℕ) (p q : Point) → IsWithin m p → IsWithin n q → IsWithin (m + n) (plus q p)
+pub plus_within : (m n : ℕ) (p q : Point) → IsWithin m p → IsWithin n q → IsWithin (m + n) (plus q p)
 plus_within m n p q v w = record { x_above = omega (arith, ints); x_below = omega (arith, ints); y_above = omega (arith, ints); y_below = omega (arith, ints) }
 
 -- the offset of one place after another

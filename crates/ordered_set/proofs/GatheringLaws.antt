@@ -1,5 +1,5 @@
 -- A loop that gathers what the items of a list give: whatever adds what the rest gives makes it all.
-use Rattle.std.proofs.Common.{◌≡◌, inl, inr, ℕ, ◌+◌, ◌<◌, ◌≤◌, List, [], ◌∷◌, length, get_or, drop, sym, subst, ◌∙◌, ap, arith}
+use Rattle.std.proofs.Common.{◌≡◌, inl, inr, ℕ, ◌+◌, ◌<◌, ◌≤◌, List, [], ◌∷◌, length, get_or, drop, sym, subst, ◌∙◌, ap}
 use Rattle.std.proofs.lemmas.List.{at_drop_more, at_drop_all}
 use Rattle.std.specs.Prelude.{Contains}
 use Rattle.std.specs.Cmp.{IsTotalOrder}
@@ -9,7 +9,7 @@ use Rattle.std.specs.declared.cmp.Ordering.TheVariants.{Less}
 use Rattle.ordered_set.specs.Adds.{Adds}
 use Rattle.ordered_set.specs.Gathering.{SomeGives, SomePairGives, SomeHas}
 use Rattle.ordered_set.proofs.AddsLaws.{adds_none, adds_both}
-use Rattle.ordered_set.proofs.OneListLaws.{contains_cases, contains_first, contains_later, all_contained, not_both}
+use Rattle.ordered_set.proofs.OneListLaws.{contains_cases, contains_first, contains_later, all_contained, not_both, none_in}
 
 -- so far in a loop over the items of `all`, of which `rest` are left: now grew from old
 pub record IsGathering {X Y : Type 0} (gives : Y → X → Type 0) (all rest : List Y) (old now : List X) : Type 0 where
@@ -51,9 +51,6 @@ rest_at {Y} ys i y lt is = at_drop_more (λ (l : List Y). l) ys i y lt ∙ ap (�
 
 pub rest_over : {Y : Type 0} (ys : List Y) (i : ℕ) → length ys ≤ i → drop i ys ≡ []
 rest_over {Y} ys i le = at_drop_all (λ (l : List Y). l) ys i le
-
-pub none_in : (k : ℕ) → k < 0 → ⊥
-none_in k lt = omega arith
 
 -- who gives, and that he stands in the list
 pub giver : {X Y : Type 0} (gives : Y → X → Type 0) (ys : List Y) (x : X) → SomeGives gives ys x → (y : Y) × Contains ys y × gives y x

@@ -1,8 +1,9 @@
 -- The slabs between two neighbouring heights.
-use Rattle.std.proofs.Common.{◌≡◌, ◌⊎◌, inl, inr, List, [], ◌∷◌, ◌++◌, ℤ, pos, ◌-ℤ◌, ◌≤ℤ◌, ◌<ℤ◌, Bool, true, false, refl, ap, sym, subst, ◌∙◌, arith}
+use Rattle.std.proofs.Common.{◌≡◌, ◌⊎◌, inl, inr, List, [], ◌∷◌, ◌++◌, ℤ, pos, ◌-ℤ◌, ◌≤ℤ◌, ◌<ℤ◌, false, refl, ap, sym, subst, ◌∙◌, arith}
 use Rattle.std.specs.Prelude.{Contains}
 use Rattle.std.proofs.lemmas.Int.{ints}
 use Rattle.std.proofs.lemmas.List.Elements.{Contains-append_cases, Contains-append_left, Contains-append_right}
+use Rattle.std.proofs.lemmas.Bool.{false_from_ne_true}
 use Rattle.or_geom.specs.declared.shape.Point.{Point}
 use Rattle.slabs.specs.declared.ends.End.{End}
 use Rattle.rectilinear.specs.declared.ring.Side.{Side}
@@ -34,10 +35,6 @@ slab_of corners low high ends r near are s =
       right_end = λ y ge lt yes. true_not_false _ yes (in_band corners low high ends r.x2 y near are (omega (arith, ints, ge, e1)) (omega (arith, ints, lt, e2)) ∙ s.right_end);
     }
 
-not_true : (t : Bool) → (t ≡ true → ⊥) → t ≡ false
-not_true true f = absurd (f refl)
-not_true false f = refl
-
 stretch_of : (corners : List Point) (low high : ℤ) (ends : List End) (r : Rect) → AreNeighbours corners low high → AreEnds (sides_of corners) low ends → IsSlab corners r → r.y1 ≡ low → IsStretch ends low high r
 stretch_of corners low high ends r near are s e1 =
     let tall : r.y1 <ℤ r.y2 = r.tall in
@@ -47,8 +44,8 @@ stretch_of corners low high ends r near are s e1 =
       low_is = e1;
       high_is = e2;
       inside = λ x ge lt. sym (row x) ∙ s.inside x r.y1 (record { left = ge; right = lt; low = omega (arith, ints); high = tall });
-      left_end = not_true _ (λ yes. s.left_end r.y1 (omega (arith, ints)) tall (row (r.x1 -ℤ pos 1) ∙ yes));
-      right_end = not_true _ (λ yes. s.right_end r.y1 (omega (arith, ints)) tall (row r.x2 ∙ yes));
+      left_end = false_from_ne_true _ (λ yes. s.left_end r.y1 (omega (arith, ints)) tall (row (r.x1 -ℤ pos 1) ∙ yes));
+      right_end = false_from_ne_true _ (λ yes. s.right_end r.y1 (omega (arith, ints)) tall (row r.x2 ∙ yes));
     }
 
 pub band_slabs : (corners : List Point) (low high : ℤ) (ends : List End) (rects : List Rect) → HasHeight corners low → IsNext corners low high → AreEnds (sides_of corners) low ends → ArePairs ends low high rects → AreSlabsFrom corners low rects

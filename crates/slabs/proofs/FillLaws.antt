@@ -1,5 +1,5 @@
 -- Slabs have exactly the cells inside.
-use Rattle.std.proofs.Common.{◌≡◌, ◌⊎◌, inl, inr, List, [], ◌∷◌, ℤ, ◌≤ℤ◌, ◌<ℤ◌, Bool, true, false, not, ◌&&◌, refl, sym, subst, ◌∙◌, arith}
+use Rattle.std.proofs.Common.{◌≡◌, ◌⊎◌, inl, inr, List, [], ◌∷◌, ℤ, ◌≤ℤ◌, ◌<ℤ◌, Bool, true, false, ◌&&◌, refl, sym, subst, ◌∙◌, arith}
 use Rattle.std.specs.Prelude.{int_le, Contains}
 use Rattle.std.proofs.lemmas.Int.{ints, by_lt_z}
 use Rattle.or_geom.specs.declared.shape.Point.{Point}
@@ -14,7 +14,7 @@ use Rattle.slabs.proofs.MemberLaws.{member_none, member_cases, member_here, memb
 use Rattle.slabs.specs.Rows.{is_odd_to, is_odd, Rise, AreEnds, ArePairs}
 use Rattle.slabs.proofs.RingLaws.{ring_is_closed, row_is_uniform, xor_same}
 use Rattle.slabs.proofs.RowLaws.{past_pair, before_pair, rises, true_not_false, at_or_left, not_left}
-use Rattle.slabs.proofs.ToggleLaws.{toggle_some}
+use Rattle.slabs.proofs.ToggleLaws.{toggle_some, twice_not}
 use Rattle.slabs.proofs.BandLaws.{band_slabs}
 use Rattle.slabs.proofs.LoopLaws.{AreEndsBut, ends_none, ends_pass, ends_take, ends_all}
 
@@ -29,15 +29,11 @@ ends_after sides (s ∷ rest) y ends but = by_bool (passes s y)
     (λ e. let t = toggle_some ends (record { x = s.a.x }) but.rise in ends_after sides rest y t.0 (ends_take sides (s ∷ rest) rest s (record { x = s.a.x }) y ends t.0 refl e refl t.1 but))
     (λ e. ends_after sides rest y ends (ends_pass sides (s ∷ rest) rest s y ends refl e but))
 
-not_twice : (b : Bool) → b ≡ not (not b)
-not_twice true = refl
-not_twice false = refl
-
 pairs_some : (es : List End) (low high : ℤ) → low <ℤ high → Rise es → is_odd es ≡ false → (rects : List Rect) × ArePairs es low high rects
 pairs_some [] low high lt rise even = ([], tt)
 pairs_some (a ∷ []) low high lt rise even = true_not_false true refl even
 pairs_some (a ∷ b ∷ es) low high lt rise even =
-    let more = pairs_some es low high lt (rises b.x es rise.1) (not_twice (is_odd es) ∙ even) in
+    let more = pairs_some es low high lt (rises b.x es rise.1) (twice_not (is_odd es) ∙ even) in
     (record { x1 = a.x; y1 = low; x2 = b.x; y2 = high; wide = rise.0; tall = lt } ∷ more.0, ((refl, refl, refl, refl), more.1))
 
 -- the box that the cell lies in

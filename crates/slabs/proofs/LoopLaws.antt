@@ -11,6 +11,7 @@ use Rattle.slabs.specs.Slabs.{xor, passes, is_odd_left, HasHeight}
 use Rattle.slabs.specs.Rows.{is_odd_to, is_odd, is_odd_passed, Rise, AreEnds, ArePairs, IsToggled}
 use Rattle.slabs.specs.Heights.{IsAtMost, IsFrom, IsNearer, IsNext}
 use Rattle.slabs.proofs.RowLaws.{rises}
+use Rattle.slabs.proofs.ToggleLaws.{twice_not}
 
 -- the ends of the sides so far, and what is left
 pub record AreEndsBut (sides rest : List Side) (y : ℤ) (ends : List End) : Type 0 where
@@ -74,10 +75,6 @@ pairs_all ends low high old new but = (but.added, but.appended, subst (λ (xs : 
     append_nil [] = refl
     append_nil (x ∷ xs) = ap (λ (ys : List Rect). x ∷ ys) (append_nil xs)
 
-not_twice : (b : Bool) → not (not b) ≡ b
-not_twice true = refl
-not_twice false = refl
-
 pub pair_rise : (ends rest others after : List End) (a b : End) (low high : ℤ) (old new : List Rect) → rest ≡ a ∷ others → others ≡ b ∷ after → ArePairsBut ends rest low high old new → a.x <ℤ b.x
 pair_rise ends rest others after a b low high old new e f but =
     let rise : Rise (a ∷ b ∷ after) = subst (λ (es : List End). Rise es) (e ∙ ap (λ (es : List End). a ∷ es) f) but.rise in rise.0
@@ -89,7 +86,7 @@ pairs_more ends rest others after a b low high old now new r e f box push but =
     let rise : Rise (a ∷ b ∷ after) = subst (λ (es : List End). Rise es) is but.rise in
     record {
       rise = rises b.x after rise.1;
-      even = sym (not_twice (is_odd after)) ∙ subst (λ (es : List End). is_odd es ≡ false) is but.even;
+      even = twice_not (is_odd after) ∙ subst (λ (es : List End). is_odd es ≡ false) is but.even;
       added = but.added ++ r ∷ [];
       appended = push ∙ ap (λ (xs : List Rect). xs ++ r ∷ []) but.appended ∙ append_assoc old but.added (r ∷ []);
       completes = λ more pairs. subst (λ (xs : List Rect). ArePairs ends low high xs) (sym (append_assoc but.added (r ∷ []) more))

@@ -8,10 +8,7 @@ use Rattle.std.proofs.lemmas.Int.{ints, clamps, by_lt_z}
 use Rattle.slabs.specs.Slabs.{xor}
 use Rattle.slabs.specs.declared.ends.End.{End}
 use Rattle.slabs.specs.Rows.{is_odd_to, is_odd, RiseAbove, Rise, IsPlace, HasAt, IsToggled}
-
-rise_of : (low : ℤ) (es : List End) → RiseAbove low es → Rise es
-rise_of low [] rise = tt
-rise_of low (e ∷ es) rise = rise.1
+use Rattle.slabs.proofs.RowLaws.{rises}
 
 low_below_all : (low : ℤ) (es : List End) (n : ℕ) (d : End) → RiseAbove low es → n < length es → low <ℤ (get_or es n d).x
 low_below_all low [] n d rise lt = absurd (omega (arith, lt))
@@ -23,7 +20,7 @@ earlier_is_lower [] i j d rise le lt = absurd (omega (arith, lt))
 earlier_is_lower (e ∷ es) zero zero d rise le lt = omega (arith, ints)
 earlier_is_lower (e ∷ es) zero (suc j) d rise le lt = let more = low_below_all e.x es j d rise (omega (arith, lt)) in omega (arith, ints, more)
 earlier_is_lower (e ∷ es) (suc i) zero d rise le lt = absurd (omega (arith, le))
-earlier_is_lower (e ∷ es) (suc i) (suc j) d rise le lt = earlier_is_lower es i j d (rise_of e.x es rise) (omega (arith, le)) (omega (arith, lt))
+earlier_is_lower (e ∷ es) (suc i) (suc j) d rise le lt = earlier_is_lower es i j d (rises e.x es rise) (omega (arith, le)) (omega (arith, lt))
 
 -- the ends left of one come before the others
 pub left_first : (es : List End) (end : End) → Rise es → IsPartitionedBy (λ (e : End). int_lt e.x end.x) es
@@ -63,7 +60,7 @@ cancel true true = refl
 cancel true false = refl
 cancel false c = refl
 
-twice_not : (c : Bool) → c ≡ not (not c)
+pub twice_not : (c : Bool) → c ≡ not (not c)
 twice_not true = refl
 twice_not false = refl
 
@@ -109,7 +106,7 @@ low_below [] end = omega (arith, ints)
 low_below (e ∷ es) end = omega (arith, ints, clamps)
 
 toggled_of : (low : ℤ) (old : List End) (end : End) (new : List End) → IsToggledAbove low old end new → IsToggled old end new
-toggled_of low old end new t = record { rise = rise_of low new t.rise; odd = t.odd; same = t.same }
+toggled_of low old end new t = record { rise = rises low new t.rise; odd = t.odd; same = t.same }
 
 pub insert_toggles : (es : List End) (end : End) (n : ℕ) → Rise es → IsPlace es end n → ((e : End) → n < length es → e ≡ get_or es n e → e.x ≢ end.x) → IsToggled es end (insert es n end)
 insert_toggles es end n rise place other = toggled_of (low_of es end) es end _ (inserted (low_of es end) es end n (low_rise es end rise) (low_below es end) place other)

@@ -19,17 +19,17 @@ record IsNewName (before : List Layer) (name : List ℕ) : Type 0 where
   word : is_word name ≡ true
   fresh : list_any (is_named name) before ≡ false
 
-both : (a b : Bool) → (a && not b) ≡ true → (a ≡ true) × (b ≡ false)
-both true true met = cc
-both true false met = (refl, refl)
-both false b met = cc
+pub true_and_not : (a b : Bool) → (a && not b) ≡ true → (a ≡ true) × (b ≡ false)
+true_and_not true true met = cc
+true_and_not true false met = (refl, refl)
+true_and_not false b met = cc
 
 name_facts : (before : List Layer) (s : Section) (name : List ℕ) → name_under before s ≡ Ok name → IsNewName before name
 unfolding name_under
 name_facts before s name made =
     let t = steps_of (text_under s (codes "name")) _ name made in
     let m = met_by (is_word t.x && not (list_any (is_named t.x) before)) t.x name _ t.next in
-    let parts = both (is_word t.x) (list_any (is_named t.x) before) m.holds in
+    let parts = true_and_not (is_word t.x) (list_any (is_named t.x) before) m.holds in
     subst (IsNewName before) m.same (record { word = parts.0; fresh = parts.1 })
 
 record AreShort (n : Numbers) : Type 0 where

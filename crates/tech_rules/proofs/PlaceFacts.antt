@@ -1,11 +1,12 @@
 -- What holds of the places of named layers.
-use Rattle.std.proofs.Common.{◌≡◌, ◌≢◌, ◌&&◌, ◌||◌, ℕ, Bool, true, false, not, List, [], ◌∷◌, ◌++◌, length, get_or, Some, Ok, All, AllPairs, position, refl, sym, ap, subst, suc, append-nil, append_assoc, pos, arith, ◌∙◌}
+use Rattle.std.proofs.Common.{◌≡◌, ◌≢◌, ◌&&◌, ℕ, Bool, true, false, not, List, [], ◌∷◌, ◌++◌, length, get_or, Some, Ok, All, AllPairs, position, refl, sym, ap, subst, suc, append-nil, append_assoc, pos, arith, ◌∙◌}
 use Rattle.std.specs.List.{AllZip}
 use Rattle.std.specs.Str.{bytes_eq}
 use Rattle.std.proofs.lemmas.List.Elements.{All-nil, All-cons}
 use Rattle.std.proofs.lemmas.List.Kept.{AllPairs-cons}
 use Rattle.std.proofs.lemmas.List.Quantifiers.{position-Some}
 use Rattle.std.proofs.lemmas.Slice.Eq.{bytes_eq-Decides}
+use Rattle.std.proofs.lemmas.Bool.{or_parts}
 use Rattle.tech_keys.specs.Keys.{Section, text_under, each}
 use Rattle.tech_keys.proofs.StepLaws.{steps_of, some_of}
 use Rattle.tech_rules.specs.declared.tech.Layer.{Layer}
@@ -73,10 +74,6 @@ places_as_many layers [] (p ∷ ps) named = absurd named
 places_as_many layers (n ∷ ns) [] named = absurd named
 places_as_many layers (n ∷ ns) (p ∷ ps) named = ap (λ (k : ℕ). suc k) (places_as_many layers ns ps named.1)
 
-either_false : (a b : Bool) → (a || b) ≡ false → (a ≡ false) × (b ≡ false)
-either_false true b none = cc
-either_false false b none = (refl, none)
-
 -- a layer whose name isn't among the names has none of their places
 pub others : (layers : List Layer) (name : List ℕ) (place : ℕ) (names : List (List ℕ)) (places : List ℕ)
     → IsPlaceOf layers name place → AllZip (IsPlaceOf layers) names places → holds name names ≡ false → All (λ q. q ≢ place) places
@@ -84,7 +81,7 @@ others layers name place [] [] here named none = All-nil (λ q. q ≢ place)
 others layers name place [] (p ∷ ps) here named none = absurd named
 others layers name place (n ∷ ns) [] here named none = absurd named
 others layers name place (n ∷ ns) (p ∷ ps) here named none =
-    let parts = either_false (bytes_eq n name) (holds name ns) none in
+    let parts = or_parts (bytes_eq n name) (holds name ns) none in
     All-cons (λ q. q ≢ place) p ps
     (λ same. let twice = same_name layers n name place (subst (IsPlaceOf layers n) same named.0) here in
     let equal : bytes_eq n name ≡ true = (bytes_eq-Decides n name).1 twice in
@@ -112,7 +109,7 @@ apart layers [] taken [] qs named other none = All-nil (λ a. All (λ b. a ≢ b
 apart layers [] taken (p ∷ ps) qs named other none = absurd named
 apart layers (n ∷ ns) taken [] qs named other none = absurd named
 apart layers (n ∷ ns) taken (p ∷ ps) qs named other none =
-    let parts = either_false (holds n taken) (share_a_name ns taken) none in
+    let parts = or_parts (holds n taken) (share_a_name ns taken) none in
     All-cons (λ a. All (λ b. a ≢ b) qs) p ps
     (λ k d lt same. others layers n p taken qs named.0 other parts.0 k d lt (sym same))
     (apart layers ns taken ps qs named.1 other parts.1)

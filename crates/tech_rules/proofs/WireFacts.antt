@@ -1,5 +1,6 @@
 -- What holds of the wires that are read.
-use Rattle.std.proofs.Common.{◌≡◌, ◌&&◌, ℕ, ℤ, pos, ◌-ℤ◌, ◌<ℤ◌, Bool, true, false, not, cond, Ordering, Less, Equal, Greater, List, [], length, Option, Some, None, Result, Ok, IfSome, refl, subst, arith, is_some, codes, ◌∙◌, int_rem}
+use Rattle.std.proofs.Common.{◌≡◌, ◌&&◌, ℕ, ℤ, pos, ◌-ℤ◌, ◌<ℤ◌, Bool, true, false, not, cond, Ordering, Less, Equal, Greater, List, [], length, Option, Some, None, Result, Ok, IfSome, subst, arith, is_some, codes, ◌∙◌, int_rem}
+use Rattle.std.proofs.lemmas.Bool.{and_parts}
 use Rattle.std.specs.Cmp.{int_ranks}
 use Rattle.std.specs.Ordering.{int_cmp, int_eq, is_lt, is_eq, MatchOrdering}
 use Rattle.toml.specs.Data.{get}
@@ -13,6 +14,7 @@ use Rattle.tech_rules.specs.Layers.{places_of}
 use Rattle.tech_rules.specs.Names.{are_different, share_a_name}
 use Rattle.tech_rules.specs.Wires.{size_under, is_centred, cut_under, new_names, wire_in, wire_under}
 use Rattle.tech_rules.proofs.PlaceFacts.{places_named, places_are, places_as_many, differ, apart}
+use Rattle.tech_rules.proofs.LayerFacts.{true_and_not}
 
 below_if : (x y : ℤ) (o : Ordering) → MatchOrdering o (x <ℤ y) (x ≡ y) (y <ℤ x) → is_lt o ≡ true → x <ℤ y
 below_if x y Less below less = below
@@ -24,13 +26,9 @@ equal_if x y Less below equal = cc
 equal_if x y Equal same equal = same
 equal_if x y Greater above equal = cc
 
-both_true : (a b : Bool) → (a && b) ≡ true → (a ≡ true) × (b ≡ true)
-both_true true b met = (refl, met)
-both_true false b met = cc
-
 centred_facts : (width cut : ℤ) → is_centred width cut ≡ true → IsCentred width cut
 centred_facts width cut met =
-    let parts = both_true (is_lt (int_cmp cut width)) (int_eq (int_rem (width -ℤ cut) (pos 2)) (pos 0)) met in
+    let parts = and_parts (is_lt (int_cmp cut width)) (int_eq (int_rem (width -ℤ cut) (pos 2)) (pos 0)) met in
     record {
       narrow = below_if cut width (int_cmp cut width) (int_ranks cut width) parts.0;
       even = equal_if (int_rem (width -ℤ cut) (pos 2)) (pos 0) (int_cmp (int_rem (width -ℤ cut) (pos 2)) (pos 0)) (int_ranks (int_rem (width -ℤ cut) (pos 2)) (pos 0)) parts.1;
@@ -54,11 +52,6 @@ record AreNew (count : ℕ) (taken names : List (List ℕ)) : Type 0 where
   as_many : length names ≡ count
   different : are_different names ≡ true
   free : share_a_name names taken ≡ false
-
-true_and_not : (a b : Bool) → (a && not b) ≡ true → (a ≡ true) × (b ≡ false)
-true_and_not true true met = cc
-true_and_not true false met = (refl, refl)
-true_and_not false b met = cc
 
 names_facts : (count : ℕ) (taken : List (List ℕ)) (s : Section) (key : List ℕ) (names : List (List ℕ)) → new_names count taken s key ≡ Ok names → AreNew count taken names
 names_facts count taken s key names made =

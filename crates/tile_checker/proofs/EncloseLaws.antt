@@ -6,8 +6,7 @@ use Rattle.or_geom.specs.declared.shape.Shape.{Shape}
 use Rattle.or_geom.specs.Covered.{IsCovered}
 use Rattle.or_geom.proofs.PlaceLaws.{same_rect}
 use Rattle.ordered_set.specs.Gathering.{SomeHas}
-use Rattle.ordered_set.proofs.OneListLaws.{contains_cases, contains_first, contains_later}
-use Rattle.ordered_set.proofs.GatheringLaws.{none_in}
+use Rattle.ordered_set.proofs.OneListLaws.{contains_cases, contains_first, contains_later, none_in}
 use Rattle.tile_checker.specs.Layers.{rects_on, IsCoveredBy}
 use Rattle.tile_checker.specs.Breaks.{IsGrown, BreaksEnclose}
 

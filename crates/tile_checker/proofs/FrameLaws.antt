@@ -4,8 +4,8 @@ use Rattle.std.proofs.Common.{◌≡◌, ◌≢◌, ◌⊎◌, inl, inr, ℕ, ze
 use Rattle.std.specs.Int.{int_max}
 use Rattle.std.specs.Prelude.{unsigned_abs, Contains}
 use Rattle.or_geom.proofs.PlaceLaws.{same_point}
-use Rattle.ordered_set.proofs.OneListLaws.{contains_cases}
-use Rattle.ordered_set.proofs.GatheringLaws.{rest_at, rest_over, none_in}
+use Rattle.ordered_set.proofs.OneListLaws.{contains_cases, none_in}
+use Rattle.ordered_set.proofs.GatheringLaws.{rest_at, rest_over}
 use Rattle.std.proofs.lemmas.Int.{ints, clamps, by_lt_z}
 use Rattle.or_geom.specs.declared.shape.Point.{Point}
 use Rattle.or_geom.specs.declared.shape.Rect.{Rect}

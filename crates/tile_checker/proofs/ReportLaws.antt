@@ -1,5 +1,5 @@
 -- The report, one rule after another, and as a list in order.
-use Rattle.std.proofs.Common.{◌≡◌, ◌⊎◌, inl, inr, ℕ, zero, suc, ◌+◌, ◌<◌, ◌≤◌, List, [], ◌∷◌, length, get_or, Option, Some, refl, sym, ap, subst, ◌∙◌, arith}
+use Rattle.std.proofs.Common.{◌≡◌, ◌⊎◌, inl, inr, ℕ, zero, suc, ◌+◌, ◌<◌, ◌≤◌, List, [], length, get_or, refl, sym, ap, subst, ◌∙◌, arith}
 use Rattle.std.specs.Prelude.{Contains, All, slice_get}
 use Rattle.std.specs.List.Sorted.{IsStrictlySortedBy}
 use Rattle.or_geom.specs.declared.shape.Shape.{Shape}
@@ -10,6 +10,7 @@ use Rattle.tech_rules.specs.declared.tech.Rule.TheVariants.{Width, Space, Enclos
 use Rattle.tech_rules.specs.declared.tech.Layer.{Layer}
 use Rattle.tech_rules.specs.Facts.{IsRule}
 use Rattle.std.proofs.lemmas.List.Elements.{All-contains}
+use Rattle.std.proofs.lemmas.Option.{same_Some, slice_get_read, slice_get_within}
 use Rattle.tile_checker.specs.Minimum.{HasMinimum}
 use Rattle.tile_checker.specs.Breaks.{Breaks}
 use Rattle.tile_checker.specs.RuleReport.{IsViolation, IsReport, violation_order}
@@ -32,19 +33,6 @@ minimums layers rules seen is all = subst (λ (rs : List Rule). All HasMinimum r
 pub minimum_at : (rules : List Rule) (i : ℕ) (rule : Rule) → All HasMinimum rules → i < length rules → rule ≡ get_or rules i rule → HasMinimum rule
 minimum_at rules i rule all lt is = All-contains HasMinimum rules rule all (i, lt, sym is)
 
-got : (rules : List Rule) (i : ℕ) (rule : Rule) → i < length rules → rule ≡ get_or rules i rule → slice_get rules i ≡ Some rule
-got [] i rule lt is = absurd (omega arith)
-got (r ∷ rs) zero rule lt is = ap (λ (x : Rule). Some x) (sym is)
-got (r ∷ rs) (suc i) rule lt is = got rs i rule (omega arith) is
-
-within : (rules : List Rule) (i : ℕ) (rule : Rule) → slice_get rules i ≡ Some rule → i < length rules
-within [] i rule is = absurd cc
-within (r ∷ rs) zero rule is = omega arith
-within (r ∷ rs) (suc i) rule is = omega (arith, within rs i rule is)
-
-one_rule : (a b : Rule) → ◌≡◌ {A = Option Rule} (Some a) (Some b) → a ≡ b
-one_rule a b e = cc
-
 pub report_begins : (rules : List Rule) (shapes : List Shape) (out : List Violation) → Adds out out (IsBelow rules shapes 0)
 report_begins rules shapes out = adds_none out (IsBelow rules shapes 0) (λ v b. let lt = b.below in omega arith)
 
@@ -58,7 +46,7 @@ step_to : (rules : List Rule) (shapes : List Shape) (n : ℕ) (rule : Rule) → 
 step_to rules shapes n rule lt is v (inl b) = record { below = omega (arith, b.below); violation = b.violation }
 step_to rules shapes n rule lt is v (inr w) = record {
   below = omega (arith, w.numbered);
-  violation = record { rule = rule; numbered = ap (slice_get rules) w.numbered ∙ got rules n rule lt is; first = w.first; second = w.second; breaks = w.breaks };
+  violation = record { rule = rule; numbered = ap (slice_get rules) w.numbered ∙ slice_get_read rules (length rules) n rule refl lt is; first = w.first; second = w.second; breaks = w.breaks };
 }
 
 step_from : (rules : List Rule) (shapes : List Shape) (n : ℕ) (rule : Rule) → n < length rules → rule ≡ get_or rules n rule → (v : Violation) → IsBelow rules shapes (n + 1) v → IsBelow rules shapes n v ⊎ IsViolationOf n rule shapes v
@@ -66,7 +54,7 @@ step_from rules shapes n rule lt is v b = elim (below_or v.rule n b.below) [
   | inl less ↦ inl (record { below = less; violation = b.violation })
   | inr same ↦
       let w = b.violation in
-      let e : w.rule ≡ rule = one_rule w.rule rule (sym w.numbered ∙ (ap (slice_get rules) same ∙ got rules n rule lt is)) in
+      let e : w.rule ≡ rule = same_Some w.rule rule (sym w.numbered ∙ (ap (slice_get rules) same ∙ slice_get_read rules (length rules) n rule refl lt is)) in
       inr (record { numbered = same; first = w.first; second = w.second; breaks = subst (λ (r : Rule). Breaks r shapes v.first v.second) e w.breaks })
 ]
 
@@ -81,5 +69,5 @@ pub report_ends : (rules : List Rule) (shapes : List Shape) (n : ℕ) (found lis
 report_ends rules shapes n found list le a rises keeps adds_none = record {
   rises = rises;
   only = λ v h. (a.only v (subst (λ (l : List Violation). Contains l v) a.is (adds_none v h))).violation;
-  each = λ v w. keeps v (subst (λ (l : List Violation). Contains l v) (sym a.is) (a.each v (record { below = omega (arith, within rules v.rule w.rule w.numbered); violation = w })));
+  each = λ v w. keeps v (subst (λ (l : List Violation). Contains l v) (sym a.is) (a.each v (record { below = omega (arith, slice_get_within rules v.rule w.rule w.numbered); violation = w })));
 }

@@ -1,5 +1,5 @@
 -- A covered box that contains a shape which is joined with no other is that shape.
-use Rattle.std.proofs.Common.{◌≡◌, ◌≢◌, ◌⊎◌, inl, inr, ℕ, ◌<◌, List, [], ◌∷◌, ℤ, pos, ◌≤ℤ◌, ◌<ℤ◌, ◌+ℤ◌, ◌-ℤ◌, Bool, true, false, ◌==◌, if◌then◌else◌, refl, ap, subst, sym, ◌∙◌, arith}
+use Rattle.std.proofs.Common.{◌≡◌, ◌≢◌, ◌⊎◌, inl, inr, ℕ, List, [], ◌∷◌, ℤ, pos, ◌≤ℤ◌, ◌<ℤ◌, ◌+ℤ◌, ◌-ℤ◌, Bool, true, false, ◌==◌, if◌then◌else◌, refl, ap, subst, sym, ◌∙◌, arith}
 use Rattle.std.specs.Prelude.{Contains}
 use Rattle.std.proofs.lemmas.Bool.{eqb-true}
 use Rattle.std.proofs.lemmas.Int.{ints, by_lt_z}
@@ -8,7 +8,7 @@ use Rattle.or_geom.specs.declared.shape.Rect.{Rect}
 use Rattle.or_geom.specs.declared.shape.Shape.{Shape}
 use Rattle.or_geom.specs.Joined.{AreJoined}
 use Rattle.or_geom.specs.Covered.{HasCell, HasCellInSome, IsCovered}
-use Rattle.ordered_set.proofs.OneListLaws.{contains_cases, contains_first, contains_later}
+use Rattle.ordered_set.proofs.OneListLaws.{contains_cases, contains_first, contains_later, none_in}
 use Rattle.tile_checker.specs.Breaks.{Holds, IsAsWide, HasWidth}
 use Rattle.tile_checker.specs.Layers.{rects_on}
 use Rattle.tile_checker.specs.Unjoined.{AreUnjoined, WidthOfUnjoinedShapes}
@@ -162,9 +162,6 @@ alone_on layer shapes unjoined a b one two joined =
 eqb-same : (m n : ℕ) → m ≡ n → (m == n) ≡ true
 eqb-same m n e = grind (arith)
 
-no_item : (k : ℕ) → k < 0 → ⊥
-no_item k lt = omega arith
-
 among_first : (layer : ℕ) (s : Shape) (ss : List Shape) (a : Shape) (b : Bool) → (s.layer == layer) ≡ b → a.layer ≡ layer → (Contains ss a → IsOneOf (rects_on layer ss) a.rect) → (a ≡ s) ⊎ Contains ss a → IsOneOf (if b then s.rect ∷ rects_on layer ss else rects_on layer ss) a.rect
 among_first layer s ss a true e on more (inl is) = inl (ap (λ (u : Shape). u.rect) is)
 among_first layer s ss a true e on more (inr h) = inr (more h)
@@ -175,7 +172,7 @@ among_first layer s ss a false e on more (inl is) =
 among_first layer s ss a false e on more (inr h) = more h
 
 among : (layer : ℕ) (shapes : List Shape) (a : Shape) → Contains shapes a → a.layer ≡ layer → IsOneOf (rects_on layer shapes) a.rect
-among layer [] a h on = absurd (no_item h.0 h.1)
+among layer [] a h on = absurd (none_in h.0 h.1)
 among layer (s ∷ ss) a h on = among_first layer s ss a (s.layer == layer) refl on (λ k. among layer ss a k on) (contains_cases s ss a h)
 
 pub width_of_unjoined_shapes : WidthOfUnjoinedShapes

@@ -1,19 +1,20 @@
-use Rattle.std.proofs.Common.{List, sym, subst, ap, ◌∙◌, length, ◌+◌}
+use Rattle.std.proofs.Common.{List, sym, subst, ap, ◌∙◌, length, ◌+◌, refl}
 use Rattle.std.specs.List.{AllByRecursion}
+use Rattle.std.proofs.lemmas.Option.{slice_get_read}
 use Rattle.cell_hierarchy.specs.declared.drawing.Drawing.{Drawing}
 use Rattle.cell_hierarchy.specs.Drawings.{IsNearDrawing, IsCellDrawing}
 use Rattle.cell_hierarchy.proofs.CellLaws.{cell_flat}
-use Rattle.cell_hierarchy.proofs.DrawnLaws.{at_place, structure_stands, targets_sized, near_drawings, drawings_go_on, drawings_begin, length_pushed}
+use Rattle.cell_hierarchy.proofs.DrawnLaws.{structure_stands, targets_sized, near_drawings, drawings_go_on, drawings_begin, length_pushed}
 use Rattle.cell_hierarchy.proofs.cell.drawings_of.Goals as goal
 
 pub drawing_of-requires-clause-stands : goal.drawing_of-requires-clause-stands
 drawing_of-requires-clause-stands c =
-    let at = at_place c.args.cells.now c.loop-cell.cell-index c.cell-item.result c.loop-cell-test.true c.cell-item.is in
+    let at = slice_get_read c.args.cells.now _ c.loop-cell.cell-index c.cell-item.result refl c.loop-cell-test.true c.cell-item.is in
     structure_stands c.args.structs.now c.args.cells.now c.loop-cell.cell-index c.cell-item.result (c.requires.cells.each c.loop-cell.cell-index c.cell-item.result at)
 
 pub drawing_of-requires-clause-sized : goal.drawing_of-requires-clause-sized
 drawing_of-requires-clause-sized c =
-    let at = at_place c.args.cells.now c.loop-cell.cell-index c.cell-item.result c.loop-cell-test.true c.cell-item.is in
+    let at = slice_get_read c.args.cells.now _ c.loop-cell.cell-index c.cell-item.result refl c.loop-cell-test.true c.cell-item.is in
     targets_sized c.args.structs.now c.args.cells.now c.loop-cell.cell-index c.cell-item.result (c.requires.cells.each c.loop-cell.cell-index c.cell-item.result at)
 
 pub drawing_of-requires-clause-near : goal.drawing_of-requires-clause-near
@@ -23,7 +24,7 @@ drawing_of-requires-clause-near c =
 
 pub loop-cell-preserved : goal.loop-cell-preserved
 loop-cell-preserved c =
-    let at = at_place c.args.cells.now c.loop-cell.cell-index c.cell-item.result c.loop-cell-test.true c.cell-item.is in
+    let at = slice_get_read c.args.cells.now _ c.loop-cell.cell-index c.cell-item.result refl c.loop-cell-test.true c.cell-item.is in
     let drawn = subst (λ (l : List Drawing). IsCellDrawing c.args.layers.now c.args.structs.now l c.cell-item.result c.in_ok-drawing.drawing) c.deref.ensures.value c.in_ok-drawing.ensures in
     let flat = cell_flat c.args.layers.now c.args.structs.now c.args.cells.now c.loop-cell.drawings.items c.loop-cell.cell-index c.cell-item.result c.in_ok-drawing.drawing c.requires.one_set c.requires.writable
     (c.requires.cells.each c.loop-cell.cell-index c.cell-item.result at) c.loop-cell.invariant.sized c.loop-cell.invariant.flat drawn in

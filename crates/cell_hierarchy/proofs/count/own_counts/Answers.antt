@@ -1,10 +1,12 @@
+use Rattle.std.proofs.Common.{refl}
+use Rattle.std.proofs.lemmas.Option.{slice_get_read}
 use Rattle.cell_hierarchy.proofs.CountLaws.{counts_begin, counts_go_on, counts_end}
-use Rattle.cell_hierarchy.proofs.DrawnLaws.{at_place, structure_stands}
+use Rattle.cell_hierarchy.proofs.DrawnLaws.{structure_stands}
 use Rattle.cell_hierarchy.proofs.count.own_counts.Goals as goal
 
 pub own_counts_of-requires-clause-stands : goal.own_counts_of-requires-clause-stands
 own_counts_of-requires-clause-stands c =
-    let at = at_place c.args.cells.now c.loop-cell.cell-index c.cell-item.result c.loop-cell-test.true c.cell-item.is in
+    let at = slice_get_read c.args.cells.now _ c.loop-cell.cell-index c.cell-item.result refl c.loop-cell-test.true c.cell-item.is in
     structure_stands c.args.structs.now c.args.cells.now c.loop-cell.cell-index c.cell-item.result (c.requires.cells.each c.loop-cell.cell-index c.cell-item.result at)
 
 pub loop-cell-init : goal.loop-cell-init

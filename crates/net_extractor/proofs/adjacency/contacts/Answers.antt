@@ -1,5 +1,5 @@
-use Rattle.std.proofs.Common.{ℕ, List, [], ◌∷◌, ◌++◌, ap, ◌∙◌, length, arith}
-use Rattle.net_extractor.proofs.PlaceLaws.{at_index}
+use Rattle.std.proofs.Common.{ℕ, List, [], ◌∷◌, ◌++◌, ap, ◌∙◌, length, arith, refl}
+use Rattle.std.proofs.lemmas.Option.{slice_get_read}
 use Rattle.net_extractor.proofs.ContactLaws.{contacts_more, contacts_all}
 use Rattle.net_extractor.proofs.adjacency.contacts.Goals as goal
 
@@ -11,7 +11,7 @@ loop-shape-init c = record {
 
 pub loop-shape-preserved : goal.loop-shape-preserved
 loop-shape-preserved c =
-    let here = at_index c.args.shapes.now c.loop-shape.shape-index c.shape-item.result c.loop-shape-test.true c.shape-item.is in
+    let here = slice_get_read c.args.shapes.now _ c.loop-shape.shape-index c.shape-item.result refl c.loop-shape-test.true c.shape-item.is in
     contacts_more c.args.tech.now c.args.shapes.now c.loop-shape.graph.items _ c.in_ok-contacts_of.field-0.items c.shape-item.result c.loop-shape.shape-index here
     (c.in_ok-push.ensures.items ∙ ap (λ (ps : List ℕ). c.loop-shape.graph.items ++ ps ∷ []) c.from_vec.ensures)
     c.in_ok-contacts_of.ensures c.loop-shape.invariant

@@ -1,6 +1,6 @@
-use Rattle.std.proofs.lemmas.Option.{slice_get_within}
+use Rattle.std.proofs.Common.{refl}
+use Rattle.std.proofs.lemmas.Option.{slice_get_within, slice_get_read}
 use Rattle.net_extractor.specs.declared.difference.NetDiff.TheVariants.{Unlabelled, Stranger}
-use Rattle.net_extractor.proofs.PlaceLaws.{at_index}
 use Rattle.net_extractor.proofs.DifferenceLaws.{alike, differ, unlabelled, stranger, conflict_first, conflict_within}
 use Rattle.net_extractor.proofs.PinLaws.{labelled_all}
 use Rattle.net_extractor.proofs.comparison.first_difference.Goals as goal
@@ -10,13 +10,13 @@ returns-in-Unlabelled-clause-none c =
     let lack = rw c.in-Unlabelled.is at c.in_ok-place.ensures in
     differ c.args.labels.now c.args.pins.now (Unlabelled c.in_ok-pin-in-Unlabelled.pin)
     (unlabelled c.args.labels.now c.args.pins.now c.in-Unlabelled.place c.index-pins-place.result c.in_ok-pin-in-Unlabelled.pin lack
-    (at_index c.args.pins.now c.in-Unlabelled.place c.index-pins-place.result (slice_get_within c.args.pins.now c.in-Unlabelled.place lack.pin lack.first.here) c.index-pins-place.is) c.in_ok-pin-in-Unlabelled.ensures)
+    (slice_get_read c.args.pins.now _ c.in-Unlabelled.place c.index-pins-place.result refl (slice_get_within c.args.pins.now c.in-Unlabelled.place lack.pin lack.first.here) c.index-pins-place.is) c.in_ok-pin-in-Unlabelled.ensures)
 
 pub returns-in-Unlabelled-clause-first : goal.returns-in-Unlabelled-clause-first
 returns-in-Unlabelled-clause-first c =
     let lack = rw c.in-Unlabelled.is at c.in_ok-place.ensures in
     unlabelled c.args.labels.now c.args.pins.now c.in-Unlabelled.place c.index-pins-place.result c.in_ok-pin-in-Unlabelled.pin lack
-    (at_index c.args.pins.now c.in-Unlabelled.place c.index-pins-place.result (slice_get_within c.args.pins.now c.in-Unlabelled.place lack.pin lack.first.here) c.index-pins-place.is) c.in_ok-pin-in-Unlabelled.ensures
+    (slice_get_read c.args.pins.now _ c.in-Unlabelled.place c.index-pins-place.result refl (slice_get_within c.args.pins.now c.in-Unlabelled.place lack.pin lack.first.here) c.index-pins-place.is) c.in_ok-pin-in-Unlabelled.ensures
 
 pub label_name-requires : goal.label_name-requires
 label_name-requires c =

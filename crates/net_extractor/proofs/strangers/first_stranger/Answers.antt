@@ -1,10 +1,10 @@
 use Rattle.std.proofs.Common.{◌≡◌, ℕ, List, refl, sym, ap, subst, ◌∙◌, arith}
-use Rattle.std.proofs.lemmas.Option.{slice_get_within}
+use Rattle.std.proofs.lemmas.Option.{slice_get_within, slice_get_read}
 use Rattle.ordered_set.proofs.GatheringLaws.{some_has, who_has}
 use Rattle.net_extractor.specs.declared.label.NetLabel.{NetLabel}
 use Rattle.net_extractor.specs.Difference.{in_lower_case, IsPlacedBy, IsStranger}
 use Rattle.net_extractor.proofs.PathLaws.{not_empty}
-use Rattle.net_extractor.proofs.PlaceLaws.{at_index, each_more}
+use Rattle.net_extractor.proofs.PlaceLaws.{each_more}
 use Rattle.net_extractor.proofs.strangers.first_stranger.Goals as goal
 
 pub returns-then-not-is_placed : goal.returns-then-not-is_placed
@@ -14,7 +14,7 @@ returns-then-not-is_placed c =
     record {
       label = c.index-labels-place.result;
       first = record {
-        here = at_index c.args.labels.now c.loop-place.place c.index-labels-place.result c.loop-place-test.true c.index-labels-place.is;
+        here = slice_get_read c.args.labels.now _ c.loop-place.place c.index-labels-place.result refl c.loop-place-test.true c.index-labels-place.is;
         has = record {
           inner = λ e. not_empty c.as_bytes-path.result.now c.if-is_empty.ensures (path ∙ e);
           nowhere = λ pin h p.
@@ -30,7 +30,7 @@ loop-place-preserved c =
     let path : c.as_bytes-path.result.now ≡ c.index-labels-place.result.path = c.as_bytes-path.ensures ∙ ap (λ (l : NetLabel). l.path) (sym c.index-labels-place.is) in
     let low : c.deref.result.now ≡ in_lower_case c.index-labels-place.result.path = c.deref.ensures.value ∙ (c.in_ok-lower.ensures ∙ ap in_lower_case path) in
     each_more (λ k label. IsStranger c.args.pins.now label → ⊥) c.args.labels.now c.loop-place.place c.index-labels-place.result
-    (at_index c.args.labels.now c.loop-place.place c.index-labels-place.result c.loop-place-test.true c.index-labels-place.is)
+    (slice_get_read c.args.labels.now _ c.loop-place.place c.index-labels-place.result refl c.loop-place-test.true c.index-labels-place.is)
     (λ s.
     let w = who_has (IsPlacedBy c.deref.result.now) c.args.pins.now (c.if-not-is_placed.ensures.0 refl) in
     s.nowhere w.0 w.1 (subst (λ (t : List ℕ). IsPlacedBy t w.0) low w.2))
