@@ -34,10 +34,6 @@ pub record AreNumbered (named : List NamedPin) (rows : List RowPin) : Type 0 whe
   pub one : (j k : ℕ) → j < length named → k < length named → (number_at rows j ≡ number_at rows k) ↔ (net_at named j ≡ net_at named k)
   pub first : (k smaller : ℕ) → k < length named → smaller < number_at rows k → HasBefore (map (λ r. r.net) rows) k smaller
 
--- the row of a named row, with this number
-abbrev pub row_of : NamedPin → ℕ → RowPin
-row_of n number = record { path = n.path; leaf = n.leaf; pin = n.pin; net = number }
-
 -- the net stands in the list at the number, and the list is the old one or has the net behind it
 pub record IsNumberOf (nets : List (List ℕ)) (net : List ℕ) (number : ℕ) (nets' : List (List ℕ)) : Type 0 where
   pub either : (nets' ≡ nets) ⊎ ((nets' ≡ nets ++ net ∷ []) × (number ≡ length nets) × (Contains nets net → ⊥))

@@ -10,7 +10,9 @@ use std::alloc::Global;
 /// memory where the way is long.
 #[derive(Clone, Copy)]
 pub struct Net<'a> {
+    /// How many bytes of the way stand before the name.
     pub way: usize,
+    /// Its name in the subcircuit in which it is local.
     pub name: &'a [u8],
 }
 

@@ -7,7 +7,7 @@ use crate::block::{Block, Part};
 use crate::frame::Net;
 use crate::rows::RowList;
 use crate::table::block_at;
-use crate::text::joined;
+use crate::text::concatenated;
 use crate::way::Way;
 use or_geom::{Items, Memory, Name};
 use std::alloc::Global;
@@ -27,7 +27,7 @@ fn net_bytes(alloc: Global, way: &[u8], net: &Net) -> Result<Items<u8>, Memory>
     requires { net.now.way ≤ length way.now }
     ensures { IfOk result (λ text. text ≡ text_of way.now net.now) }
 {
-    joined(alloc, &way[..net.way], net.name)
+    concatenated(alloc, &way[..net.way], net.name)
 }
 
 /// Adds the rows of an instance of the leaf.
@@ -71,6 +71,6 @@ pub fn add_pins(
     if !block.leaf {
         return Ok(());
     }
-    let path = joined(alloc, &way.path, part.name.as_bytes())?;
+    let path = concatenated(alloc, &way.path, part.name.as_bytes())?;
     add_leaf(alloc, block, path.as_slice(), &way.net, nets, rows)
 }

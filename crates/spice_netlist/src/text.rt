@@ -4,7 +4,7 @@ use or_geom::{Items, Memory};
 use std::alloc::Global;
 
 /// The first text and then the second.
-pub fn joined(alloc: Global, first: &[u8], second: &[u8]) -> Result<Items<u8>, Memory>
+pub fn concatenated(alloc: Global, first: &[u8], second: &[u8]) -> Result<Items<u8>, Memory>
     ensures { IfOk result (λ whole. whole ≡ first.now ++ second.now) }
 {
     let mut whole = Vec::from_slice(alloc, first)?;

@@ -78,7 +78,7 @@ fn top_frame<'a, 't>(
 /// Adds the rows of the pins of the leaf instances below the top, in the order of a depth-first walk. `tables` has the
 /// places of the ports of each subcircuit with pins below it, and `none` has no names.
 ///
-/// The walk keeps its place in a vector, so that the stack does not grow with the depth. It goes only where there are pins,
+/// The walk keeps its place in a vector, so that the stack doesn't grow with the depth. It goes only where there are pins,
 /// and writes each once.
 fn walk<'a, 't>(
     alloc: Global,

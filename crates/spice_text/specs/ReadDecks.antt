@@ -27,6 +27,6 @@ pub record IsOfNames (s : Subckt) : Type 0 where
 abbrev pub DecksAreWritable : Type 0
 DecksAreWritable = (bytes : List ℕ) (d : Deck) → deck bytes ≡ Ok d → AllByRecursion IsOfNames d.subckts → AreWritable d.subckts
 
--- what is read has its names in lower case, so it is written and read back as the same
+-- what is read has its names in lower case, so where it can be written it is read back as the same
 abbrev pub DecksAreLowered : Type 0
 DecksAreLowered = (bytes : List ℕ) (d : Deck) → deck bytes ≡ Ok d → map lowered_subckt d.subckts ≡ d.subckts

@@ -6,7 +6,7 @@ pub fn appended_is_read()
     ensures { AppendedIsRead }
 {}
 
-/// What is read has its names in lower case: it is the same once it is written and read back.
+/// What is read has its names in lower case: where it can be written, it is read back as the same.
 pub fn decks_are_lowered()
     ensures { DecksAreLowered }
 {}

@@ -1,6 +1,6 @@
-ghost use Rattle.std.specs.Prelude.{◌≡◌, ◌↔◌, [], map, IfOk, IsTrue};
+ghost use Rattle.std.specs.Prelude.{◌≡◌, ◌↔◌, [], map, not, IfOk, OnOk, IsTrue};
 ghost use Rattle.std.specs.List.{list_all};
-ghost use Rattle.spice_text.specs.Words.{lower};
+ghost use Rattle.spice_text.specs.Words.{is_among, lower, with_name};
 ghost use Rattle.spice_text.specs.Subcircuits.{has_repeat};
 ghost use Rattle.spice_text.specs.Writable.{instance_name, subckt_name, AreWritable};
 ghost use Rattle.spice_text.specs.WritableTests as test;
@@ -74,14 +74,22 @@ fn has_only_names(subckt: &Subckt) -> bool
         && are_instances(subckt.instances.as_slice())
 }
 
+/// Adds a name in lower case, and says whether it is new.
+fn add_name(alloc: Global, seen: &mut Names, name: &Name) -> Result<bool, Memory>
+    ensures new { IfOk result (λ new. new ≡ not (is_among (lower name.now) seen.old)) }
+    ensures names { OnOk result (seen.new ≡ with_name seen.old (lower name.now)) }
+{
+    let lower = lowered(alloc, name.as_bytes())?;
+    seen.add(alloc, lower.as_slice())
+}
+
 /// Whether a name stands among the names twice, without regard to case.
 fn names_repeat(alloc: Global, names: &[Name]) -> Result<bool, Memory>
     ensures { IfOk result (λ repeats. repeats ≡ has_repeat [] (map lower names.now)) }
 {
     let mut seen = Names::new(alloc);
     for name in names {
-        let lower = lowered(alloc, name.as_bytes())?;
-        if !seen.add(alloc, lower.as_slice())? {
+        if !add_name(alloc, &mut seen, name)? {
             return Ok(true);
         }
     }
@@ -94,8 +102,7 @@ fn instances_repeat(alloc: Global, instances: &[Instance]) -> Result<bool, Memor
 {
     let mut seen = Names::new(alloc);
     for instance in instances {
-        let lower = lowered(alloc, instance.name.as_bytes())?;
-        if !seen.add(alloc, lower.as_slice())? {
+        if !add_name(alloc, &mut seen, &instance.name)? {
             return Ok(true);
         }
     }
@@ -108,14 +115,14 @@ fn subckts_repeat(alloc: Global, subckts: &[Subckt]) -> Result<bool, Memory>
 {
     let mut seen = Names::new(alloc);
     for subckt in subckts {
-        let lower = lowered(alloc, subckt.name.as_bytes())?;
-        if !seen.add(alloc, lower.as_slice())? {
+        if !add_name(alloc, &mut seen, &subckt.name)? {
             return Ok(true);
         }
     }
     Ok(false)
 }
 
+/// Whether the subcircuit can be written, whatever the others are called.
 fn is_writable(alloc: Global, subckt: &Subckt) -> Result<bool, Memory>
     ensures { IfOk result (λ writable. writable ≡ test.is_writable subckt.now) }
 {
