@@ -4,6 +4,7 @@ use Rattle.std.specs.Prelude.{Contains, slice_get}
 use Rattle.std.proofs.lemmas.Option.{slice_get_within, get_or_from_slice_get}
 use Rattle.std.proofs.lemmas.List.{get_or_default}
 use Rattle.std.proofs.lemmas.List.Elements.{Contains-get_or}
+use Rattle.reference_graph.proofs.OrderLaws.{path_back}
 use Rattle.reference_graph.specs.Reaches as paths
 use Rattle.reference_graph.specs.Reaches.{RefersTo, IsPath}
 use Rattle.reference_graph.specs.BottomUp.{StandsBefore, IsBottomUp, IsOrder}
@@ -39,16 +40,6 @@ lower_than graph node to height below h low refers b =
     let le = h.most (to ∷ b.path) b.end (refers, b.leads) in
     omega (arith, le, b.long, low)
 
-later : (order : List ℕ) (place more node : ℕ) → place ≤ more → StandsBefore order place node → StandsBefore order more node
-later order place more node le s = record { earlier = s.earlier; before = omega (arith, s.before); is = s.is }
-
--- what a path that isn't empty leads to stands before where it begins
-path_back : (graph : List (List ℕ)) (order : List ℕ) → IsBottomUp graph order → (place next to : ℕ) (rest : List ℕ) → place < length order → IsPath graph (get_or order place 0) (next ∷ rest) to → StandsBefore order place to
-path_back graph order b place next to [] lt leads = subst (StandsBefore order place) (sym leads.1) (b.after place next lt leads.0)
-path_back graph order b place next to (more ∷ rest) lt leads =
-    let s = b.after place next lt leads.0 in
-    later order s.earlier place to (omega (arith, s.before)) (path_back graph order b s.earlier more to rest (omega (arith, s.before)) (subst (λ (n : ℕ). IsPath graph n (more ∷ rest) to) (sym s.is) leads.1))
-
 -- the last of an order
 pub record HasLast (order : List ℕ) (start : ℕ) : Type 0 where
   pub before : ℕ
@@ -59,7 +50,7 @@ last_by : (graph : List (List ℕ)) (start : ℕ) (order : List ℕ) → IsOrder
     → IsPath graph (get_or order place 0) path (get_or order before 0) → get_or order before 0 ≡ start
 last_by graph start order o place before lt is count [] leads = leads ∙ is
 last_by graph start order o place before lt is count (next ∷ rest) leads =
-    let s = path_back graph order o.bottom_up place next (get_or order before 0) rest lt leads in
+    let s = path_back graph order o.bottom_up place (get_or order place 0) next (get_or order before 0) rest lt refl leads in
     absurd (o.bottom_up.once s.earlier before 0 (omega (arith, s.before)) (omega (arith, count)) s.is)
 
 pub start_last : (graph : List (List ℕ)) (start : ℕ) (order : List ℕ) → IsOrder graph start order → HasLast order start

@@ -9,6 +9,7 @@ use Rattle.std.proofs.lemmas.Option.{none-some, same_Some}
 use Rattle.std.proofs.lemmas.List.{get_or_past}
 use Rattle.or_geom.specs.declared.shape.Point.{Point}
 use Rattle.or_geom.specs.declared.place.Place.{Place}
+use Rattle.or_geom.proofs.ListLaws.{contains_none, contains_cases, contains_option, contains_map}
 use Rattle.reference_graph.specs.Reaches.{AreWithin, IsPath}
 use Rattle.gds_stream.specs.declared.library.Element.{Element}
 use Rattle.gds_stream.specs.declared.library.Element.TheVariants.{Boundary, Path, Sref, Aref, Text}
@@ -18,8 +19,8 @@ use Rattle.cell_chains.specs.Instances.{Item, HasItem, IsArrayItem, reference_na
 use Rattle.cell_chains.specs.Chains.{elements_of, IsItemFrom, IsItemOf, IsChain}
 use Rattle.cell_chains.specs.Hierarchy.{referred_name}
 use Rattle.cell_chains.specs.Numbering.{name_at, referred_names, IsGraph}
-use Rattle.cell_chains.proofs.MemberLaws.{contains_cases, none_contained, image_from, image_in}
-use Rattle.cell_chains.proofs.TargetLaws.{one_referred, more_referred}
+use Rattle.cell_chains.proofs.MemberLaws.{image_from}
+use Rattle.cell_chains.proofs.TargetLaws.{one_referred}
 
 -- an item that leads to a structure of this name
 pub record HasItemTo (P : Item → Type 0) (name : List ℕ) : Type 0 where
@@ -54,7 +55,7 @@ named_by None name more h = inr h
 named_by (Some n) name more h = elim (contains_cases n more name h) [ inl e ↦ inl (ap (λ (m : List ℕ). Some m) (sym e)) | inr later ↦ inr later ]
 
 item_among : (n : ℕ) (es : List Element) (name : List ℕ) → AllByRecursion IsWritableElement es → Contains (referred_names es) name → HasItemTo (IsItemFrom n es) name
-item_among n [] name w h = absurd (none_contained name h)
+item_among n [] name w h = absurd (contains_none name h)
 item_among n (e ∷ es) name w h = elim (named_by (referred_name e) name (referred_names es) h) [
   | inl here ↦ let i = item_of_element n e name w.0 here in record { item = i.item; stands = inl i.stands; to = i.to }
   | inr later ↦ let i = item_among (suc n) es name w.1 later in record { item = i.item; stands = inr i.stands; to = i.to }
@@ -85,13 +86,13 @@ pub refers_from : (n : ℕ) (es : List Element) (item : Item) → IsItemFrom n e
 refers_from n [] item h = absurd h
 refers_from n (e ∷ es) item h = elim h [
   | inl here ↦ one_referred (referred_name e) item.cell (referred_names es) (refers_for n e item here)
-  | inr later ↦ more_referred (referred_name e) item.cell (referred_names es) (refers_from (suc n) es item later)
+  | inr later ↦ contains_option (referred_name e) (referred_names es) item.cell (refers_from (suc n) es item later)
 ]
 
 pub graph_within : (structs : List Structure) (names : List (List ℕ)) (graph : List (List ℕ)) → IsGraph structs names graph → AreWithin graph
 graph_within structs names graph g node to refers = elim (cases_lt node (length graph)) [
   | inl lt ↦ let h = (g.each node (omega (arith, g.sized))).within to refers in omega (arith, h, g.sized)
-  | inr past ↦ absurd (none_contained to (subst (λ (xs : List ℕ). Contains xs to) (get_or_past graph node [] past) refers))
+  | inr past ↦ absurd (contains_none to (subst (λ (xs : List ℕ). Contains xs to) (get_or_past graph node [] past) refers))
 ]
 
 -- the chain along a path
@@ -106,7 +107,7 @@ chain_along structs names graph w g from to [] lt leads = record { chain = []; l
 chain_along structs names graph w g from to (next ∷ rest) lt leads =
     let r = g.each from lt in
     let named : Contains (referred_names (elements_of structs (name_at names from))) (name_at names next) =
-    subst (λ (ns : List (List ℕ)). Contains ns (name_at names next)) r.named (image_in (name_at names) (get_or graph from []) next leads.0) in
+    subst (λ (ns : List (List ℕ)). Contains ns (name_at names next)) r.named (contains_map (name_at names) (get_or graph from []) next leads.0) in
     let i = item_from structs (name_at names from) (name_at names next) w named in
     let c = chain_along structs names graph w g next to rest (r.within next leads.0) leads.1 in
     record {

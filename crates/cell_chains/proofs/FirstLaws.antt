@@ -7,6 +7,8 @@ use Rattle.std.proofs.lemmas.Option.{none-some, same_Some, get_or_from_slice_get
 use Rattle.std.proofs.lemmas.List.{get_or_default, take_more, take_all, length-take-le, get_or-set_same, get_or-set_other, length-set, get_or-replicate, length-replicate}
 use Rattle.std.proofs.lemmas.List.Elements.{Contains-get_or}
 use Rattle.std.proofs.lemmas.Slice.Eq.{bytes_eq-Decides}
+use Rattle.or_geom.proofs.ListLaws.{none_is}
+use Rattle.or_geom.proofs.NameLaws.{other_name}
 use Rattle.gds_stream.specs.declared.library.Structure.{Structure}
 use Rattle.cell_chains.specs.Chains.{elements_of, IsThere}
 use Rattle.cell_chains.specs.Numbering.{name_at, Rises, IsNode, first_from, AreFirsts}
@@ -97,21 +99,6 @@ push_new n (t ∷ ss) s name named is =
     let e : suc n + length ss ≡ n + suc (length ss) = omega arith in
     new_by (bytes_eq t.name name) n (n + suc (length ss)) (first_from (suc n) ss name) (first_from (suc n) (ss ++ s ∷ []) name) (λ none. push_new (suc n) ss s name named none ∙ ap (λ (k : ℕ). Some k) e) is
 
-differ : (s : Structure) (name : List ℕ) → (s.name ≡ name → ⊥) → bytes_eq s.name name ≡ false
-differ s name other = elim (cases_Bool (bytes_eq s.name name)) [
-  | inl same ↦ absurd (other ((bytes_eq-Decides s.name name).0 same))
-  | inr differs ↦ differs
-]
-
-pub firsts_begin : (structs : List Structure) (names : List (List ℕ)) (count : ℕ) → count ≡ length names → AreFirsts (take 0 structs) names (replicate count None)
-firsts_begin structs names count e = record {
-  sized = length-replicate count None ∙ e;
-  each = λ node lt. get_or-replicate count node None None (omega arith);
-}
-
-pub firsts_end : (structs : List Structure) (names : List (List ℕ)) (firsts : List (Option ℕ)) (i : ℕ) → length structs ≤ i → AreFirsts (take i structs) names firsts → AreFirsts structs names firsts
-firsts_end structs names firsts i le f = subst (λ (ss : List Structure). AreFirsts ss names firsts) (take_all i structs le) f
-
 -- one structure more, whose name isn't among the names
 pub firsts_pass : (structs : List Structure) (names : List (List ℕ)) (firsts : List (Option ℕ)) (i : ℕ) (d : Structure) (name : List ℕ) → i < length structs → name ≡ (get_or structs i d).name → (Contains names name → ⊥)
     → AreFirsts (take i structs) names firsts → AreFirsts (take (i + 1) structs) names firsts
@@ -121,11 +108,11 @@ firsts_pass structs names firsts i d name lt is none f =
     (record {
       sized = f.sized;
       each = λ node below. f.each node below
-          ∙ sym (push_other 0 (take i structs) s (name_at names node) (differ s (name_at names node) (λ e. none (subst (Contains names) (sym (is ∙ e)) (Contains-get_or names node [] below)))));
+          ∙ sym (push_other 0 (take i structs) s (name_at names node) (other_name s.name (name_at names node) (λ e. none (subst (Contains names) (sym (is ∙ e)) (Contains-get_or names node [] below)))));
     })
 
 other_node : (names : List (List ℕ)) (s : Structure) (name : List ℕ) (node k : ℕ) → Rises names → name ≡ s.name → IsNode names name node → k < length names → (k ≡ node → ⊥) → bytes_eq s.name (name_at names k) ≡ false
-other_node names s name node k rises is here lt other = differ s (name_at names k) (λ e. other (sym (one_node names node k rises here.within lt (here.named ∙ (is ∙ e)))))
+other_node names s name node k rises is here lt other = other_name s.name (name_at names k) (λ e. other (sym (one_node names node k rises here.within lt (here.named ∙ (is ∙ e)))))
 
 -- whether there is a first structure yet
 pub is_seen : (firsts : List (Option ℕ)) (node : ℕ) (read : Option ℕ) (b : Bool) → node < length firsts → read ≡ get_or firsts node read → b ≡ is_some read → b ≡ is_some (get_or firsts node None)
@@ -135,10 +122,6 @@ is_seen firsts node read b lt is e = e ∙ ap is_some (is ∙ get_or_default fir
 some_in : (o : Option ℕ) → true ≡ is_some o → (k : ℕ) × (o ≡ Some k)
 some_in None e = absurd cc
 some_in (Some k) e = (k, refl)
-
-none_in : (o : Option ℕ) → false ≡ is_some o → o ≡ None
-none_in None e = refl
-none_in (Some k) e = absurd cc
 
 -- one structure more, of a name that has one
 pub firsts_keep : (structs : List Structure) (names : List (List ℕ)) (firsts : List (Option ℕ)) (i : ℕ) (d : Structure) (name : List ℕ) (node : ℕ) → i < length structs → name ≡ (get_or structs i d).name → Rises names
@@ -167,7 +150,7 @@ firsts_add structs names firsts i d name node lt is rises here unseen f =
       sized = length-set firsts node (Some i) ∙ f.sized;
       each = λ other below. elim (cases_eq other node) [
         | inl e ↦
-            let old : get_or firsts other None ≡ None = ap (λ (m : ℕ). get_or firsts m None) e ∙ none_in (get_or firsts node None) unseen in
+            let old : get_or firsts other None ≡ None = ap (λ (m : ℕ). get_or firsts m None) e ∙ none_is (get_or firsts node None) unseen in
             let named : s.name ≡ name_at names other = sym (here.named ∙ is) ∙ ap (name_at names) (sym e) in
             let size : 0 + length (take i structs) ≡ i = (let e : length (take i structs) ≡ i = length-take-le i structs (omega arith) in omega arith) in
             let inside : other < length firsts = omega (arith, f.sized) in

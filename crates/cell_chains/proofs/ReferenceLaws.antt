@@ -6,29 +6,20 @@ use Rattle.std.specs.Str.{bytes_eq}
 use Rattle.std.proofs.lemmas.Bool.{cases_lt}
 use Rattle.std.proofs.lemmas.List.{map_push, get_or_append_left, get_or_push, length_push}
 use Rattle.std.proofs.lemmas.List.Elements.{Contains-push_cases, Contains-append_left, Contains-append_right}
+use Rattle.or_geom.proofs.ListLaws.{contains_none, contains_first}
 use Rattle.gds_stream.specs.declared.library.Element.{Element}
 use Rattle.gds_stream.specs.declared.library.Structure.{Structure}
 use Rattle.cell_chains.specs.Chains.{elements_of}
 use Rattle.cell_chains.specs.Hierarchy.{referred_name}
 use Rattle.cell_chains.specs.Numbering.{name_at, referred_names, all_referred, IsNode, AreReferences, IsGraph}
-use Rattle.cell_chains.proofs.MemberLaws.{none_contained, contains_first}
 
 -- so far in a loop over the elements, of which `rest` are left
 pub record IsReading (names : List (List ℕ)) (elements rest : List Element) (nodes : List ℕ) : Type 0 where
   pub within : (node : ℕ) → Contains nodes node → node < length names
   pub named : map (name_at names) nodes ++ referred_names rest ≡ referred_names elements
 
-pub reading_begins : (names : List (List ℕ)) (elements : List Element) → IsReading names elements elements []
-reading_begins names elements = record { within = λ node h. absurd (none_contained node h); named = refl }
-
 rest_named : (first : Element) (others rest : List Element) (name : Option (List ℕ)) → rest ≡ first ∷ others → referred_name first ≡ name → referred_names rest ≡ cons_option name (referred_names others)
 rest_named first others rest name e is = ap referred_names e ∙ ap (λ (o : Option (List ℕ)). cons_option o (referred_names others)) is
-
-pub reading_passes : (names : List (List ℕ)) (elements rest others : List Element) (first : Element) (nodes : List ℕ) → rest ≡ first ∷ others → referred_name first ≡ None → IsReading names elements rest nodes → IsReading names elements others nodes
-reading_passes names elements rest others first nodes e is r = record {
-  within = r.within;
-  named = ap (λ (more : List (List ℕ)). map (name_at names) nodes ++ more) (sym (rest_named first others rest None e is)) ∙ r.named;
-}
 
 pub reading_adds : (names : List (List ℕ)) (elements rest others : List Element) (first : Element) (nodes : List ℕ) (name : List ℕ) (node : ℕ) → rest ≡ first ∷ others → referred_name first ≡ Some name → IsNode names name node
     → IsReading names elements rest nodes → IsReading names elements others (nodes ++ node ∷ [])
@@ -48,12 +39,6 @@ reading_there names elements rest others first nodes name e is r =
     subst (λ (all : List (List ℕ)). Contains all name) r.named
     (Contains-append_right (map (name_at names) nodes) (referred_names rest) name (subst (λ (more : List (List ℕ)). Contains more name) (sym (rest_named first others rest (Some name) e is)) (contains_first name (referred_names others))))
 
-pub reading_ends : (names : List (List ℕ)) (elements rest : List Element) (nodes : List ℕ) → rest ≡ [] → IsReading names elements rest nodes → AreReferences names elements nodes
-reading_ends names elements rest nodes e r = record {
-  within = r.within;
-  named = sym (append-nil (map (name_at names) nodes)) ∙ (ap (λ (more : List Element). map (name_at names) nodes ++ referred_names more) (sym e) ∙ r.named);
-}
-
 referred_by : (b : Bool) (s : Structure) (ss : List Structure) (of name : List ℕ) → bytes_eq s.name of ≡ b → (Contains (referred_names (elements_of ss of)) name → Contains (all_referred ss) name)
     → Contains (referred_names (cond b s.elements (elements_of ss of))) name → Contains (all_referred (s ∷ ss)) name
 referred_by true s ss of name test below h = Contains-append_left (referred_names s.elements) (all_referred ss) name h
@@ -61,16 +46,13 @@ referred_by false s ss of name test below h = Contains-append_right (referred_na
 
 -- what the structure of a name refers to is among what structures refer to
 pub referred_there : (structs : List Structure) (of name : List ℕ) → Contains (referred_names (elements_of structs of)) name → Contains (all_referred structs) name
-referred_there [] of name h = absurd (none_contained name h)
+referred_there [] of name h = absurd (contains_none name h)
 referred_there (s ∷ ss) of name h = referred_by (bytes_eq s.name of) s ss of name refl (referred_there ss of name) h
 
 -- so far in a loop over the names
 pub record IsGraphTo (structs : List Structure) (names : List (List ℕ)) (graph : List (List ℕ)) (count : ℕ) : Type 0 where
   pub sized : length graph ≡ count
   pub each : (node : ℕ) → node < count → AreReferences names (elements_of structs (name_at names node)) (get_or graph node [])
-
-pub graph_begins : (structs : List Structure) (names : List (List ℕ)) → IsGraphTo structs names [] 0
-graph_begins structs names = record { sized = refl; each = λ node lt. absurd (omega arith) }
 
 pub graph_more : (structs : List Structure) (names : List (List ℕ)) (graph : List (List ℕ)) (count : ℕ) (references : List ℕ) → AreReferences names (elements_of structs (name_at names count)) references → IsGraphTo structs names graph count
     → IsGraphTo structs names (graph ++ references ∷ []) (count + 1)
@@ -86,6 +68,3 @@ graph_more structs names graph count references r g = record {
         rw (get_or_push graph references [] node long) (subst (λ (n : ℕ). AreReferences names (elements_of structs (name_at names n)) references) same r)
   ];
 }
-
-pub graph_ends : (structs : List Structure) (names : List (List ℕ)) (graph : List (List ℕ)) (count : ℕ) → count ≡ length names → IsGraphTo structs names graph count → IsGraph structs names graph
-graph_ends structs names graph count e g = record { sized = g.sized ∙ e; each = λ node lt. g.each node (omega arith) }

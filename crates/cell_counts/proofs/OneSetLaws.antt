@@ -5,6 +5,7 @@ use Rattle.std.proofs.lemmas.List.{get_or-map, length-map}
 use Rattle.std.proofs.lemmas.List.Elements.{All-map, All-contains, Contains-get_or, Contains-append_left, Contains-append_right, Contains-append_cases}
 use Rattle.or_geom.specs.declared.shape.Rect.{Rect}
 use Rattle.or_geom.specs.declared.shape.Shape.{Shape}
+use Rattle.or_geom.proofs.ListLaws.{contains_map}
 use Rattle.gds_stream.specs.declared.library.Element.{Element}
 use Rattle.gds_stream.specs.declared.library.Element.TheVariants.{Boundary, Path, Sref, Aref, Text}
 use Rattle.gds_stream.specs.Writable.{IsWritableBody}
@@ -20,9 +21,6 @@ one_drawing (Path layer datatype kind width points props) rs ss w a b r c = subs
 one_drawing (Sref name place props) rs ss w a b r c = subst (λ (ts : List Rect). Contains ts r) (a ∙ sym b) c
 one_drawing (Aref name place columns rows across down props) rs ss w a b r c = subst (λ (ts : List Rect). Contains ts r) (a ∙ sym b) c
 one_drawing (Text layer texttype at string props) rs ss w a b r c = subst (λ (ts : List Rect). Contains ts r) (a ∙ sym b) c
-
-contains_map : (f : Rect → Shape) (rs : List Rect) (r : Rect) → Contains rs r → Contains (map f rs) (f r)
-contains_map f rs r c = (c.0, subst (λ (n : ℕ). c.0 < n) (sym (length-map rs f)) c.1, get_or-map f rs c.0 r (f r) c.1 ∙ ap f c.2)
 
 map_kept : (f : Rect → Shape) (rs ss : List Rect) → ((r : Rect) → Contains rs r → Contains ss r) → (s : Shape) → Contains (map f rs) s → Contains (map f ss) s
 map_kept f rs ss kept s c =

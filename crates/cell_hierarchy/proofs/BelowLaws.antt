@@ -6,22 +6,18 @@ use Rattle.std.proofs.lemmas.Bool.{ltb-true, ltb-false}
 use Rattle.std.specs.Prelude.{unsigned_abs, Contains, slice_get}
 use Rattle.or_geom.specs.declared.shape.Point.{Point}
 use Rattle.or_geom.specs.declared.place.Place.{Place}
+use Rattle.std.proofs.lemmas.List.{drop_all}
+use Rattle.or_geom.proofs.ListLaws.{rest_at, below_or}
+use Rattle.cell_hierarchy.proofs.NearLaws.{by_size}
 use Rattle.ordered_set.specs.Adds.{Adds}
 use Rattle.ordered_set.specs.Gathering.{SomeGives}
 use Rattle.ordered_set.proofs.AddsLaws.{adds_none, adds_both, adds_as}
-use Rattle.ordered_set.proofs.GatheringLaws.{giver, gives_some, rest_at, rest_over}
+use Rattle.ordered_set.proofs.GatheringLaws.{giver, gives_some}
 use Rattle.gds_stream.specs.declared.library.Prop.{Prop}
 use Rattle.gds_stream.specs.declared.library.Element.{Element}
 use Rattle.gds_stream.specs.declared.library.Element.TheVariants.{Sref, Aref}
 use Rattle.cell_chains.specs.Instances.{Item, reference_name, array_name, item_place}
 use Rattle.cell_hierarchy.specs.Below.{ElementGives, SomeElementGives, SomeBelow}
-
--- numbers below a bound, one more
-below_or : (a n : ℕ) → a < n + 1 → (a < n) ⊎ (a ≡ n)
-below_or zero zero lt = inr refl
-below_or zero (suc n) lt = inl (omega arith)
-below_or (suc a) zero lt = absurd (omega arith)
-below_or (suc a) (suc n) lt = elim (below_or a n (omega arith)) [ inl h ↦ inl (omega arith) | inr e ↦ inr (ap suc e) ]
 
 pub step_to : {X : Type 0} (P : ℕ → X → Type 0) (n : ℕ) (x : X) → SomeBelow P n x ⊎ P n x → SomeBelow P (n + 1) x
 step_to P n x (inl b) = record { index = b.index; below = omega (arith, b.below); has = b.has }
@@ -140,7 +136,7 @@ elements_go_on {X = X} Moves Has es n e old now next lt is so_far step =
 
 pub elements_end : {X : Type 0} (Moves : Item → X → X → Type 0) (Has : ℕ → X → Type 0) (es : List Element) (n : ℕ) (old now : List X) → length es ≤ n → IsOnElements Moves Has es n old now → Adds old now (SomeElementGives Moves Has 0 es)
 elements_end {X = X} Moves Has es n old now le so_far =
-    so_far.completes now (adds_none now (SomeElementGives Moves Has n (drop n es)) (λ x g. subst (λ (l : List Element). SomeElementGives Moves Has n l x) (rest_over es n le) g))
+    so_far.completes now (adds_none now (SomeElementGives Moves Has n (drop n es)) (λ x g. subst (λ (l : List Element). SomeElementGives Moves Has n l x) (drop_all n es le) g))
 
 -- an element whose target has just these
 pub adds_from : {X : Type 0} (Moves : Item → X → X → Type 0) (P Q : X → Type 0) (n : ℕ) (e : Element) (old new : List X) → ((x : X) → P x → Q x) → ((x : X) → Q x → P x) → Adds old new (ElementGives Moves P n e)
@@ -149,15 +145,11 @@ adds_from Moves P Q n e old new to from a =
     adds_as old new (ElementGives Moves P n e) (ElementGives Moves Q n e) (λ x g. record { item = g.item; stands = g.stands; inner = g.inner; is_there = to g.inner g.is_there; moved = g.moved })
     (λ x g. record { item = g.item; stands = g.stands; inner = g.inner; is_there = from g.inner g.is_there; moved = g.moved }) a
 
-by_size : (z : ℤ) (n : ℕ) → pos 1 ≤ℤ z → n ≡ unsigned_abs z → z ≡ pos n
-by_size (pos m) n up e = ap pos (sym e)
-by_size (negsuc m) n up e = absurd (omega (arith, ints))
-
 -- a positive number, as the code passes its size on
 pub whole_abs : (z : ℤ) (n : ℕ) → pos 1 ≤ℤ z → z ≤ℤ pos 32767 → n ≡ unsigned_abs (to_z w16 (of_z w16 z)) → z ≡ pos n
 whole_abs z n up down e =
     let fits : FitsSigned w16 z = omega (arith, ints) in
-    by_size z n up (e ∙ ap unsigned_abs (to_z-of_z w16 z fits))
+    by_size z up ∙ sym (ap pos (e ∙ ap unsigned_abs (to_z-of_z w16 z fits)))
 
 -- an element whose target has nothing
 pub adds_none_there : {X : Type 0} (Moves : Item → X → X → Type 0) (Has : X → Type 0) (n : ℕ) (e : Element) (xs : List X) → ((x : X) → Has x → ⊥) → Adds xs xs (ElementGives Moves Has n e)

@@ -5,7 +5,7 @@ use Rattle.std.specs.List.{AllByRecursion}
 use Rattle.std.proofs.lemmas.List.Elements.{Contains-append_left, Contains-append_right, Contains-append_cases}
 use Rattle.std.proofs.lemmas.Option.{same_Some}
 use Rattle.or_geom.specs.declared.shape.Shape.{Shape}
-use Rattle.ordered_set.proofs.OneListLaws.{all_contained}
+use Rattle.or_geom.proofs.ListLaws.{all_contained, one_at}
 use Rattle.gds_stream.specs.declared.library.Element.{Element}
 use Rattle.gds_stream.specs.declared.library.Structure.{Structure}
 use Rattle.gds_stream.specs.Writable.{IsWritableElement, IsWritableCell}
@@ -102,20 +102,17 @@ target_drawn layers structs cells below k height target name sized flat t =
     let one : drawn.structure ≡ t.structure = same_Some drawn.structure t.structure (sym drawn.stands ∙ t.stands) in
     record { drawing = there.item; is = there.is; cell = t.cell; lower = t.lower; flat = drawn; named = ap (λ (s : Structure). s.name) one ∙ t.named }
 
-same_drawing : (below : List Drawing) (target : ℕ) (a b : Drawing) → slice_get below target ≡ Some a → slice_get below target ≡ Some b → a ≡ b
-same_drawing below target a b p q = same_Some a b (sym p ∙ q)
-
 shapes_resolved : (layers : List Layer) (structs : List Structure) (below : List Drawing) (targets : List ℕ) (height n : ℕ) (name : List ℕ) → IsTargetDrawn layers structs below height (slice_index targets n) name
     → (s : Shape) → HoldsShape below targets n s ↔ IsFlatShape layers structs name s
 shapes_resolved layers structs below targets height n name t s = (
-  λ h. subst (λ (m : List ℕ). IsFlatShape layers structs m s) t.named ((t.flat.shapes s).0 (subst (λ (d : Drawing). Contains d.shapes s) (same_drawing below (slice_index targets n) h.drawing t.drawing h.is t.is) h.among)),
+  λ h. subst (λ (m : List ℕ). IsFlatShape layers structs m s) t.named ((t.flat.shapes s).0 (subst (λ (d : Drawing). Contains d.shapes s) (one_at below (slice_index targets n) h.drawing t.drawing h.is t.is) h.among)),
   λ f. record { drawing = t.drawing; is = t.is; among = (t.flat.shapes s).1 (subst (λ (m : List ℕ). IsFlatShape layers structs m s) (sym t.named) f) },
 )
 
 labels_resolved : (layers : List Layer) (structs : List Structure) (below : List Drawing) (targets : List ℕ) (height n : ℕ) (name : List ℕ) → IsTargetDrawn layers structs below height (slice_index targets n) name
     → (label : OwnLabel) → HoldsLabel below targets n label ↔ IsFlatLabel layers structs name label
 labels_resolved layers structs below targets height n name t label = (
-  λ h. subst (λ (m : List ℕ). IsFlatLabel layers structs m label) t.named ((t.flat.labels label).0 (subst (λ (d : Drawing). Contains d.labels label) (same_drawing below (slice_index targets n) h.drawing t.drawing h.is t.is) h.among)),
+  λ h. subst (λ (m : List ℕ). IsFlatLabel layers structs m label) t.named ((t.flat.labels label).0 (subst (λ (d : Drawing). Contains d.labels label) (one_at below (slice_index targets n) h.drawing t.drawing h.is t.is) h.among)),
   λ f. record { drawing = t.drawing; is = t.is; among = (t.flat.labels label).1 (subst (λ (m : List ℕ). IsFlatLabel layers structs m label) (sym t.named) f) },
 )
 
@@ -129,14 +126,14 @@ shapes_made_near : (layers : List Layer) (structs : List Structure) (below : Lis
     → ((name : List ℕ) → referred_name e ≡ Some name → IsTargetDrawn layers structs below height (slice_index targets n) name) → MakesEach MovesShape (HoldsShape below targets) (IsShapeWithin (reach height)) n e
 shapes_made_near layers structs below targets height n e writable drawn item stands inner held s moved =
     let t = drawn item.cell (refers_for n e item stands) in
-    let within = t.flat.shapes_near inner (subst (λ (d : Drawing). Contains d.shapes inner) (same_drawing below (slice_index targets n) held.drawing t.drawing held.is t.is) held.among) in
+    let within = t.flat.shapes_near inner (subst (λ (d : Drawing). Contains d.shapes inner) (one_at below (slice_index targets n) held.drawing t.drawing held.is t.is) held.among) in
     shape_further (reach t.cell.height + 2 ^ 33) (reach height) s (lower_reach t.cell.height height t.lower) (moved_within (reach t.cell.height) (2 ^ 33) item.place inner s (item_near n e item writable stands) within moved)
 
 labels_made_near : (layers : List Layer) (structs : List Structure) (below : List Drawing) (targets : List ℕ) (height n : ℕ) (e : Element) → IsWritableElement e
     → ((name : List ℕ) → referred_name e ≡ Some name → IsTargetDrawn layers structs below height (slice_index targets n) name) → MakesEach MovesLabel (HoldsLabel below targets) (IsLabelWithin (reach height)) n e
 labels_made_near layers structs below targets height n e writable drawn item stands inner held label moved =
     let t = drawn item.cell (refers_for n e item stands) in
-    let within = t.flat.labels_near inner (subst (λ (d : Drawing). Contains d.labels inner) (same_drawing below (slice_index targets n) held.drawing t.drawing held.is t.is) held.among) in
+    let within = t.flat.labels_near inner (subst (λ (d : Drawing). Contains d.labels inner) (one_at below (slice_index targets n) held.drawing t.drawing held.is t.is) held.among) in
     further (reach t.cell.height + 2 ^ 33) (reach height) label.at (lower_reach t.cell.height height t.lower) (label_within (reach t.cell.height) (2 ^ 33) item.name item.place inner label (item_near n e item writable stands) within moved)
 
 cell_shapes_near : (layers : List Layer) (es : List Element) (targets : List ℕ) (below : List Drawing) (height : ℕ) (shapes : List Shape) → AreCellShapes layers es targets below shapes

@@ -1,9 +1,9 @@
 -- Counts of what stands below the top.
 use Rattle.std.proofs.Common.{◌≡◌, ℕ, ◌+◌, ◌^◌, ◌<◌, ◌≤◌, List, [], ◌∷◌, ◌++◌, length, get_or, drop, refl, sym, ap, subst, ◌∙◌, append_assoc}
 use Rattle.std.specs.Prelude.{min}
-use Rattle.std.proofs.lemmas.List.{append-nil}
+use Rattle.std.proofs.lemmas.List.{append-nil, drop_all}
 use Rattle.or_geom.specs.declared.shape.Shape.{Shape}
-use Rattle.ordered_set.proofs.GatheringLaws.{rest_at, rest_over}
+use Rattle.or_geom.proofs.ListLaws.{rest_at}
 use Rattle.gds_stream.specs.declared.library.Element.{Element}
 use Rattle.gds_stream.specs.declared.library.Structure.{Structure}
 use Rattle.tech_rules.specs.declared.tech.Layer.{Layer}
@@ -47,4 +47,4 @@ counts_go_on layers structs cells i cell own counts next lt is pushed here so_fa
 pub counts_end : (layers : List Layer) (structs : List Structure) (cells : List Cell) (i : ℕ) (counts : List Counts) → length cells ≤ i → AreCounted layers structs cells i counts → AreAllOwnCounts layers structs cells counts
 counts_end layers structs cells i counts le so_far =
     subst (λ (l : List Counts). AreAllOwnCounts layers structs cells l) (append-nil counts)
-    (so_far.completes [] (subst (λ (l : List Cell). AreAllOwnCounts layers structs l []) (sym (rest_over cells i le)) tt))
+    (so_far.completes [] (subst (λ (l : List Cell). AreAllOwnCounts layers structs l []) (sym (drop_all i cells le)) tt))

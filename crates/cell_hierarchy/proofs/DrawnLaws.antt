@@ -10,8 +10,8 @@ use Rattle.or_geom.specs.declared.shape.Rect.{Rect}
 use Rattle.or_geom.specs.declared.shape.Shape.{Shape}
 use Rattle.or_geom.specs.Distance.{IsReachable}
 use Rattle.or_geom.specs.Place.{IsWithin, IsNearPoint}
+use Rattle.or_geom.proofs.ListLaws.{contains_first, contains_later}
 use Rattle.ordered_set.specs.Reachable.{AreReachable}
-use Rattle.ordered_set.proofs.OneListLaws.{contains_first, contains_later}
 use Rattle.gds_stream.specs.declared.library.Structure.{Structure}
 use Rattle.tech_rules.specs.declared.tech.Layer.{Layer}
 use Rattle.element_drawing.specs.declared.label.OwnLabel.{OwnLabel}

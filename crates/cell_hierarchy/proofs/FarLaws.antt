@@ -10,6 +10,7 @@ use Rattle.std.proofs.lemmas.Option.{slice_get_within, get_or_from_slice_get, sa
 use Rattle.or_geom.specs.declared.shape.Point.{Point}
 use Rattle.or_geom.specs.declared.shape.Shape.{Shape}
 use Rattle.or_geom.proofs.PlaceLaws.{same_point}
+use Rattle.or_geom.proofs.ListLaws.{contained_at}
 use Rattle.gds_records.specs.Values.{IsShort}
 use Rattle.element_drawing.specs.declared.label.OwnLabel.{OwnLabel}
 use Rattle.cell_hierarchy.specs.FlatLists.{point_order}
@@ -138,18 +139,15 @@ label_goes_on labels k label now here next lt is e a b =
     first_goes_on (IsFarLabelAt labels) k (IsFarAt label.at) now here next e (λ p h. record { label = label; stands = stands; is = h })
     (λ p h. subst (λ (l : OwnLabel). IsFarAt l.at p) (same_Some h.label label (sym h.stands ∙ stands)) h.is) a b
 
-held : {Y : Type 0} (ys : List Y) (k : ℕ) (y : Y) → slice_get ys k ≡ Some y → Contains ys y
-held ys k y is = (k, slice_get_within ys k y is, get_or_from_slice_get ys k y y is)
-
 stands_at : {Y : Type 0} (ys : List Y) (k : ℕ) (y : Y) → k < length ys → get_or ys k y ≡ y → slice_get ys k ≡ Some y
 stands_at ys k y lt is = slice_get_read ys _ k y refl lt (sym is)
 
 pub corner_ends : (shapes : List Shape) (k : ℕ) (o : Option Point) → length shapes ≤ k → IsFirstOf (SomeBelow (IsFarCornerAt shapes) k) o → IsFirstOf (HasFarCorner shapes) o
 corner_ends shapes k o le a =
-    first_as (SomeBelow (IsFarCornerAt shapes) k) (HasFarCorner shapes) o (λ p b. record { shape = b.has.shape; among = held shapes b.index b.has.shape b.has.stands; is = b.has.is })
+    first_as (SomeBelow (IsFarCornerAt shapes) k) (HasFarCorner shapes) o (λ p b. record { shape = b.has.shape; among = contained_at shapes b.index b.has.shape b.has.stands; is = b.has.is })
     (λ p h. record { index = h.among.0; below = omega (arith, h.among.1); has = record { shape = h.shape; stands = stands_at shapes h.among.0 h.shape h.among.1 h.among.2; is = h.is } }) a
 
 pub label_ends : (labels : List OwnLabel) (k : ℕ) (o : Option Point) → length labels ≤ k → IsFirstOf (SomeBelow (IsFarLabelAt labels) k) o → IsFirstOf (HasFarLabel labels) o
 label_ends labels k o le a =
-    first_as (SomeBelow (IsFarLabelAt labels) k) (HasFarLabel labels) o (λ p b. record { label = b.has.label; among = held labels b.index b.has.label b.has.stands; is = b.has.is })
+    first_as (SomeBelow (IsFarLabelAt labels) k) (HasFarLabel labels) o (λ p b. record { label = b.has.label; among = contained_at labels b.index b.has.label b.has.stands; is = b.has.is })
     (λ p h. record { index = h.among.0; below = omega (arith, h.among.1); has = record { label = h.label; stands = stands_at labels h.among.0 h.label h.among.1 h.among.2; is = h.is } }) a

@@ -23,14 +23,6 @@ use Rattle.cell_hierarchy.specs.Drawings.{AreFlatDrawings, AreAllCells}
 use Rattle.cell_hierarchy.specs.Far.{IsFarIn}
 use Rattle.cell_hierarchy.specs.Settled.{IsTopDrawing, AreListsOf, IsFarFault}
 
--- shapes that the code finds equal are one
-pub same_shape : (s t : Shape) → (eqb s.layer t.layer && (is_eq (int_cmp s.rect.x1 t.rect.x1) && (is_eq (int_cmp s.rect.y1 t.rect.y1) && (is_eq (int_cmp s.rect.x2 t.rect.x2) && is_eq (int_cmp s.rect.y2 t.rect.y2))))) ≡ true → s ≡ t
-same_shape s t e =
-    let both = and_parts (eqb s.layer t.layer) _ e in
-    let layer = eqb-true s.layer t.layer both.0 in
-    let rect = same_box s.rect t.rect both.1 in
-    λ i. record { layer = layer i; rect = rect i }
-
 -- a list that was settled
 pub same_items : {X : Type 0} (given old new lists : List X) → old ≡ given → lists ≡ new → ((x : X) → Contains old x → Contains new x) → ((x : X) → Contains new x → Contains old x) → (x : X) → Contains lists x ↔ Contains given x
 same_items {X} given old new lists is out keeps adds x = (

@@ -22,11 +22,6 @@ moved_once place inner s t a b =
     let rect = image_once (placed place) inner.rect s.rect t.rect a.image b.image in
     λ i. record { layer = layer i; rect = rect i }
 
-pub reachable_at : (shapes : List Shape) (i : ℕ) (s : Shape) → AreReachable shapes → i < length shapes → s ≡ get_or shapes i s → IsReachable s.rect
-reachable_at [] i s all lt is = absurd (omega arith)
-reachable_at (t ∷ ts) zero s all lt is = subst (λ (u : Shape). IsReachable u.rect) (sym is) all.0
-reachable_at (t ∷ ts) (suc i) s all lt is = reachable_at ts i s all.1 (omega arith) is
-
 pub label_once : (name : List ℕ) (place : Place) (inner a b : OwnLabel) → IsLabelUnder name place inner a → IsLabelUnder name place inner b → a ≡ b
 label_once name place inner a b p q =
     let path = p.path ∙ sym q.path in

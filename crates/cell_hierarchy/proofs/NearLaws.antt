@@ -57,7 +57,7 @@ shape_further m n s le w = record { low = further m n _ le w.low; high = further
 short_within : (p : Point) → IsShort p → IsWithin (2 ^ 33) p
 short_within p s = let x = s.x in let y = s.y in record { x_above = omega (arith, ints); x_below = omega (arith, ints); y_above = omega (arith, ints); y_below = omega (arith, ints) }
 
-by_size : (z : ℤ) → pos 1 ≤ℤ z → z ≡ pos (unsigned_abs z)
+pub by_size : (z : ℤ) → pos 1 ≤ℤ z → z ≡ pos (unsigned_abs z)
 by_size (pos m) up = refl
 by_size (negsuc m) up = absurd (omega (arith, ints))
 

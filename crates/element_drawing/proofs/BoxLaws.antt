@@ -24,53 +24,6 @@ pub record AreBoxesBut (stroke : Stroke) (first : Point) (others : List Point) (
   pub short : AllByRecursion IsShort rest
   pub straight : AllStraight (segments_from tip.at rest)
 
-pub boxes_none : (stroke : Stroke) (first : Point) (others : List Point) (tip : Tip) → tip ≡ record { at = first; before = stroke.last } → IsShortStroke stroke → AllByRecursion IsShort (first ∷ others) → AllStraight (segments_from first others)
-    → AreBoxesBut stroke first others tip others []
-boxes_none stroke first others tip is short points straight = subst (λ (t : Tip). AreBoxesBut stroke first others t others []) (sym is) (record {
-  completes = λ more are. are;
-  before = short.last;
-  at = points.0;
-  short = points.1;
-  straight = straight;
-})
-
--- one box more
-more_boxes : (stroke : Stroke) (tip : Tip) (to : Point) (after : List Point) (box : Rect) (more : List Rect) → IsSegmentBox stroke.half tip.before (longer_before stroke after) tip.at to box
-    → AreBoxesFrom stroke.half stroke.last stroke.half to after more → AreBoxesFrom stroke.half stroke.last tip.before tip.at (to ∷ after) (box ∷ more)
-more_boxes stroke tip to [] box more is are = (is, are)
-more_boxes stroke tip to (q ∷ qs) box more is are = (is, are)
-
-longer_short : (stroke : Stroke) (after : List Point) → IsShortStroke stroke → IsLength (longer_before stroke after)
-longer_short stroke [] short = short.last
-longer_short stroke (p ∷ ps) short = short.half
-
-pub segment_short : (stroke : Stroke) (first : Point) (others : List Point) (tip : Tip) (rest : List Point) (boxes : List Rect) (to : Point) (after : List Point) (s : Segment) → rest ≡ to ∷ after → s ≡ segment_at stroke tip to after
-    → IsShortStroke stroke → AreBoxesBut stroke first others tip rest boxes → IsShortSegment s
-segment_short stroke first others tip rest boxes to after s e is short but =
-    let b = subst (λ (ps : List Point). AreBoxesBut stroke first others tip ps boxes) e but in
-    subst IsShortSegment (sym is) (record {
-      from = b.at;
-      to = b.short.0;
-      some = short.some;
-      half = short.half;
-      before = b.before;
-      after = longer_short stroke after short;
-      straight = b.straight.0;
-    })
-
-pub boxes_more : (stroke : Stroke) (first : Point) (others : List Point) (tip : Tip) (rest : List Point) (old new : List Rect) (to : Point) (after : List Point) (s : Segment) (box : Rect) (next : Tip) → rest ≡ to ∷ after → s ≡ segment_at stroke tip to after
-    → IsSegmentBox s.half s.before s.after s.from s.to box → new ≡ old ++ box ∷ [] → next ≡ record { at = to; before = stroke.half } → IsShortStroke stroke → AreBoxesBut stroke first others tip rest old → AreBoxesBut stroke first others next after new
-boxes_more stroke first others tip rest old new to after s box next e is drawn push next_is short but =
-    let b = subst (λ (ps : List Point). AreBoxesBut stroke first others tip ps old) e but in
-    let here : IsSegmentBox stroke.half tip.before (longer_before stroke after) tip.at to box = subst (λ (t : Segment). IsSegmentBox t.half t.before t.after t.from t.to box) is drawn in
-    subst (λ (t : Tip). AreBoxesBut stroke first others t after new) (sym next_is) (record {
-      completes = λ more are. subst (AreBoxesFrom stroke.half stroke.last stroke.last first others) (sym (append_assoc old (box ∷ []) more) ∙ ap (λ (l : List Rect). l ++ more) (sym push)) (b.completes (box ∷ more) (more_boxes stroke tip to after box more here are));
-      before = short.half;
-      at = b.short.0;
-      short = b.short.1;
-      straight = b.straight.1;
-    })
-
 pub boxes_all : (stroke : Stroke) (first : Point) (others : List Point) (tip : Tip) (boxes : List Rect) → AreBoxesBut stroke first others tip [] boxes → AreBoxesFrom stroke.half stroke.last stroke.last first others boxes
 boxes_all stroke first others tip boxes but = subst (AreBoxesFrom stroke.half stroke.last stroke.last first others) (append-nil boxes) (but.completes [] refl)
 

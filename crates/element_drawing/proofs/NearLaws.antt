@@ -8,6 +8,7 @@ use Rattle.or_geom.specs.declared.shape.Point.{Point}
 use Rattle.or_geom.specs.declared.shape.Rect.{Rect}
 use Rattle.or_geom.specs.declared.shape.Shape.{Shape}
 use Rattle.or_geom.specs.Place.{IsWithin}
+use Rattle.or_geom.proofs.ListLaws.{contains_first, contains_later}
 use Rattle.rectilinear.specs.Simple.{IsStraight, AllStraight}
 use Rattle.gds_records.specs.Values.{IsShort}
 use Rattle.gds_stream.specs.declared.library.Element.{Element}
@@ -15,7 +16,6 @@ use Rattle.gds_stream.specs.declared.library.Element.TheVariants.{Boundary, Path
 use Rattle.gds_stream.specs.Values.{segments_from}
 use Rattle.gds_stream.specs.Writable.{IsWritableTrack, IsWritableElement}
 use Rattle.slabs.specs.Slabs.{IsSlabList}
-use Rattle.slabs.proofs.MemberLaws.{member_here, member_later}
 use Rattle.slabs.proofs.NearLaws.{slabs_stay_near}
 use Rattle.tech_rules.specs.declared.tech.Layer.{Layer}
 use Rattle.element_drawing.specs.declared.label.OwnLabel.{OwnLabel}
@@ -119,9 +119,9 @@ path_near kind width (p ∷ ps) rects track are =
 slabs_near : (corners : List Point) (all rest : List Rect) → AllByRecursion (IsWithin (2 ^ 32)) corners → IsSlabList corners all → ((r : Rect) → Contains rest r → Contains all r) → AllByRecursion (IsRectWithin (2 ^ 32)) rest
 slabs_near corners all [] near are inside = tt
 slabs_near corners all (r ∷ rs) near are inside =
-    let slab = (are.exact r).0 (inside r (member_here r rs r refl)) in
+    let slab = (are.exact r).0 (inside r (contains_first r rs)) in
     let within = slabs_stay_near (2 ^ 32) corners r near slab in
-    (record { low = within.0; high = within.1 }, slabs_near corners all rs near are (λ s has. inside s (member_later r rs s has)))
+    (record { low = within.0; high = within.1 }, slabs_near corners all rs near are (λ s has. inside s (contains_later r rs s has)))
 
 drawing_near : (e : Element) (rects : List Rect) → IsWritableElement e → IsDrawing e rects → AllByRecursion (IsRectWithin (2 ^ 32)) rects
 drawing_near (Boundary layer datatype points props) rects writable is = let ring = writable.body in slabs_near points rects rects (points_near points ring.short) is (λ r has. has)

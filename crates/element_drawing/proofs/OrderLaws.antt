@@ -6,12 +6,8 @@ use Rattle.std.specs.Ordering.{ordering_then, nat_cmp, int_cmp, is_eq}
 use Rattle.std.specs.declared.cmp.Ordering.{Ordering}
 use Rattle.std.specs.declared.cmp.Ordering.TheVariants.{Less, Equal, Greater}
 use Rattle.std.proofs.lemmas.Map.Lookups.{exact_bytes}
+use Rattle.std.specs.Cmp.{Equal-is}
 use Rattle.element_drawing.specs.LabelOrder.{EqIsSame}
-
-equal_of : (o : Ordering) → is_eq o ≡ true → o ≡ Equal
-equal_of Less e = absurd cc
-equal_of Equal e = refl
-equal_of Greater e = absurd cc
 
 both_equal : (o p : Ordering) → ordering_then o p ≡ Equal → (o ≡ Equal) × (p ≡ Equal)
 both_equal Less p e = absurd cc
@@ -20,7 +16,7 @@ both_equal Greater p e = absurd cc
 
 pub eq_is_same : EqIsSame
 eq_is_same a b e =
-    let by_path = both_equal (slice_cmp nat_cmp a.path b.path) _ (equal_of _ e) in
+    let by_path = both_equal (slice_cmp nat_cmp a.path b.path) _ ((Equal-is _).0 e) in
     let by_name = both_equal (slice_cmp nat_cmp a.name b.name) _ by_path.1 in
     let by_layer = both_equal (nat_cmp a.layer b.layer) _ by_name.1 in
     let by_x = both_equal (int_cmp a.at.x b.at.x) _ by_layer.1 in

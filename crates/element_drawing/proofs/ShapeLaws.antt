@@ -13,12 +13,6 @@ pub record AreShapesBut (layers : List Layer) (elements rest : List Element) (sh
   pub completes : (more : List Shape) → AreOwnShapes layers rest more → AreOwnShapes layers elements (shapes ++ more)
   pub writable : AllByRecursion IsWritableElement rest
 
-pub shapes_none : (layers : List Layer) (elements : List Element) → AllByRecursion IsWritableElement elements → AreShapesBut layers elements elements []
-shapes_none layers elements writable = record { completes = λ more are. are; writable = writable }
-
-pub first_writable : (layers : List Layer) (elements rest others : List Element) (e : Element) (shapes : List Shape) → rest ≡ e ∷ others → AreShapesBut layers elements rest shapes → IsWritableElement e
-first_writable layers elements rest others e shapes is but = let w = subst (AllByRecursion IsWritableElement) is but.writable in w.0
-
 pub shapes_more : (layers : List Layer) (elements rest others : List Element) (e : Element) (old new : List Shape) → rest ≡ e ∷ others → ((added : List Shape) × (new ≡ old ++ added) × AreShapesOf layers e added)
     → AreShapesBut layers elements rest old → AreShapesBut layers elements others new
 shapes_more layers elements rest others e old new is more but =

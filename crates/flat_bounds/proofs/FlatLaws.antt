@@ -3,6 +3,7 @@ use Rattle.std.proofs.Common.{◌≡◌, ℕ, List, [], ◌∷◌, length, refl,
 use Rattle.std.specs.Prelude.{Contains}
 use Rattle.std.specs.declared.cmp.Ordering.TheVariants.{Less}
 use Rattle.or_geom.specs.Place.{placed}
+use Rattle.ordered_set.proofs.OneListLaws.{not_both}
 use Rattle.gds_stream.specs.declared.library.Structure.{Structure}
 use Rattle.tech_rules.specs.declared.tech.Layer.{Layer}
 use Rattle.element_drawing.specs.declared.label.OwnLabel.{OwnLabel}
@@ -14,7 +15,7 @@ use Rattle.cell_chains.specs.Chains.{elements_of, IsChain}
 use Rattle.cell_counts.specs.Counts.{Total}
 use Rattle.cell_hierarchy.specs.FlatSet.{IsLabelBy, IsLabelMoved, path_under}
 use Rattle.flat_bounds.specs.Bounds.{FlatLabelsAreFew}
-use Rattle.flat_bounds.proofs.ListedLaws.{IsListed, at_most, not_itself}
+use Rattle.flat_bounds.proofs.ListedLaws.{IsListed, at_most_listed}
 use Rattle.flat_bounds.proofs.BelowLaws.{IsNumber, IsByChains, IsWithin, within_listed}
 
 abbrev labels_of : Total → ℕ
@@ -47,7 +48,7 @@ label_chain layers structs name [] label h = refl
 label_chain layers structs name (item ∷ items) label h = (h.0, label_chain layers structs item.cell items h.1 h.2)
 
 labels_apart : (a b : OwnLabel) → label_order a b ≡ Less → a ≡ b → ⊥
-labels_apart a b less same = not_itself OwnLabel label_order label_total b (subst (λ (l : OwnLabel). label_order l b ≡ Less) same less)
+labels_apart a b less same = let self = subst (λ (l : OwnLabel). label_order l b ≡ Less) same less in not_both label_order label_total b b self self
 
 pub labels_are_few : FlatLabelsAreFew
 labels_are_few layers structs top lists flat =
@@ -61,7 +62,7 @@ labels_are_few layers structs top lists flat =
       short = flat.sound.short f.chain (chain_end top f.chain) (label_chain layers structs top f.chain label f.stands);
       stands = f.stands;
     }) in
-    let most = at_most OwnLabel OwnLabel (λ label. label) label_order labels_apart lists.labels listed.items flat.labels_rise kept in
+    let most = at_most_listed OwnLabel OwnLabel (λ label. label) label_order labels_apart lists.labels listed.items flat.labels_rise kept in
     let size : length listed.items ≡ total.labels = listed.size in
     let few = flat.few.few.labels in
     omega (arith, most, size, few)

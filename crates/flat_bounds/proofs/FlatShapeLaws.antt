@@ -11,6 +11,9 @@ use Rattle.std.proofs.lemmas.List.{length-map}
 use Rattle.or_geom.specs.declared.shape.Point.{Point}
 use Rattle.or_geom.specs.declared.shape.Shape.{Shape}
 use Rattle.or_geom.specs.Place.{placed}
+use Rattle.or_geom.proofs.ListLaws.{contains_map}
+use Rattle.ordered_set.proofs.ShapeOrderLaws.{shape_total}
+use Rattle.ordered_set.proofs.OneListLaws.{not_both}
 use Rattle.gds_stream.specs.declared.library.Structure.{Structure}
 use Rattle.gds_stream.specs.Writable.{IsWritableCell}
 use Rattle.tech_rules.specs.declared.tech.Layer.{Layer}
@@ -22,7 +25,7 @@ use Rattle.cell_counts.specs.OneSet.{AreOneSet}
 use Rattle.cell_counts.specs.Counts.{Total, IsOwnTotal}
 use Rattle.cell_hierarchy.specs.FlatSet.{IsShapeBy, IsOwnShape}
 use Rattle.flat_bounds.specs.Bounds.{FlatShapesAreFew}
-use Rattle.flat_bounds.proofs.ListedLaws.{IsListed, at_most, not_itself, contains_map}
+use Rattle.flat_bounds.proofs.ListedLaws.{IsListed, at_most_listed}
 use Rattle.flat_bounds.proofs.BelowLaws.{IsNumber, IsBelowItem, IsByChains, IsWithin, within_listed}
 use Rattle.flat_bounds.proofs.FlatLaws.{chain_end}
 
@@ -67,7 +70,7 @@ own_numbers one layers structs w name total own = record {
   holds = λ n h.
       let o : IsOwnShape layers (elements_of structs name) h.shape = h.stands in
       let among = one layers (elements_of structs name) o.shapes own.shapes (writable_elements structs name w) o.drawn own.drawn h.shape o.among in
-      subst (λ (m : Numbers). Contains (map numbers_of own.shapes) m) (sym h.is) (contains_map Shape Numbers numbers_of own.shapes h.shape among);
+      subst (λ (m : Numbers). Contains (map numbers_of own.shapes) m) (sym h.is) (contains_map numbers_of own.shapes h.shape among);
 }
 
 below_numbers : (layers : List Layer) (structs : List Structure) (name : List ℕ) (item : Item) (items : List Item) (n : Numbers) (shape : Shape) → IsShapeBy layers structs name (item ∷ items) shape → n ≡ numbers_of shape
@@ -91,13 +94,6 @@ shape_chain : (layers : List Layer) (structs : List Structure) (name : List ℕ)
 shape_chain layers structs name [] shape h = refl
 shape_chain layers structs name (item ∷ items) shape h = (h.0, shape_chain layers structs item.cell items h.1 h.2)
 
-shape_total : IsTotalOrder shape_order
-shape_total =
-    then_total (on_total (λ (s : Shape). s.layer) nat_cmp_total)
-    (then_total (on_total (λ (s : Shape). s.rect.x1) int_cmp_total)
-    (then_total (on_total (λ (s : Shape). s.rect.y1) int_cmp_total)
-    (then_total (on_total (λ (s : Shape). s.rect.x2) int_cmp_total) (on_total (λ (s : Shape). s.rect.y2) int_cmp_total))))
-
 -- the order looks at the numbers alone
 abbrev numbers_order : Numbers → Numbers → Ordering
 numbers_order m n =
@@ -105,7 +101,7 @@ numbers_order m n =
     (ordering_then (int_cmp m.x1 n.x1) (ordering_then (int_cmp m.y1 n.y1) (ordering_then (int_cmp m.x2 n.x2) (int_cmp m.y2 n.y2))))
 
 shapes_apart : (a b : Shape) → shape_order a b ≡ Less → numbers_of a ≡ numbers_of b → ⊥
-shapes_apart a b less same = not_itself Shape shape_order shape_total b (subst (λ (n : Numbers). numbers_order n (numbers_of b) ≡ Less) same less)
+shapes_apart a b less same = let self : shape_order b b ≡ Less = subst (λ (n : Numbers). numbers_order n (numbers_of b) ≡ Less) same less in not_both shape_order shape_total b b self self
 
 pub shapes_are_few : AreOneSet → FlatShapesAreFew
 shapes_are_few one layers structs top lists w flat =
@@ -119,7 +115,7 @@ shapes_are_few one layers structs top lists w flat =
       short = flat.sound.short f.chain (chain_end top f.chain) (shape_chain layers structs top f.chain shape f.stands);
       stands = record { shape = shape; stands = f.stands; is = refl };
     }) in
-    let most = at_most Shape Numbers numbers_of shape_order shapes_apart lists.shapes listed.items flat.shapes_rise kept in
+    let most = at_most_listed Shape Numbers numbers_of shape_order shapes_apart lists.shapes listed.items flat.shapes_rise kept in
     let size : length listed.items ≡ total.shapes = listed.size in
     let few = flat.few.few.shapes in
     omega (arith, most, size, few)

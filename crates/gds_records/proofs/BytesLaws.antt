@@ -21,12 +21,12 @@ whole_divides : (code size : ℕ) (a b c d : ℕ) (rest : List ℕ) → 4 ≤ si
 whole_divides code size a b c d rest low high =
     record { sum = omega (arith, length-drop (size - 4) rest, length-take (size - 4) rest); some = omega arith }
 
-pick : (bytes : List ℕ) (x y p : Entry × List ℕ) (low even high : Bool) → cond (low && (even && high)) (Some x) (Some y) ≡ Some p
-    → (low ≡ true → high ≡ true → Divides bytes x) → Divides bytes y → Divides bytes p
-pick bytes x y p false even high is f g = subst (Divides bytes) (same_Some y p is) g
-pick bytes x y p true false high is f g = subst (Divides bytes) (same_Some y p is) g
-pick bytes x y p true true false is f g = subst (Divides bytes) (same_Some y p is) g
-pick bytes x y p true true true is f g = subst (Divides bytes) (same_Some x p is) (f refl refl)
+-- what holds of both choices holds of the one that is taken
+pub chosen : {Y : Type 0} (P : Y → Type 0) (x y p : Y) (low even high : Bool) → cond (low && (even && high)) (Some x) (Some y) ≡ Some p → (low ≡ true → high ≡ true → P x) → P y → P p
+chosen P x y p false even high is f g = subst P (same_Some y p is) g
+chosen P x y p true false high is f g = subst P (same_Some y p is) g
+chosen P x y p true true false is f g = subst P (same_Some y p is) g
+chosen P x y p true true true is f g = subst P (same_Some x p is) (f refl refl)
 
 divides : (bytes : List ℕ) (p : Entry × List ℕ) → cut bytes ≡ Some p → Divides bytes p
 unfolding cut
@@ -35,7 +35,7 @@ divides (a ∷ []) p is = subst (Divides (a ∷ [])) (same_Some _ p is) (broken_
 divides (a ∷ b ∷ []) p is = subst (Divides (a ∷ b ∷ [])) (same_Some _ p is) (broken_divides a (b ∷ []))
 divides (a ∷ b ∷ c ∷ []) p is = subst (Divides (a ∷ b ∷ c ∷ [])) (same_Some _ p is) (broken_divides a (b ∷ c ∷ []))
 divides (a ∷ b ∷ c ∷ d ∷ rest) p is =
-    pick (a ∷ b ∷ c ∷ d ∷ rest) _ _ p (leb 4 (256 * a + b)) (eqb (b % 2) 0) (leb (256 * a + b) (length rest + 4)) is
+    chosen (Divides (a ∷ b ∷ c ∷ d ∷ rest)) _ _ p (leb 4 (256 * a + b)) (eqb (b % 2) 0) (leb (256 * a + b) (length rest + 4)) is
     (λ low high. whole_divides (256 * c + d) (256 * a + b) a b c d rest (leb-true _ _ low) (leb-true _ _ high))
     (broken_divides a (b ∷ c ∷ d ∷ rest))
 

@@ -1,6 +1,6 @@
 -- Parts that are told apart by their first record, and other forms of their values.
 use Rattle.std.proofs.Common.{◌≡◌, ◌⊎◌, inl, inr, ℕ, ◌≤◌, List, [], ◌∷◌, ◌++◌, length, Bool, true, false, eqb, Result, Ok, Err, refl, sym, ap, subst, ◌∙◌, cond}
-use Rattle.std.proofs.lemmas.Bool.{eqb-true, eq-eqb}
+use Rattle.std.proofs.lemmas.Bool.{eqb-true, eq-eqb, eqb-false}
 use Rattle.gds_records.specs.Record.{Entry}
 use Rattle.gds_records.specs.Part.{through, Rest, Judge, Part}
 use Rattle.gds_records.specs.declared.stop.Fault.{Fault}
@@ -113,9 +113,6 @@ pub picked : {R : Type 0} (b : Bool) (x y z : R) → cond b x y ≡ z → ((b �
 picked true x y z is = inl (refl, is)
 picked false x y z is = inr (refl, is)
 
-pub not_code : (a b : ℕ) → eqb a b ≡ false → a ≡ b → ⊥
-not_code a b f e = let both : true ≡ false = sym (eq-eqb a b e) ∙ f in absurd cc
-
 fork_takes : {X Y Z : Type 0} (code : ℕ) (i : X → Z) (k : Y → Z) (A : X → Part) (B : Y → Part) (P : Z → Part) (a : Reader X) (b : Reader Y)
     → IsCase (Heads code) i A P → IsCase (Others code) k B P → IsPart A a → IsPart B b
     → (rs : List Entry) (z : Z) (rest : List Entry) → length rs ≤ room → fork_at code i k a b rs ≡ Ok (z, rest) → IsTaken P rs z rest
@@ -136,7 +133,7 @@ fork_stops code i k A B P a b left right p q [] s fits is = case_stops (Others c
 fork_stops {X} {Y} {Z} code i k A B P a b left right p q (e ∷ rs) s fits is =
     elim (picked (eqb e.code code) (as_value i (a (e ∷ rs))) (as_value k (b (e ∷ rs))) (Err s) is) [
       | inl h ↦ case_stops (Heads code) i A P left (e ∷ rs) s (eqb-true _ _ h.0) (p.stops (e ∷ rs) s fits (as_err i (a (e ∷ rs)) s h.1))
-      | inr h ↦ case_stops (Others code) k B P right (e ∷ rs) s (not_code _ _ h.0) (q.stops (e ∷ rs) s fits (as_err k (b (e ∷ rs)) s h.1))
+      | inr h ↦ case_stops (Others code) k B P right (e ∷ rs) s (eqb-false _ _ h.0) (q.stops (e ∷ rs) s fits (as_err k (b (e ∷ rs)) s h.1))
     ]
 
 -- two ways, told apart by the next record's code

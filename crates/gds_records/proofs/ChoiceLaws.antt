@@ -40,16 +40,6 @@ int16_meaning code formed = meaning code int16_of (0 ∷ 0 ∷ []) _ formed refl
 pub text_meaning : (code : ℕ) → is_formed (entry_of true code (65 ∷ 65 ∷ [])) ≡ true → IsMeaning code (Means text_of) text_of
 text_meaning code formed = meaning code text_of (65 ∷ 65 ∷ []) (65 ∷ 65 ∷ []) formed refl
 
--- nothing, for a value that is left out
-pub nothing_part : {X Y : Type 0} (d : X) (R : Y → Part) (r : Reader Y) → IsPart R r → IsPart (λ (z : X × Y). nothing (z.0 ≡ d) ▸ R z.1) (λ rs. as_value (λ y. (d, y)) (r rs))
-nothing_part {X} {Y} d R r p = same_part (λ (y : Y). (d, y)) R (λ z. nothing (z.0 ≡ d) ▸ R z.1) r
-    (record {
-      into = λ x judge K l s. (refl, s);
-      back = λ z judge K l good s. (z.1, (λ i. (sym s.0 i, z.1)), s.1);
-      good = λ x judge K l s. tt;
-      carry = λ done e after more g. tt;
-    }) p
-
 -- a value that may be left out
 pub optional_part : {X Y : Type 0} (demand : Demand) (code : ℕ) (V : X → List ℕ → Type 0) (f : List ℕ → Option X) (d : X) (Q R : Y → Part) (q r : Reader Y)
     → IsMeaning code V f → AreOther code R → IsPart Q q → IsPart R r

@@ -1,6 +1,6 @@
 -- Records that have a place in the order and are refused there.
 use Rattle.std.proofs.Common.{◌≡◌, inl, inr, ℕ, ◌≤◌, List, [], ◌∷◌, length, Bool, true, false, eqb, cond, Ok, Err, refl, sym, subst, ◌∙◌}
-use Rattle.std.proofs.lemmas.Bool.{eqb-true}
+use Rattle.std.proofs.lemmas.Bool.{eqb-true, eqb-false}
 use Rattle.gds_records.specs.Record.{Entry, entry_of, is_formed}
 use Rattle.gds_records.specs.Part.{Part, ◌▸◌, ◌or◌, refused}
 use Rattle.gds_records.specs.declared.stop.Demand.{Demand}
@@ -10,7 +10,7 @@ use Rattle.gds_records.specs.declared.stop.Stop.TheVariants.{At}
 use Rattle.gds_records.specs.Bytes.{byte_length}
 use Rattle.gds_records.specs.Reading.{Reader, choose, taking, next_at, refusal, refuse_at}
 use Rattle.gds_records.proofs.PartLaws.{Begins, Any, Without, IsStop, IsTaken, room, IsPart}
-use Rattle.gds_records.proofs.CaseLaws.{IsCase, case_begins, case_taken, case_stops, picked, not_code, Others, others_carry}
+use Rattle.gds_records.proofs.CaseLaws.{IsCase, case_begins, case_taken, case_stops, picked, Others, others_carry}
 use Rattle.gds_records.proofs.JoinLaws.{AreOther, other_others, heads_others, value_heads}
 
 abbrev pub Refusing : {X : Type 0} → Demand → ℕ → (X → Part) → (X → Part) → X → Part
@@ -92,7 +92,7 @@ refuse_stops {X} demand code R A a other loose p (e ∷ rs) s fits is =
                   why = (g.0, begun);
                 })
           ]
-      | inr h ↦ case_stops (Others code) (λ y. y) A (Refusing demand code R A) (stays demand code R A other) (e ∷ rs) s (not_code _ _ h.0) (p.stops (e ∷ rs) s fits h.1)
+      | inr h ↦ case_stops (Others code) (λ y. y) A (Refusing demand code R A) (stays demand code R A other) (e ∷ rs) s (eqb-false _ _ h.0) (p.stops (e ∷ rs) s fits h.1)
     ]
 
 pub refuse_part : {X : Type 0} (demand : Demand) (code : ℕ) (R A : X → Part) (a : Reader X) → AreOther code A → Begins (Without demand) R [] → IsPart A a

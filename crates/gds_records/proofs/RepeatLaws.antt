@@ -1,6 +1,6 @@
 -- Items one after the other, up to a record.
 use Rattle.std.proofs.Common.{◌≡◌, inl, inr, ℕ, zero, suc, ◌+◌, ◌<◌, ◌≤◌, List, [], ◌∷◌, ◌++◌, length, true, eqb, Ok, Err, refl, ap, subst, arith}
-use Rattle.std.proofs.lemmas.Bool.{eqb-true}
+use Rattle.std.proofs.lemmas.Bool.{eqb-true, eqb-false}
 use Rattle.std.proofs.lemmas.List.{length-append}
 use Rattle.gds_records.specs.Record.{Entry}
 use Rattle.gds_records.specs.Part.{Rest, Judge, Part, ◌▸◌, any, each_after}
@@ -9,7 +9,7 @@ use Rattle.gds_records.specs.declared.stop.Stop.{Stop}
 use Rattle.gds_records.specs.declared.stop.Stop.TheVariants.{Short}
 use Rattle.gds_records.specs.Reading.{Reader, any_at, as_value, then_at, done_at, until_at}
 use Rattle.gds_records.proofs.PartLaws.{Begins, Any, IsDead, IsStop, IsTaken, room, IsPart}
-use Rattle.gds_records.proofs.CaseLaws.{IsCase, as_ok, as_err, case_begins, case_taken, case_stops, Heads, Others, heads_carry, others_carry, picked, not_code}
+use Rattle.gds_records.proofs.CaseLaws.{IsCase, as_ok, as_err, case_begins, case_taken, case_stops, Heads, Others, heads_carry, others_carry, picked}
 use Rattle.gds_records.proofs.JoinLaws.{Joined, join_taken, join_stops_first, join_stops_second, Leaf, leaf_part, HasForm, Nothing, any_part, AreOther, other_others, other_heads, value_heads, heads_others, then_ok, then_err}
 
 -- items up to a record of this code
@@ -109,7 +109,7 @@ until_stops {X} P p code form other parts (suc n) before (e ∷ rs) s le fits is
           case_stops (Heads code) (λ u. []) (λ u. any code ▸ Leaf u) (Until P code before) (until_end P code before other) (e ∷ rs) s (eqb-true _ _ h.0)
           ((end_part code form).stops (e ∷ rs) s (omega arith) (as_err (λ (u : Unit {0}). []) (any_at code done_at (e ∷ rs)) s h.1))
       | inr h ↦
-          case_stops (Others code) (λ z. z.0 ∷ z.1) (Joined (P before) Q) (Until P code before) (until_more P code before other) (e ∷ rs) s (not_code _ _ h.0)
+          case_stops (Others code) (λ z. z.0 ∷ z.1) (Joined (P before) Q) (Until P code before) (until_more P code before other) (e ∷ rs) s (eqb-false _ _ h.0)
           (elim (then_err (p before (e ∷ rs)) more s (as_err (λ (z : X × List X). z.0 ∷ z.1) (then_at (p before (e ∷ rs)) more) s h.1)) [
             | inl first ↦ join_stops_first (P before) Q (e ∷ rs) s (λ x. until_live P code (before ++ x ∷ []) form other) ((parts before (omega arith)).stops (e ∷ rs) s (omega arith) first)
             | inr second ↦

@@ -1,6 +1,6 @@
 -- Bytes and their records: what a part takes off the records, it takes off the bytes.
 use Rattle.std.proofs.Common.{◌≡◌, ◌⊎◌, inl, inr, ℕ, zero, suc, ◌+◌, ◌-◌, ◌*◌, ◌/◌, ◌%◌, ◌<◌, ◌≤◌, List, [], ◌∷◌, ◌++◌, length, take, drop, Bool, true, false, cond, ◌&&◌, leb, eqb, Option, Some, None, refl, sym, ap, subst, ◌∙◌, append_assoc, arith}
-use Rattle.std.proofs.lemmas.List.{length-take, take-append-drop, length-append}
+use Rattle.std.proofs.lemmas.List.{length-take, take-append-drop, length-append, append-nil}
 use Rattle.std.proofs.lemmas.Bool.{eqb-true, eq-eqb, le-leb, and_parts, lt-leb}
 use Rattle.std.proofs.lemmas.Option.{same_Some}
 use Rattle.std.proofs.Math.Seq.{drop-append_seam, take-append_seam}
@@ -10,7 +10,7 @@ use Rattle.gds_records.specs.declared.form.Form.{Form}
 use Rattle.gds_records.specs.declared.form.Form.TheVariants.{Sized, Points, Text, Even, Unknown}
 use Rattle.gds_records.specs.Record.{Entry, entry_of, form_in, form_of, record_table, has_form, is_formed, AreFormed}
 use Rattle.gds_records.specs.Bytes.{record_bytes, records_bytes, AreBytes, AreZero, code_in, length_in, cut, broken_entry, entries_of}
-use Rattle.gds_records.proofs.BytesLaws.{shorter_cut, some_cut, none_left, one_more}
+use Rattle.gds_records.proofs.BytesLaws.{shorter_cut, some_cut, none_left, one_more, chosen}
 
 abbrev entry_bytes : Entry → List ℕ
 entry_bytes e = cond e.whole (record_bytes e) e.content
@@ -24,17 +24,6 @@ two_back n a b is small = (omega arith, omega arith)
 
 abbrev Rebuilds : List ℕ → Entry × List ℕ → Type 0
 Rebuilds bytes p = entry_bytes p.0 ++ p.1 ≡ bytes
-
-pick : (bytes : List ℕ) (x y p : Entry × List ℕ) (low even high : Bool) → cond (low && (even && high)) (Some x) (Some y) ≡ Some p
-    → (low ≡ true → high ≡ true → Rebuilds bytes x) → Rebuilds bytes y → Rebuilds bytes p
-pick bytes x y p false even high is f g = subst (Rebuilds bytes) (same_Some y p is) g
-pick bytes x y p true false high is f g = subst (Rebuilds bytes) (same_Some y p is) g
-pick bytes x y p true true false is f g = subst (Rebuilds bytes) (same_Some y p is) g
-pick bytes x y p true true true is f g = subst (Rebuilds bytes) (same_Some x p is) (f refl refl)
-
-append-nil : (xs : List ℕ) → xs ++ [] ≡ xs
-append-nil [] = refl
-append-nil (x ∷ xs) = ap (λ l. x ∷ l) (append-nil xs)
 
 whole_rebuilds : (a b c d : ℕ) (rest : List ℕ) → b < 256 → d < 256 → 4 ≤ 256 * a + b → 256 * a + b ≤ length rest + 4
     → Rebuilds (a ∷ b ∷ c ∷ d ∷ rest) (entry_of true (256 * c + d) (take (256 * a + b - 4) rest), drop (256 * a + b - 4) rest)
@@ -52,7 +41,7 @@ rebuild (a ∷ []) p are is = subst (Rebuilds (a ∷ [])) (same_Some _ p is) ref
 rebuild (a ∷ b ∷ []) p are is = subst (Rebuilds (a ∷ b ∷ [])) (same_Some _ p is) refl
 rebuild (a ∷ b ∷ c ∷ []) p are is = subst (Rebuilds (a ∷ b ∷ c ∷ [])) (same_Some _ p is) refl
 rebuild (a ∷ b ∷ c ∷ d ∷ rest) p are is =
-    pick (a ∷ b ∷ c ∷ d ∷ rest) _ _ p (leb 4 (256 * a + b)) (eqb (b % 2) 0) (leb (256 * a + b) (length rest + 4)) is
+    chosen (Rebuilds (a ∷ b ∷ c ∷ d ∷ rest)) _ _ p (leb 4 (256 * a + b)) (eqb (b % 2) 0) (leb (256 * a + b) (length rest + 4)) is
     (λ low high. whole_rebuilds a b c d rest are.1.0 are.1.1.1.0 (leb-true _ _ low) (leb-true _ _ high))
     (append-nil (a ∷ b ∷ c ∷ d ∷ rest))
 
@@ -275,9 +264,6 @@ first_at bytes x y p true false high is f g h k = subst (λ (q : Entry × List �
 first_at bytes x y p true true false is f g h k = subst (λ (q : Entry × List ℕ). IsFirst bytes q.0 q.1) (same_Some y p is) (k refl)
 first_at bytes x y p true true true is f g h k = subst (λ (q : Entry × List ℕ). IsFirst bytes q.0 q.1) (same_Some x p is) (f refl refl refl)
 
-above : (m n : ℕ) → leb m n ≡ false → n < m
-above m n is = leb-false m n is
-
 pub first_of : (rest : List ℕ) (e : Entry) (after : List ℕ) → AreBytes rest → cut rest ≡ Some (e, after) → IsFirst rest e after
 unfolding cut
 first_of [] e after are is = absurd cc
@@ -293,9 +279,9 @@ first_of (a ∷ b ∷ c ∷ d ∷ rest) e after are is =
       fits = λ w. (leb-true _ _ low, (let h = leb-true _ _ high in omega (arith, h)));
       broken = λ w. absurd cc;
     })
-    (λ low. first_broken a (b ∷ c ∷ d ∷ rest) (inr (inr (inr (above _ _ low)))))
+    (λ low. first_broken a (b ∷ c ∷ d ∷ rest) (inr (inr (inr (leb-false _ _ low)))))
     (λ even. first_broken a (b ∷ c ∷ d ∷ rest) (inr (inr (inl (odd a b even)))))
-    (λ high. first_broken a (b ∷ c ∷ d ∷ rest) (inr (inl (let h = above _ _ high in omega (arith, h))))) where
+    (λ high. first_broken a (b ∷ c ∷ d ∷ rest) (inr (inl (let h = leb-false _ _ high in omega (arith, h))))) where
       odd : (a b : ℕ) → eqb (b % 2) 0 ≡ false → (256 * a + b) % 2 ≡ 1
       odd a b is = odd_of (λ e. (let both : true ≡ false = sym (eq-eqb (b % 2) 0 e) ∙ is in absurd cc)) where
         odd_of : (b % 2 ≡ 0 → ⊥) → (256 * a + b) % 2 ≡ 1

@@ -27,10 +27,6 @@ wanted_next left now rest after e is lt =
 pub wanted_nowhere : (left : ℕ) (now : Option ℕ) (rest : List ℕ) → cut rest ≡ None → wanted_before left now (entries_of rest) ≡ now
 wanted_nowhere left now rest is = ap (wanted_before left now) (none_left rest is)
 
--- zero bytes are skipped
-pub skips_none : (bytes : List ℕ) → SkipsZeros bytes bytes
-skips_none bytes = record { zeros = []; parts = refl; zero = tt }
-
 more_zeros : (zeros : List ℕ) → AreZero zeros → AreZero (zeros ++ 0 ∷ [])
 more_zeros [] are = (refl, tt)
 more_zeros (z ∷ zeros) are = (are.0, more_zeros zeros are.1)

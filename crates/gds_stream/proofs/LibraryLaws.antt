@@ -4,6 +4,7 @@ use Rattle.std.proofs.lemmas.Slice.Eq.{bytes_eq-Decides}
 use Rattle.std.proofs.lemmas.Bool.{or_parts, false_from_ne_true}
 use Rattle.std.specs.List.{AllByRecursion}
 use Rattle.std.specs.Str.{bytes_eq}
+use Rattle.or_geom.proofs.NameLaws.{other_name}
 use Rattle.gds_records.specs.declared.code.TheConstants.{HEADER, BGNLIB, LIBNAME, UNITS, ENDLIB, BGNSTR, STRNAME, ENDSTR, REFLIBS, FONTS, GENERATIONS, ATTRTABLE}
 use Rattle.gds_records.specs.declared.stop.Demand.TheVariants as demand
 use Rattle.gds_records.specs.declared.stop.Stop.TheVariants.{Short}
@@ -43,7 +44,7 @@ all_new text (s ∷ before) is =
 new_all : (text : List ℕ) (before : List Structure) → AllByRecursion (λ (s : Structure). s.name ≢ text) before → is_taken before text ≡ false
 new_all text [] h = refl
 new_all text (s ∷ before) h =
-    let off : bytes_eq text s.name ≡ false = false_from_ne_true (bytes_eq text s.name) (λ is. h.0 (sym ((bytes_eq-Decides text s.name).0 is))) in
+    let off : bytes_eq text s.name ≡ false = other_name text s.name (λ e. h.0 (sym e)) in
     rw off (new_all text before h.1)
 
 new_gives : (before : List Structure) (content : List ℕ) (x : List ℕ) → new_text_of before content ≡ Some x → IsNewText before x content

@@ -3,6 +3,7 @@ use Rattle.std.proofs.Common.{◌≡◌, inl, inr, ℕ, ◌+◌, ◌<◌, ◌≤
 use Rattle.std.specs.Prelude.{slice_get, Some}
 use Rattle.std.proofs.lemmas.Bool.{cases_lt, cases_eq}
 use Rattle.std.proofs.lemmas.Option.{slice_get_within}
+use Rattle.or_geom.proofs.ListLaws.{one_at}
 use Rattle.ordered_set.specs.Gathering.{SomeHas}
 use Rattle.ordered_set.proofs.GatheringLaws.{some_has, who_has}
 use Rattle.netlist.specs.declared.rows.RowPin.{RowPin}
@@ -12,7 +13,6 @@ use Rattle.net_extractor.specs.Difference.{HasNet, IsWhole, Agree}
 use Rattle.net_extractor.specs.FirstDifference.{AreRightBefore, IsTorn, AreOpen, AreShort, IsWrongAt}
 use Rattle.net_extractor.specs.PinNets.{IsPinNet, ArePinNets, IsElsewhere}
 use Rattle.net_extractor.specs.Conflicts.{AgreeOn, AgreeBefore, IsFirstOdd}
-use Rattle.net_extractor.proofs.PlaceLaws.{one_at}
 use Rattle.net_extractor.proofs.PinLaws.{exists_at}
 
 -- a pin none of whose labels is elsewhere is on one net

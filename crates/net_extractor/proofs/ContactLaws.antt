@@ -7,19 +7,13 @@ use Rattle.or_geom.specs.declared.shape.Shape.{Shape}
 use Rattle.reference_graph.specs.Reaches.{RefersTo}
 use Rattle.tech_rules.specs.declared.tech.Tech.{Tech}
 use Rattle.net_extractor.specs.Contacts.{TouchesAt, AreContacts}
-use Rattle.net_extractor.proofs.PlaceLaws.{one_at}
 use Rattle.std.proofs.lemmas.Bool.{cases_lt}
 use Rattle.std.proofs.lemmas.List.Elements.{Contains-append_left, Contains-push, Contains-push_cases}
+use Rattle.or_geom.proofs.ListLaws.{one_at}
 
 -- exactly the places below this one that have P
 abbrev pub AreBelow : (ℕ → Type 0) → List ℕ → ℕ → Type 0
 AreBelow P places i = (k : ℕ) → Contains places k ↔ ((k < i) × P k)
-
-pub below_begins : (P : ℕ → Type 0) (places : List ℕ) → places ≡ [] → AreBelow P places 0
-below_begins P places e k = (
-  λ h. let none : Contains [] k = subst (λ (xs : List ℕ). Contains xs k) e h in let lt : none.0 < 0 = none.1 in absurd (omega arith),
-  λ h. absurd (omega (arith, h.0)),
-)
 
 pub below_skips : (P : ℕ → Type 0) (places : List ℕ) (i : ℕ) → (P i → ⊥) → AreBelow P places i → AreBelow P places (i + 1)
 below_skips P places i not all k = (

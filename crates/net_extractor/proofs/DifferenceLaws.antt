@@ -3,6 +3,7 @@ use Rattle.std.proofs.Common.{◌≡◌, ◌↔◌, inl, inr, ℕ, List, length,
 use Rattle.std.specs.Prelude.{slice_get, Option, Some, None, Contains}
 use Rattle.std.proofs.lemmas.Bool.{cases_lt}
 use Rattle.std.proofs.lemmas.Option.{slice_get_within}
+use Rattle.or_geom.proofs.ListLaws.{contained_at, one_at}
 use Rattle.netlist.specs.declared.rows.RowPin.{RowPin}
 use Rattle.net_extractor.specs.declared.label.NetLabel.{NetLabel}
 use Rattle.net_extractor.specs.declared.conflicts.Conflict.{Conflict}
@@ -13,7 +14,7 @@ use Rattle.net_extractor.specs.declared.difference.PinName.{PinName}
 use Rattle.net_extractor.specs.Difference.{HasNet, Agree, AreAlike}
 use Rattle.net_extractor.specs.FirstDifference.{IsUnlabelledAt, IsStrangerAt, AreLabelled, AreRightBefore, AreOpen, AreShort, IsTornAt, IsWrongAt, name_of_pin, name_of_label, ArePaired, FirstUnlabelled, FirstStranger, FirstTorn, FirstWrong, IsFirstDifference}
 use Rattle.net_extractor.specs.Conflicts.{IsConflict, AreWithin, AreNames, IsNamed}
-use Rattle.net_extractor.proofs.PlaceLaws.{one_at, contained_at, at_contained}
+use Rattle.net_extractor.proofs.PlaceLaws.{at_contained}
 
 turned : (labels : List NetLabel) (q p : RowPin) → Agree labels q p → Agree labels p q
 turned labels q p a m n has_m has_n = (λ e. sym ((a n m has_n has_m).0 (sym e)), λ e. sym ((a n m has_n has_m).1 (sym e)))

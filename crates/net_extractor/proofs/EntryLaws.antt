@@ -5,6 +5,7 @@ use Rattle.std.specs.List.Sorted.{IsStrictlySortedBy}
 use Rattle.std.proofs.lemmas.List.{map-append, take_more, take_all}
 use Rattle.std.proofs.lemmas.List.Elements.{Contains-push_cases}
 use Rattle.or_geom.specs.declared.shape.Shape.{Shape}
+use Rattle.or_geom.proofs.ListLaws.{contained_at}
 use Rattle.ordered_set.specs.ShapeOrder.{shape_order}
 use Rattle.tech_rules.specs.declared.tech.Tech.{Tech}
 use Rattle.element_drawing.specs.declared.label.OwnLabel.{OwnLabel}
@@ -19,7 +20,6 @@ use Rattle.net_extractor.specs.Numbering.{IsOn, IsNumbering}
 use Rattle.net_extractor.specs.FirstAppearance.{AppearFrom}
 use Rattle.net_extractor.specs.Entries.{entry, IsNetOf}
 use Rattle.net_extractor.specs.Extraction.{label_of, anchor_of, AreNets}
-use Rattle.net_extractor.proofs.PlaceLaws.{contained_at}
 use Rattle.net_extractor.proofs.NumberLaws.{on_one}
 use Rattle.net_extractor.proofs.ExtractLaws.{one_net, bound_there}
 

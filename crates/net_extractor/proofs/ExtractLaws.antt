@@ -8,8 +8,9 @@ use Rattle.std.proofs.lemmas.Bool.{cases_lt}
 use Rattle.std.proofs.lemmas.Option.{slice_get_within, slice_get_cases}
 use Rattle.std.proofs.lemmas.List.{get_or_past}
 use Rattle.or_geom.specs.declared.shape.Shape.{Shape}
+use Rattle.or_geom.proofs.ListLaws.{contained_at, one_at, all_contained}
 use Rattle.ordered_set.specs.ShapeOrder.{shape_order}
-use Rattle.ordered_set.proofs.OneListLaws.{all_contained, not_both}
+use Rattle.ordered_set.proofs.OneListLaws.{not_both}
 use Rattle.ordered_set.proofs.ShapeOrderLaws.{shape_total}
 use Rattle.reference_graph.specs.Reaches.{RefersTo, AreWithin, IsPath, Reaches}
 use Rattle.reference_graph.proofs.PathLaws.{reaches_start}
@@ -21,7 +22,7 @@ use Rattle.net_extractor.specs.Binding.{Binds}
 use Rattle.net_extractor.specs.Bound.{IsBoundAt}
 use Rattle.net_extractor.specs.Contacts.{TouchesAt, AreContacts}
 use Rattle.net_extractor.specs.Numbering.{AreMutual}
-use Rattle.net_extractor.proofs.PlaceLaws.{one_at, contained_at, at_contained}
+use Rattle.net_extractor.proofs.PlaceLaws.{at_contained}
 
 -- in a list in strict order, what stands earlier comes before what stands later
 pub earlier_less : {X : Type 0} (cmp : X → X → Ordering) (xs : List X) (i j : ℕ) (x y : X) → IsStrictlySortedBy cmp xs → i < j → slice_get xs i ≡ Some x → slice_get xs j ≡ Some y → cmp x y ≡ Less

@@ -4,7 +4,7 @@ use Rattle.std.specs.Prelude.{Option, Some, None}
 use Rattle.std.proofs.lemmas.List.{get_or_past, length-replicate}
 use Rattle.std.proofs.lemmas.Bool.{cases_lt, cases_Bool}
 use Rattle.reference_graph.specs.Reaches.{AreWithin, IsPath, Reaches, IsMarked, MarksReached}
-use Rattle.reference_graph.proofs.PathLaws.{reaches_on, reaches_start, reaches_within}
+use Rattle.reference_graph.proofs.PathLaws.{reaches_on, reaches_start, reaches_within, reaches_over}
 use Rattle.net_extractor.specs.declared.numbering.Numbering.{Numbering}
 use Rattle.net_extractor.specs.Numbering.{AreMutual, IsOn, AreGiven, IsNumbering, Numbers}
 
@@ -14,13 +14,6 @@ back graph from to (next ∷ rest) both leads = reaches_on graph to next from (b
 
 pub reaches_back : (graph : List (List ℕ)) (from to : ℕ) → AreMutual graph → Reaches graph from to → Reaches graph to from
 reaches_back graph from to both r = back graph from to r.path both r.leads
-
-along : (graph : List (List ℕ)) (from mid to : ℕ) (path : List ℕ) → Reaches graph from mid → IsPath graph mid path to → Reaches graph from to
-along graph from mid to [] r leads = subst (Reaches graph from) (sym leads) r
-along graph from mid to (next ∷ rest) r leads = along graph from next to rest (reaches_on graph from mid next r leads.0) leads.1
-
-pub reaches_over : (graph : List (List ℕ)) (from mid to : ℕ) → Reaches graph from mid → Reaches graph mid to → Reaches graph from to
-reaches_over graph from mid to r s = along graph from mid to s.path r s.leads
 
 -- a place with a number is one of the list
 pub on_within : (nets : List (Option ℕ)) (k m : ℕ) → IsOn nets k m → k < length nets

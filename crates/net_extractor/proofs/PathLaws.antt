@@ -10,8 +10,5 @@ above_by path other rest others first is begins = (
   λ h. let same : first ∷ others ≡ 47 ∷ h.rest = sym begins ∙ append_cancel_left path rest (47 ∷ h.rest) (sym is ∙ h.is) in cc,
 )
 
-pub above_itself : (path other rest : List ℕ) → other ≡ path ++ rest → rest ≡ [] → IsAbove path other → ⊥
-above_itself path other rest is none h = let same : [] ≡ 47 ∷ h.rest = sym none ∙ append_cancel_left path rest (47 ∷ h.rest) (sym is ∙ h.is) in absurd cc
-
 pub not_empty : (text : List ℕ) → false ≡ nat_eq (length text) 0 → text ≡ [] → ⊥
 not_empty text test none = let e : ◌≡◌ {A = Bool} false true = test ∙ ap (λ (t : List ℕ). nat_eq (length t) 0) none in absurd cc

@@ -4,13 +4,14 @@ use Rattle.std.specs.Prelude.{slice_get, Some}
 use Rattle.std.proofs.lemmas.Bool.{cases_lt}
 use Rattle.std.proofs.lemmas.List.{get_or_append_left, get_or_push, length_push}
 use Rattle.std.proofs.lemmas.Option.{slice_get_within, slice_get_cases, get_or_from_slice_get, slice_get_read}
+use Rattle.or_geom.proofs.ListLaws.{one_at}
 use Rattle.netlist.specs.declared.rows.RowPin.{RowPin}
 use Rattle.net_extractor.specs.declared.label.NetLabel.{NetLabel}
 use Rattle.net_extractor.specs.declared.pins.PinNet.{PinNet}
 use Rattle.net_extractor.specs.Difference.{IsLabelOf, IsLabelled}
 use Rattle.net_extractor.specs.FirstDifference.{IsUnlabelledAt, AreLabelled}
 use Rattle.net_extractor.specs.PinNets.{IsPinNet, ArePinNets}
-use Rattle.net_extractor.proofs.PlaceLaws.{one_at, at_contained}
+use Rattle.net_extractor.proofs.PlaceLaws.{at_contained}
 
 pub exists_at : {X : Type 0} (xs : List X) (i : ℕ) → i < length xs → (x : X) × (slice_get xs i ≡ Some x)
 exists_at xs i lt = elim (slice_get_cases xs i).1 [
@@ -35,12 +36,6 @@ pub record ArePinNetsBefore (labels : List NetLabel) (pins : List RowPin) (nets 
   pub sized : length nets ≡ i
   pub each : (k : ℕ) (pin : RowPin) (net : PinNet) → slice_get pins k ≡ Some pin → slice_get nets k ≡ Some net → IsPinNet labels pin net
 
-pub pins_begin : (labels : List NetLabel) (pins : List RowPin) (nets : List PinNet) → nets ≡ [] → ArePinNetsBefore labels pins nets 0
-pins_begin labels pins nets none = record {
-  sized = ap length none;
-  each = λ k pin net at_pin at_net. let lt = slice_get_within nets k net at_net in let e = ap length none in absurd (omega (arith, lt, e));
-}
-
 pub pins_more : (labels : List NetLabel) (pins : List RowPin) (nets new : List PinNet) (i : ℕ) (pin : RowPin) (net : PinNet) → slice_get pins i ≡ Some pin → IsPinNet labels pin net → new ≡ nets ++ net ∷ []
     → ArePinNetsBefore labels pins nets i → ArePinNetsBefore labels pins new (i + 1)
 pins_more labels pins nets new i pin net here is grown b = record {
@@ -52,9 +47,6 @@ pins_more labels pins nets new i pin net here is grown b = record {
         subst (IsPinNet labels p) fresh.1 (subst (λ (q : RowPin). IsPinNet labels q net) (one_at pins i pin p here at_i) is)
   ];
 }
-
-pub pins_all : (labels : List NetLabel) (pins : List RowPin) (nets : List PinNet) (i : ℕ) → i ≡ length pins → ArePinNetsBefore labels pins nets i → ArePinNets labels pins nets
-pins_all labels pins nets i all b = record { sized = b.sized ∙ all; each = b.each }
 
 -- the pins before the place have bound labels, and the one there has none
 pub pins_lack : (labels : List NetLabel) (pins : List RowPin) (nets : List PinNet) (i : ℕ) (pin : RowPin) → slice_get pins i ≡ Some pin → (IsLabelled labels pin → ⊥) → ArePinNetsBefore labels pins nets i → IsUnlabelledAt labels pins i
@@ -77,8 +69,3 @@ labelled_all labels pins nets a place pin here =
 -- a label that gives a pin no net
 abbrev pub GivesNone : RowPin → NetLabel → Type 0
 GivesNone pin label = IsLabelOf pin label → (n : ℕ) → label.net ≡ Some n → ⊥
-
-pub none_labelled : (labels : List NetLabel) (pin : RowPin) (i : ℕ) → length labels ≤ i → ((k : ℕ) (label : NetLabel) → k < i → slice_get labels k ≡ Some label → GivesNone pin label) → IsLabelled labels pin → ⊥
-none_labelled labels pin i le none l =
-    let lt : l.has.listed.0 < length labels = l.has.listed.1 in
-    none l.has.listed.0 l.has.label (omega arith) (at_contained labels l.has.label l.has.listed) l.has.of l.net l.has.on

@@ -1,7 +1,7 @@
 -- Printing one line after another.
 use Rattle.std.proofs.Common.{◌≡◌, ℕ, ◌+◌, ◌<◌, List, [], ◌∷◌, ◌++◌, length, get_or, drop, take, Option, Some, None, Err, refl, sym, ap, subst, ◌∙◌, append_assoc, take-append-drop}
 use Rattle.std.proofs.lemmas.List.{append_cancel_right}
-use Rattle.ordered_set.proofs.GatheringLaws.{rest_at}
+use Rattle.or_geom.proofs.ListLaws.{rest_at}
 use Rattle.or_host.specs.declared.sink.PutFail.{PutFail}
 use Rattle.or_host.specs.declared.sink.PutFail.TheVariants.{Failed, Memory}
 use Rattle.or_host.specs.Text.{Grows, Puts}

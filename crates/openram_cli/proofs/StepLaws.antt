@@ -16,14 +16,6 @@ answers_by P Q R S f g (Err (Refused refusal)) a = f (refusal_reply refusal) a
 answers_by P Q R S f g (Err (ReadFailed name)) a = g name.now a
 answers_by P Q R S f g (Err Memory) a = tt
 
--- what a file's bytes lead to
-pub on_file : (told : Option Files) (name bytes seen : List ℕ) (P : List ℕ → Reply → Type 0) (R S : List ℕ → Type 0) (result : Result Reply Stop) → ((n : List ℕ) → R n → S n) → seen ≡ bytes → IfTold told (λ files. IsThere files name bytes)
-    → AnswersBy (P seen) R result → IfTold told (λ files. AnswersBy (OnFile files name P) S result)
-on_file None name bytes seen P R S result g is there a = tt
-on_file (Some files) name bytes seen P R S result g is there a =
-    let here : AnswersBy (P bytes) R result = subst (λ (b : List ℕ). AnswersBy (P b) R result) is a in
-    answers_by (P bytes) (OnFile files name P) R S (λ reply p. inr (bytes, there, p)) g result here
-
 -- the same where more files may be read
 pub on_read_file : (told : Option Files) (name bytes seen : List ℕ) (P : Files → List ℕ → Reply → Type 0) (R : Files → List ℕ → List ℕ → Type 0) (S : Files → List ℕ → Type 0) (result : Result Reply Stop)
     → ((files : Files) → IsThere files name bytes → (n : List ℕ) → R files bytes n → S files n) → seen ≡ bytes → IfTold told (λ files. IsThere files name bytes)

@@ -36,22 +36,6 @@ gds_stops bytes next R fault (Refused refusal) of is = inl (fault, is.1, of, ap 
 gds_stops bytes next R fault (ReadFailed name) of is = absurd is
 gds_stops bytes next R fault Memory of is = tt
 
-pub tech_stops : (bytes : List ℕ) (next : Tech → Reply → Type 0) (R : List ℕ → Type 0) (fault : TechFault) (stop : Stop) → ((fault ≡ tech_fault.Memory → ⊥) → technology bytes ≡ Err fault) → IsTechStop fault stop → StopsBy (OnTech bytes next) R stop
-tech_stops bytes next R fault (Refused refusal) of is = inl (fault, is.1, of is.1, ap refusal_reply is.0)
-tech_stops bytes next R fault (ReadFailed name) of is = absurd is
-tech_stops bytes next R fault Memory of is = tt
-
-pub flatten_stops : (tech : Tech) (top : List ℕ) (lib : Library) (next : FlatLists → Reply → Type 0) (R : List ℕ → Type 0) (fault : FlattenFault) (stop : Stop) → IsFault tech.layers lib.structs top fault → IsFlattenStop fault stop
-    → StopsBy (OnFlat tech top lib next) R stop
-flatten_stops tech top lib next R fault (Refused refusal) of is = inl (fault, is.1, of, ap refusal_reply is.0)
-flatten_stops tech top lib next R fault (ReadFailed name) of is = absurd is
-flatten_stops tech top lib next R fault Memory of is = tt
-
--- the first difference, if there is one
-pub is_difference : (labels : List NetLabel) (rows : List RowPin) (found : Option NetDiff) → (found ≡ None) ↔ AreAlike labels rows → IfSome found (IsFirstDifference labels rows) → IsDifference labels rows found
-is_difference labels rows None none first = none.0 refl
-is_difference labels rows (Some d) none first = first
-
 -- the fault that is given, where it isn't want of memory
 given : {Y : Type 0} → (fault : SpiceFault) (result : Result Y SpiceFault) → fault ≢ spice_fault.Memory → spice.IsFault fault result → result ≡ Err fault
 given spice_fault.Memory result other is = absurd (other refl)
@@ -61,11 +45,6 @@ given (spice_fault.Unclosed line) result other is = is
 given (spice_fault.Duplicate line) result other is = is
 given (spice_fault.Refused line) result other is = is
 given (spice_fault.BadLine line) result other is = is
-
-pub spice_stops : (bytes : List ℕ) (next : Deck → Reply → Type 0) (R : List ℕ → Type 0) (fault : SpiceFault) (stop : Stop) → spice.IsFault fault (deck bytes) → IsSpiceStop fault stop → StopsBy (OnDeck bytes next) R stop
-spice_stops bytes next R fault (Refused refusal) of is = inl (fault, is.1, given fault (deck bytes) is.1 of, ap refusal_reply is.0)
-spice_stops bytes next R fault (ReadFailed name) of is = absurd is
-spice_stops bytes next R fault Memory of is = tt
 
 pub rows_stops : (tech : Tech) (top : List ℕ) (d : Deck) (next : List RowPin → Reply → Type 0) (R : List ℕ → Type 0) (fault : FlatFault) (stop : Stop)
     → IsFlatFault d.subckts top (leaves_of tech) fault → IsRowsStop fault stop → StopsBy (OnRows tech top d next) R stop

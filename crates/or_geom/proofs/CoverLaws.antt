@@ -7,12 +7,20 @@ use Rattle.or_geom.specs.declared.shape.Point.{Point}
 use Rattle.or_geom.specs.declared.shape.Rect.{Rect}
 use Rattle.or_geom.specs.Covered.{HasCell, HasCellInSome, IsCovered}
 use Rattle.or_geom.specs.Row.{IsFound, IsRowOf, AreRowsTo}
+use Rattle.std.specs.Prelude.{Contains}
+use Rattle.or_geom.proofs.ListLaws.{contains_none, contains_cases}
 
--- a rectangle of the list is covered by the list
+-- a cell of a rectangle of the list lies in one of them
+pub cell_among : (rects : List Rect) (r : Rect) (x y : ℤ) → Contains rects r → HasCell r x y → HasCellInSome rects x y
+cell_among [] r x y one h = absurd (contains_none r one)
+cell_among (s ∷ rs) r x y one h = elim (contains_cases s rs r one) [
+  | inl e ↦ inl (subst (λ (t : Rect). HasCell t x y) e h)
+  | inr more ↦ inr (cell_among rs r x y more h)
+]
+
+-- so the rectangle is covered by the list
 pub own_covered : (rects : List Rect) (i : ℕ) (r : Rect) → i < length rects → r ≡ get_or rects i r → IsCovered r rects
-own_covered [] i r lt e x y h = absurd (omega arith)
-own_covered (s ∷ rs) zero r lt e x y h = inl (subst (λ (t : Rect). HasCell t x y) e h)
-own_covered (s ∷ rs) (suc i) r lt e x y h = inr (own_covered rs i r (omega arith) e x y h)
+own_covered rects i r lt e x y h = cell_among rects r x y (i, lt, sym e) h
 
 -- what holds the cell stands among those left
 abbrev pub IsLeft : List Rect → ℕ → Point → Type 0
@@ -25,9 +33,6 @@ one_less rects i r cell lt e not_here left some =
       | inr there ↦ there
     ]
 
-pub none_holds : (rects : List Rect) (i : ℕ) (cell : Point) → length rects ≤ i → IsLeft rects i cell → HasCellInSome rects cell.x cell.y → ⊥
-none_holds rects i cell le left some = subst (λ (rs : List Rect). HasCellInSome rs cell.x cell.y) (at_drop_all (λ (rs : List Rect). rs) rects i le) (left some)
-
 -- the area's cells between the row and the corner are covered
 pub record IsBegun (rects : List Rect) (area : Rect) (row corner : Point) : Type 0 where
   pub left : area.x1 ≤ℤ corner.x
@@ -35,15 +40,6 @@ pub record IsBegun (rects : List Rect) (area : Rect) (row corner : Point) : Type
   pub low : row.y <ℤ corner.y
   pub high : corner.y ≤ℤ area.y2
   pub done : (x y : ℤ) → area.x1 ≤ℤ x → x <ℤ corner.x → row.y ≤ℤ y → y <ℤ corner.y → HasCellInSome rects x y
-
-pub row_begins : (rects : List Rect) (area : Rect) (row corner : Point) → IsRowOf area row → corner.x ≡ row.x → corner.y ≡ area.y2 → IsBegun rects area row corner
-row_begins rects area row corner is a b =
-    let wide : area.x1 <ℤ area.x2 = area.wide in
-    record { left = omega (arith, ints, is.left); right = omega (arith, ints, is.left); low = omega (arith, ints, is.high); high = omega (arith, ints); done = λ x y h k l m. absurd (omega (arith, ints, is.left)) }
-
-pub row_misses : (rects : List Rect) (area : Rect) (row corner cell : Point) → IsRowOf area row → IsBegun rects area row corner → cell.x ≡ corner.x → cell.y ≡ row.y → (HasCellInSome rects cell.x cell.y → ⊥) → IsCovered area rects → ⊥
-row_misses rects area row corner cell is b a e none covers =
-    none (covers cell.x cell.y (record { left = omega (arith, ints, b.left); right = omega (arith, ints, b.right); low = omega (arith, ints, is.low); high = omega (arith, ints, is.high) }))
 
 -- the cells left of the next corner
 further : (rects : List Rect) (area : Rect) (row corner cell : Point) (r : Rect) → IsBegun rects area row corner → cell.x ≡ corner.x → cell.y ≡ row.y → IsFound rects cell r
@@ -75,20 +71,3 @@ row_goes_on rects area row corner cell next r b a e f more x y = record {
 pub record IsRaised (rects : List Rect) (area : Rect) (row : Point) : Type 0 where
   pub row_of : IsRowOf area row
   pub done : (x y : ℤ) → HasCell area x y → y <ℤ row.y → HasCellInSome rects x y
-
-pub rows_begin : (rects : List Rect) (area : Rect) (row : Point) → row.x ≡ area.x1 → row.y ≡ area.y1 → IsRaised rects area row
-rows_begin rects area row a b =
-    let tall : area.y1 <ℤ area.y2 = area.tall in
-    record { row_of = record { left = a; low = omega (arith, ints); high = omega (arith, ints) }; done = λ x y h k. absurd (omega (arith, ints, h.low)) }
-
-rows_further : (rects : List Rect) (area : Rect) (row next : Point) → IsRaised rects area row → AreRowsTo rects area row next → (x y : ℤ) → HasCell area x y → y <ℤ next.y → HasCellInSome rects x y
-rows_further rects area row next b s x y h below = by_lt_z y row.y (λ before. b.done x y h before) (λ after. s.covered x y h after below)
-
-pub rows_end : (rects : List Rect) (area : Rect) (row next : Point) → IsRaised rects area row → AreRowsTo rects area row next → area.y2 ≤ℤ next.y → IsCovered area rects
-rows_end rects area row next b s end x y h = rows_further rects area row next b s x y h (omega (arith, ints, h.high))
-
-pub rows_go_on : (rects : List Rect) (area : Rect) (row next : Point) → IsRaised rects area row → AreRowsTo rects area row next → next.y <ℤ area.y2 → IsRaised rects area next
-rows_go_on rects area row next b s more = record {
-  row_of = record { left = s.left; low = omega (arith, ints, b.row_of.low, s.higher); high = more };
-  done = rows_further rects area row next b s;
-}

@@ -5,15 +5,6 @@ use Rattle.std.proofs.lemmas.Int.{ints, clamps}
 use Rattle.or_geom.specs.declared.span.Span.{Span}
 use Rattle.or_geom.specs.Gap.{IsGap}
 
-pub gap_before : (a b g : Span) → a.high <ℤ b.low → g.low ≡ a.high → g.high ≡ b.low → IsGap a b g
-gap_before a b g lt l h = record {
-  before = λ k. record { from = l; to = h };
-  after = λ k. absurd (omega (arith, ints));
-  touching_before = λ k. absurd (omega (arith, ints));
-  touching_after = λ k. absurd (omega (arith, ints));
-  shared = λ j k. absurd (omega (arith, ints));
-}
-
 pub gap_after : (a b g : Span) → b.high <ℤ a.low → g.low ≡ b.high → g.high ≡ a.low → IsGap a b g
 gap_after a b g lt l h = record {
   before = λ k. absurd (omega (arith, ints));

@@ -9,6 +9,7 @@ use Rattle.or_geom.specs.declared.contact.Contact.TheVariants.{Apart, Touching, 
 use Rattle.or_geom.specs.Joined.{AreJoined}
 use Rattle.or_geom.specs.Contact.{IsContact, is_joint_of}
 use Rattle.or_geom.specs.Span.{across, upward}
+use Rattle.or_geom.proofs.PlaceLaws.{same_point}
 
 -- the corners of what two boxes have in common
 abbrev low_corner : Rect → Rect → Point
@@ -57,9 +58,6 @@ overlap_y a b m over =
 -- boxes that are joined aren't apart
 joined_meet : (a b : Rect) → AreJoined a b → Meet a b
 joined_meet a b j = record { left = omega (arith, ints); right = omega (arith, ints); low = omega (arith, ints); high = omega (arith, ints) }
-
-same_point : (p q : Point) → p.x ≡ q.x → p.y ≡ q.y → p ≡ q
-same_point p q x y = λ i. record { x = x i; y = y i }
 
 -- nor do they touch in both directions
 joined_not_corner : (a b : Rect) → AreJoined a b → (a.x2 ≡ b.x1) ⊎ (b.x2 ≡ a.x1) → (a.y2 ≡ b.y1) ⊎ (b.y2 ≡ a.y1) → ⊥

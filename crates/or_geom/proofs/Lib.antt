@@ -1,5 +1,8 @@
+pub mod ListLaws
+pub mod CountLaws
+pub mod NameLaws
 mod JoinedLaws
 mod DistanceLaws
 mod GapLaws
-mod CoverLaws
+pub mod CoverLaws
 pub mod PlaceLaws

@@ -1,8 +1,7 @@
 -- Turns and offsets, one after another.
 use Rattle.std.specs.Ordering.{is_eq, int_cmp}
 use Rattle.std.specs.FinMap.{int_cmp-IsAntisymmetric}
-use Rattle.std.specs.declared.cmp.Ordering.{Ordering}
-use Rattle.std.specs.declared.cmp.Ordering.TheVariants.{Less, Equal, Greater}
+use Rattle.std.specs.Cmp.{Equal-is}
 use Rattle.std.proofs.Props.{props}
 use Rattle.std.proofs.Common.{◌≡◌, ◌≢◌, Bool, true, false, ◌&&◌, ℕ, ◌+◌, subst, ℤ, ◌<ℤ◌, ◌+ℤ◌, w64, FitsSigned, to_z, of_z, refl, ap, ◌∙◌, sym, arith}
 use Rattle.std.proofs.lemmas.Int.{ints, to_z-of_z}
@@ -117,13 +116,8 @@ both_true : (a b : Bool) → a && b ≡ true → (a ≡ true) × (b ≡ true)
 both_true true b e = (refl, e)
 both_true false b e = absurd cc
 
-is_equal : (o : Ordering) → is_eq o ≡ true → o ≡ Equal
-is_equal Less e = absurd cc
-is_equal Equal e = refl
-is_equal Greater e = absurd cc
-
 same_int : (x y : ℤ) → is_eq (int_cmp x y) ≡ true → x ≡ y
-same_int x y e = int_cmp-IsAntisymmetric x y (is_equal (int_cmp x y) e)
+same_int x y e = int_cmp-IsAntisymmetric x y ((Equal-is (int_cmp x y)).0 e)
 
 -- rectangles that compare as equal are
 pub same_box : (r s : Rect) → (is_eq (int_cmp r.x1 s.x1) && (is_eq (int_cmp r.y1 s.y1) && (is_eq (int_cmp r.x2 s.x2) && is_eq (int_cmp r.y2 s.y2)))) ≡ true → r ≡ s

@@ -2,15 +2,10 @@
 use Rattle.std.proofs.Common.{◌≡◌, ◌≢◌, ℕ, zero, suc, ◌<◌, true, false, cond, List, [], ◌∷◌, ◌++◌, length, get_or, set, Some, None, refl, sym, ap, subst, ◌∙◌, arith}
 use Rattle.std.specs.Str.{bytes_eq}
 use Rattle.std.proofs.lemmas.Slice.Eq.{bytes_eq-Decides}
+use Rattle.or_geom.proofs.NameLaws.{other_name}
 use Rattle.or_host.specs.declared.file.MemFile.{MemFile}
 use Rattle.or_host.specs.Files.{Holds}
 use Rattle.or_host.specs.FileList.{files_of, NoneBefore, IsFirstPlace}
-
-same : (a b : List ℕ) → a ≡ b → bytes_eq a b ≡ true
-same a b e = (bytes_eq-Decides a b).1 e
-
-differs : (a b : List ℕ) → a ≢ b → bytes_eq a b ≡ false
-differs a b ne = elim (bytes_eq a b) as (λ r. bytes_eq a b ≡ r → r ≡ false) [ true ↦ λ e. absurd (ne ((bytes_eq-Decides a b).0 e)) | false ↦ λ e. refl ] refl
 
 -- one more that has another name
 pub none_more : (n : ℕ) (files : List MemFile) (name : List ℕ) (d : MemFile) → NoneBefore n files name → n < length files → (get_or files n d).name ≢ name → NoneBefore (suc n) files name
@@ -21,35 +16,35 @@ none_more (suc n) (f ∷ fs) name d none lt ne = (none.0, none_more n fs name d 
 
 pub not_there : (files : List MemFile) (name : List ℕ) → NoneBefore (length files) files name → files_of files name ≡ None
 not_there [] name none = refl
-not_there (f ∷ fs) name none = rw (differs f.name name none.0) (not_there fs name none.1)
+not_there (f ∷ fs) name none = rw (other_name f.name name none.0) (not_there fs name none.1)
 
 pub there : (n : ℕ) (files : List MemFile) (name : List ℕ) (d : MemFile) → NoneBefore n files name → n < length files → (get_or files n d).name ≡ name → files_of files name ≡ Some (get_or files n d).bytes
 there zero [] name d none lt e = absurd (omega arith)
-there zero (f ∷ fs) name d none lt e = rw (same f.name name e) refl
+there zero (f ∷ fs) name d none lt e = rw ((bytes_eq-Decides f.name name).1 e) refl
 there (suc n) [] name d none lt e = absurd (omega arith)
-there (suc n) (f ∷ fs) name d none lt e = rw (differs f.name name none.0) (there n fs name d none.1 (omega arith) e)
+there (suc n) (f ∷ fs) name d none lt e = rw (other_name f.name name none.0) (there n fs name d none.1 (omega arith) e)
 
 -- a file is put in the place of the first of its name
 pub set_here : (n : ℕ) (files : List MemFile) (name : List ℕ) (f : MemFile) → NoneBefore n files name → n < length files → f.name ≡ name → files_of (set files n f) name ≡ Some f.bytes
 set_here zero [] name g none lt e = absurd (omega arith)
-set_here zero (f ∷ fs) name g none lt e = rw (same g.name name e) refl
+set_here zero (f ∷ fs) name g none lt e = rw ((bytes_eq-Decides g.name name).1 e) refl
 set_here (suc n) [] name g none lt e = absurd (omega arith)
-set_here (suc n) (f ∷ fs) name g none lt e = rw (differs f.name name none.0) (set_here n fs name g none.1 (omega arith) e)
+set_here (suc n) (f ∷ fs) name g none lt e = rw (other_name f.name name none.0) (set_here n fs name g none.1 (omega arith) e)
 
 pub set_others : (n : ℕ) (files : List MemFile) (name other : List ℕ) (f d : MemFile) → other ≢ name → n < length files → (get_or files n d).name ≡ name → f.name ≡ name → files_of (set files n f) other ≡ files_of files other
 set_others zero [] name other g d ne lt e k = absurd (omega arith)
 set_others zero (f ∷ fs) name other g d ne lt e k =
-    rw (differs g.name other (λ p. ne (sym p ∙ k)), differs f.name other (λ p. ne (sym p ∙ e))) refl
+    rw (other_name g.name other (λ p. ne (sym p ∙ k)), other_name f.name other (λ p. ne (sym p ∙ e))) refl
 set_others (suc n) [] name other g d ne lt e k = absurd (omega arith)
 set_others (suc n) (f ∷ fs) name other g d ne lt e k = ap (λ r. cond (bytes_eq f.name other) (Some f.bytes) r) (set_others n fs name other g d ne (omega arith) e k)
 
 -- a file is added at the end
 pub push_here : (files : List MemFile) (name : List ℕ) (f : MemFile) → NoneBefore (length files) files name → f.name ≡ name → files_of (files ++ f ∷ []) name ≡ Some f.bytes
-push_here [] name g none e = rw (same g.name name e) refl
-push_here (f ∷ fs) name g none e = rw (differs f.name name none.0) (push_here fs name g none.1 e)
+push_here [] name g none e = rw ((bytes_eq-Decides g.name name).1 e) refl
+push_here (f ∷ fs) name g none e = rw (other_name f.name name none.0) (push_here fs name g none.1 e)
 
 pub push_others : (files : List MemFile) (name other : List ℕ) (f : MemFile) → other ≢ name → f.name ≡ name → files_of (files ++ f ∷ []) other ≡ files_of files other
-push_others [] name other g ne e = rw (differs g.name other (λ p. ne (sym p ∙ e))) refl
+push_others [] name other g ne e = rw (other_name g.name other (λ p. ne (sym p ∙ e))) refl
 push_others (f ∷ fs) name other g ne e = ap (λ r. cond (bytes_eq f.name other) (Some f.bytes) r) (push_others fs name other g ne e)
 
 pub put_set : (files seen : List MemFile) (name bytes : List ℕ) (i : ℕ) (old : MemFile) (b : List ℕ) → seen ≡ files → IsFirstPlace seen name i → old ≡ get_or files i old → b ≡ bytes

@@ -2,14 +2,14 @@
 use Rattle.std.proofs.Common.{◌≡◌, ◌⊎◌, inl, inr, ℕ, zero, suc, slice_index_or, ◌<◌, List, [], ◌∷◌, ◌++◌, sym, ap, subst, ◌∙◌, append_assoc, arith}
 use Rattle.std.proofs.lemmas.List.{append-nil}
 use Rattle.std.proofs.lemmas.List.Elements.{Contains-append_left, Contains-append_right, Contains-append_cases}
+use Rattle.or_geom.proofs.ListLaws.{contains_none}
 use Rattle.ordered_set.specs.Adds.{Adds}
-use Rattle.ordered_set.proofs.OneListLaws.{none_in}
 
 pub adds_none : {X : Type 0} (xs : List X) (P : X → Type 0) → ((x : X) → P x → ⊥) → Adds xs xs P
 adds_none xs P none = record {
   added = [];
   is = sym (append-nil xs);
-  only = λ x h. absurd (none_in h.0 h.1);
+  only = λ x h. absurd (contains_none x h);
   each = λ x p. absurd (none x p);
 }
 

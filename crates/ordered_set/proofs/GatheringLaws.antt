@@ -6,17 +6,15 @@ use Rattle.std.specs.Cmp.{IsTotalOrder}
 use Rattle.std.specs.List.Sorted.{IsStrictlySortedBy}
 use Rattle.std.specs.declared.cmp.Ordering.{Ordering}
 use Rattle.std.specs.declared.cmp.Ordering.TheVariants.{Less}
+use Rattle.or_geom.proofs.ListLaws.{contains_none, contains_cases, contains_first, contains_later, rest_at, all_contained}
 use Rattle.ordered_set.specs.Adds.{Adds}
 use Rattle.ordered_set.specs.Gathering.{SomeGives, SomePairGives, SomeHas}
 use Rattle.ordered_set.proofs.AddsLaws.{adds_none, adds_both}
-use Rattle.ordered_set.proofs.OneListLaws.{contains_cases, contains_first, contains_later, all_contained, not_both, none_in}
+use Rattle.ordered_set.proofs.OneListLaws.{not_both}
 
 -- so far in a loop over the items of `all`, of which `rest` are left: now grew from old
 pub record IsGathering {X Y : Type 0} (gives : Y → X → Type 0) (all rest : List Y) (old now : List X) : Type 0 where
   pub completes : (new : List X) → Adds now new (SomeGives gives rest) → Adds old new (SomeGives gives all)
-
-pub gather_begins : {X Y : Type 0} (gives : Y → X → Type 0) (all : List Y) (old : List X) → IsGathering gives all all old old
-gather_begins gives all old = record { completes = λ new a. a }
 
 pub gather_goes_on : {X Y : Type 0} (gives : Y → X → Type 0) (all rest others : List Y) (first : Y) (old now next : List X) → rest ≡ first ∷ others → IsGathering gives all rest old now → Adds now next (gives first) → IsGathering gives all others old next
 gather_goes_on {X = X} {Y = Y} gives all rest others first old now next e way step =
@@ -34,9 +32,6 @@ gather_ends {X = X} {Y = Y} gives all rest old now e way = way.completes now (ad
 pub record ArePairsGathered {X Y : Type 0} (gives : Y → Y → X → Type 0) (all rest : List Y) (old now : List X) : Type 0 where
   pub completes : (new : List X) → Adds now new (SomePairGives gives rest) → Adds old new (SomePairGives gives all)
 
-pub pairs_begin : {X Y : Type 0} (gives : Y → Y → X → Type 0) (all : List Y) (old : List X) → ArePairsGathered gives all all old old
-pairs_begin gives all old = record { completes = λ new a. a }
-
 pub pairs_go_on : {X Y : Type 0} (gives : Y → Y → X → Type 0) (all rest others : List Y) (first : Y) (old now next : List X) → rest ≡ first ∷ others → ArePairsGathered gives all rest old now → Adds now next (SomeGives (gives first) others) → ArePairsGathered gives all others old next
 pairs_go_on {X = X} {Y = Y} gives all rest others first old now next e way step =
     let w : ArePairsGathered gives all (first ∷ others) old now = subst (λ (r : List Y). ArePairsGathered gives all r old now) e way in
@@ -45,13 +40,6 @@ pairs_go_on {X = X} {Y = Y} gives all rest others first old now next e way step 
 pub pairs_end : {X Y : Type 0} (gives : Y → Y → X → Type 0) (all rest : List Y) (old now : List X) → rest ≡ [] → ArePairsGathered gives all rest old now → Adds old now (SomePairGives gives all)
 pairs_end {X = X} {Y = Y} gives all rest old now e way = way.completes now (adds_none now (SomePairGives gives rest) (λ x g. subst (λ (r : List Y). SomePairGives gives r x) e g))
 
--- at an index
-pub rest_at : {Y : Type 0} (ys : List Y) (i : ℕ) (y : Y) → i < length ys → y ≡ get_or ys i y → drop i ys ≡ y ∷ drop (i + 1) ys
-rest_at {Y} ys i y lt is = at_drop_more (λ (l : List Y). l) ys i y lt ∙ ap (λ (z : Y). z ∷ drop (i + 1) ys) (sym is)
-
-pub rest_over : {Y : Type 0} (ys : List Y) (i : ℕ) → length ys ≤ i → drop i ys ≡ []
-rest_over {Y} ys i le = at_drop_all (λ (l : List Y). l) ys i le
-
 -- who gives, and that he stands in the list
 pub giver : {X Y : Type 0} (gives : Y → X → Type 0) (ys : List Y) (x : X) → SomeGives gives ys x → (y : Y) × Contains ys y × gives y x
 giver gives [] x g = absurd g
@@ -59,7 +47,7 @@ giver gives (y ∷ ys) x (inl g) = (y, contains_first y ys, g)
 giver gives (y ∷ ys) x (inr g) = let r = giver gives ys x g in (r.0, contains_later y ys r.0 r.1, r.2)
 
 pub gives_some : {X Y : Type 0} (gives : Y → X → Type 0) (ys : List Y) (x : X) (y : Y) → Contains ys y → gives y x → SomeGives gives ys x
-gives_some gives [] x y h g = absurd (none_in h.0 h.1)
+gives_some gives [] x y h g = absurd (contains_none y h)
 gives_some {X = X} {Y = Y} gives (z ∷ zs) x y h g = elim (contains_cases z zs y h) [
   | inl e ↦ inl (subst (λ (w : Y). gives w x) e g)
   | inr k ↦ inr (gives_some gives zs x y k g)
@@ -73,11 +61,8 @@ pub among_goes_on : {Y : Type 0} (has : Y → Type 0) (ys : List Y) (i : ℕ) (y
 among_goes_on {Y} has ys i y lt is none left h =
     elim (subst (λ (l : List Y). SomeHas has l) (rest_at ys i y lt is) (left h)) [ inl b ↦ absurd (none b) | inr k ↦ k ]
 
-pub among_ends : {Y : Type 0} (has : Y → Type 0) (ys : List Y) (i : ℕ) → length ys ≤ i → IsAmongLeft has ys i → SomeHas has ys → ⊥
-among_ends {Y} has ys i le left h = subst (λ (l : List Y). SomeHas has l) (rest_over ys i le) (left h)
-
 pub some_has : {Y : Type 0} (has : Y → Type 0) (ys : List Y) (y : Y) → Contains ys y → has y → SomeHas has ys
-some_has has [] y h p = absurd (none_in h.0 h.1)
+some_has has [] y h p = absurd (contains_none y h)
 some_has {Y} has (z ∷ zs) y h p = elim (contains_cases z zs y h) [ inl e ↦ inl (subst has e p) | inr k ↦ inr (some_has has zs y k p) ]
 
 pub who_has : {Y : Type 0} (has : Y → Type 0) (ys : List Y) → SomeHas has ys → (y : Y) × Contains ys y × has y
@@ -102,7 +87,7 @@ pair_of order gives (y ∷ ys) x rises (inr g) =
 
 pub pair_gives : {X Y : Type 0} (order : Y → Y → Ordering) (gives : Y → Y → X → Type 0) (ys : List Y) (x : X) (a b : Y) → IsTotalOrder order → IsStrictlySortedBy order ys → Contains ys a → Contains ys b → order a b ≡ Less → gives a b x → SomePairGives gives ys x
 unfolding IsStrictlySortedBy
-pair_gives order gives [] x a b total rises in_a in_b before g = absurd (none_in in_a.0 in_a.1)
+pair_gives order gives [] x a b total rises in_a in_b before g = absurd (contains_none a in_a)
 pair_gives {X = X} {Y = Y} order gives (y ∷ ys) x a b total rises in_a in_b before g =
     elim (contains_cases y ys a in_a) [
       | inl e ↦ elim (contains_cases y ys b in_b) [

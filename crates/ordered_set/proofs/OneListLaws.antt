@@ -7,32 +7,8 @@ use Rattle.std.specs.Ordering.{ordering_reverse}
 use Rattle.std.specs.List.Sorted.{IsStrictlySortedBy}
 use Rattle.std.specs.declared.cmp.Ordering.{Ordering}
 use Rattle.std.specs.declared.cmp.Ordering.TheVariants.{Less, Greater}
+use Rattle.or_geom.proofs.ListLaws.{contains_none, contains_cases, contains_first, contains_later, all_contained}
 use Rattle.ordered_set.specs.OneList.{HoldSame}
-
-pub none_in : (k : ℕ) → k < 0 → ⊥
-none_in k lt = omega arith
-
-cases_at : {X : Type 0} (y : X) (ys : List X) (x : X) (k : ℕ) → k < length (y ∷ ys) → slice_index_or (y ∷ ys) k x ≡ x → (x ≡ y) ⊎ Contains ys x
-cases_at y ys x zero lt is = inl (sym is)
-cases_at y ys x (suc k) lt is = inr (k, omega arith, is)
-
--- what a list holds is its first item or stands behind it
-pub contains_cases : {X : Type 0} (y : X) (ys : List X) (x : X) → Contains (y ∷ ys) x → (x ≡ y) ⊎ Contains ys x
-contains_cases y ys x h = cases_at y ys x h.0 h.1 h.2
-
-pub contains_first : {X : Type 0} (y : X) (ys : List X) → Contains (y ∷ ys) y
-contains_first y ys = (0, omega arith, refl)
-
-pub contains_later : {X : Type 0} (y : X) (ys : List X) (x : X) → Contains ys x → Contains (y ∷ ys) x
-contains_later y ys x h = (suc h.0, omega (arith, h.1), h.2)
-
-all_at : {X : Type 0} (P : X → Type 0) (ys : List X) (x : X) (k : ℕ) → AllByRecursion P ys → k < length ys → slice_index_or ys k x ≡ x → P x
-all_at P [] x k all lt is = absurd (none_in k lt)
-all_at P (y ∷ ys) x zero all lt is = subst P is all.0
-all_at P (y ∷ ys) x (suc k) all lt is = all_at P ys x k all.1 (omega arith) is
-
-pub all_contained : {X : Type 0} (P : X → Type 0) (ys : List X) (x : X) → AllByRecursion P ys → Contains ys x → P x
-all_contained P ys x all h = all_at P ys x h.0 all h.1 h.2
 
 -- of two things not each comes before the other
 pub not_both : {X : Type 0} (cmp : X → X → Ordering) → IsTotalOrder cmp → (x y : X) → cmp x y ≡ Less → cmp y x ≡ Less → ⊥
@@ -61,8 +37,8 @@ tail cmp total x y xs ys above e there z h = elim (contains_cases y ys z (there 
 pub one_list : {X : Type 0} (cmp : X → X → Ordering) → IsTotalOrder cmp → (xs ys : List X) → IsStrictlySortedBy cmp xs → IsStrictlySortedBy cmp ys → HoldSame xs ys → xs ≡ ys
 unfolding IsStrictlySortedBy
 one_list cmp total [] [] a b same = refl
-one_list cmp total [] (y ∷ ys) a b same = let h = same.back y (contains_first y ys) in absurd (none_in h.0 h.1)
-one_list cmp total (x ∷ xs) [] a b same = let h = same.there x (contains_first x xs) in absurd (none_in h.0 h.1)
+one_list cmp total [] (y ∷ ys) a b same = absurd (contains_none y (same.back y (contains_first y ys)))
+one_list cmp total (x ∷ xs) [] a b same = absurd (contains_none x (same.there x (contains_first x xs)))
 one_list {X = X} cmp total (x ∷ xs) (y ∷ ys) a b same =
     let e = heads cmp total x y xs ys a.0 b.0 (same.there x (contains_first x xs)) (same.back y (contains_first y ys)) in
     let rest = one_list cmp total xs ys a.1 b.1 (record { there = tail cmp total x y xs ys a.0 e same.there; back = tail cmp total y x ys xs b.0 (sym e) same.back }) in

@@ -3,14 +3,11 @@ use Rattle.std.proofs.Common.{◌≡◌, ◌⊎◌, inl, inr, ℤ, ◌≤ℤ◌,
 use Rattle.std.proofs.lemmas.Int.{ints, clamps, by_lt_z}
 use Rattle.std.specs.Int.{int_max, int_min}
 use Rattle.or_geom.specs.declared.shape.Point.{Point}
+use Rattle.or_geom.proofs.PlaceLaws.{same_point}
 use Rattle.rectilinear.specs.declared.ring.Side.{Side}
 use Rattle.rectilinear.specs.declared.simple.Extent.{Extent}
 use Rattle.rectilinear.specs.Simple.{IsBetween, MeetAtMostThere}
 use Rattle.rectilinear.specs.Extents.{IsExtentOf, IsCommon, IsAtMostPoint}
-
--- what is left of a list's property after its first item, either way
-pub holds_on : (A B All Rest Others : Type 0) → (Rest ↔ All) → A → (Rest → A × Others) → (A × Others → Rest) → (Others ↔ All)
-holds_on A B All Rest Others h a split join = (λ o. h.0 (join (a, o)), λ all. (split (h.1 all)).1)
 
 pub both_at_most : (s t : Side) (e f both : Extent) → IsExtentOf s e → IsExtentOf t f → IsCommon e f both → IsAtMostPoint both s.b → IsAtMostPoint both t.a → MeetAtMostThere s t
 both_at_most s t e f both es ft c a b p on_s on_t = let in_both = c.each p (es.each p on_s) (ft.each p on_t) in (a p in_both, b p in_both)
@@ -25,14 +22,11 @@ empty_x e p lt q h = absurd (omega (arith, ints, h.left, h.right))
 pub empty_y : (e : Extent) (p : Point) → e.high.y <ℤ e.low.y → IsAtMostPoint e p
 empty_y e p lt q h = absurd (omega (arith, ints, h.low, h.high))
 
-pub point_eq : (p q : Point) → p.x ≡ q.x → p.y ≡ q.y → p ≡ q
-point_eq p q e f = λ i. record { x = e i; y = f i }
-
 pub one_point : (e : Extent) (p : Point) → e.low ≡ p → e.high ≡ p → IsAtMostPoint e p
 one_point e p l h q w =
     let lx : e.low.x ≡ p.x = ap (λ (z : Point). z.x) l in let ly : e.low.y ≡ p.y = ap (λ (z : Point). z.y) l in
     let hx : e.high.x ≡ p.x = ap (λ (z : Point). z.x) h in let hy : e.high.y ≡ p.y = ap (λ (z : Point). z.y) h in
-    point_eq q p (omega (arith, ints, w.left, w.right)) (omega (arith, ints, w.low, w.high))
+    same_point q p (omega (arith, ints, w.left, w.right)) (omega (arith, ints, w.low, w.high))
 
 pub is_low : (e : Extent) (p : Point) → e.low.x ≤ℤ e.high.x → e.low.y ≤ℤ e.high.y → IsAtMostPoint e p → e.low ≡ p
 is_low e p wide tall most = most e.low (record { left = omega (arith, ints); right = wide; low = omega (arith, ints); high = tall })

@@ -5,12 +5,13 @@ use borrow.Author.Tests.{leb-true}
 use Rattle.std.proofs.lemmas.Bool.{le-leb}
 use Rattle.std.specs.Int.{int_max, int_min}
 use Rattle.or_geom.specs.declared.shape.Point.{Point}
+use Rattle.or_geom.proofs.PlaceLaws.{same_point}
 use Rattle.rectilinear.specs.declared.ring.Side.{Side}
 use Rattle.rectilinear.specs.declared.simple.Extent.{Extent}
 use Rattle.rectilinear.specs.Ring.{sides_of}
 use Rattle.rectilinear.specs.Simple.{IsStraight, MeetAtMostThere, MeetAsNeighbours, AllMeet, PairsMeet, AllStraight, IsSimple}
 use Rattle.rectilinear.specs.Extents.{IsAtMostPoint}
-use Rattle.rectilinear.proofs.SimpleLaws.{extent_law, common_law, both_at_most, at_most_both, empty_x, empty_y, one_point, is_low, is_high, point_eq}
+use Rattle.rectilinear.proofs.SimpleLaws.{extent_law, common_law, both_at_most, at_most_both, empty_x, empty_y, one_point, is_low, is_high}
 
 -- it holds, or it doesn't
 abbrev Decided : Type 0 → Type 0
@@ -30,28 +31,28 @@ not : (A : Type 0) → Decided A → Decided (A → ⊥)
 not A (inl a) = inr (λ f. f a)
 not A (inr no_a) = inl no_a
 
-same_number : (a b : ℤ) → Decided (a ≡ b)
-same_number a b = by_lt_z a b (λ lt. inr (λ e. omega (arith, ints))) (λ ge. by_lt_z b a (λ lt. inr (λ e. omega (arith, ints))) (λ le. inl (omega (arith, ints))))
+number_decided : (a b : ℤ) → Decided (a ≡ b)
+number_decided a b = by_lt_z a b (λ lt. inr (λ e. omega (arith, ints))) (λ ge. by_lt_z b a (λ lt. inr (λ e. omega (arith, ints))) (λ le. inl (omega (arith, ints))))
 
-same_point : (p q : Point) → Decided (p ≡ q)
-same_point p q = elim (both (p.x ≡ q.x) (p.y ≡ q.y) (same_number p.x q.x) (same_number p.y q.y)) [
-  | inl h ↦ inl (point_eq p q h.0 h.1)
+point_decided : (p q : Point) → Decided (p ≡ q)
+point_decided p q = elim (both (p.x ≡ q.x) (p.y ≡ q.y) (number_decided p.x q.x) (number_decided p.y q.y)) [
+  | inl h ↦ inl (same_point p q h.0 h.1)
   | inr h ↦ inr (λ e. h (ap (λ (z : Point). z.x) e, ap (λ (z : Point). z.y) e))
 ]
 
 straight : (s : Side) → Decided (IsStraight s)
 straight s =
     either ((s.a.x ≡ s.b.x) × (s.a.y ≢ s.b.y)) ((s.a.y ≡ s.b.y) × (s.a.x ≢ s.b.x))
-    (both (s.a.x ≡ s.b.x) (s.a.y ≢ s.b.y) (same_number s.a.x s.b.x) (not (s.a.y ≡ s.b.y) (same_number s.a.y s.b.y)))
-    (both (s.a.y ≡ s.b.y) (s.a.x ≢ s.b.x) (same_number s.a.y s.b.y) (not (s.a.x ≡ s.b.x) (same_number s.a.x s.b.x)))
+    (both (s.a.x ≡ s.b.x) (s.a.y ≢ s.b.y) (number_decided s.a.x s.b.x) (not (s.a.y ≡ s.b.y) (number_decided s.a.y s.b.y)))
+    (both (s.a.y ≡ s.b.y) (s.a.x ≢ s.b.x) (number_decided s.a.y s.b.y) (not (s.a.x ≡ s.b.x) (number_decided s.a.x s.b.x)))
 
 at_most : (e : Extent) (p : Point) → Decided (IsAtMostPoint e p)
 at_most e p =
     by_lt_z e.high.x e.low.x (λ lt. inl (empty_x e p lt)) (λ wide.
     by_lt_z e.high.y e.low.y (λ lt. inl (empty_y e p lt)) (λ tall.
-    elim (same_point e.low p) [
+    elim (point_decided e.low p) [
       | inr off ↦ inr (λ most. off (is_low e p wide tall most))
-      | inl low ↦ elim (same_point e.high p) [
+      | inl low ↦ elim (point_decided e.high p) [
         | inr off ↦ inr (λ most. off (is_high e p wide tall most))
         | inl high ↦ inl (one_point e p low high)
       ]

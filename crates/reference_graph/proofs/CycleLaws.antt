@@ -3,12 +3,6 @@ use Rattle.std.proofs.Common.{◌≡◌, ◌↔◌, ℕ, zero, suc, ◌<◌, Boo
 use Rattle.reference_graph.specs.Reaches.{RefersTo, IsPath, Reaches, ReachesItself, IsMarked, MarksReached, IsReferredTo}
 use Rattle.reference_graph.proofs.PathLaws.{itself_from}
 
--- a marked node has a mark
-pub marked_within : (marks : List Bool) (k : ℕ) → IsMarked marks k → k < length marks
-marked_within [] k m = let no_way : false ≡ true = m in absurd cc
-marked_within (b ∷ marks) zero m = omega arith
-marked_within (b ∷ marks) (suc k) m = let h = marked_within marks k m in omega (arith, h)
-
 -- the last reference of a path that is not empty
 pub record HasLast (graph : List (List ℕ)) (from to : ℕ) : Type 0 where
   pub last : ℕ

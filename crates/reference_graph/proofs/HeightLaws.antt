@@ -8,9 +8,6 @@ use Rattle.reference_graph.specs.Reaches.{RefersTo, IsPath}
 use Rattle.reference_graph.specs.BottomUp.{IsBottomUp}
 use Rattle.reference_graph.specs.Height.{IsHeight, AreHeights, height_above, IsAboveAll}
 
-pub above_none : (heights : List ℕ) → IsAboveAll [] heights 0
-above_none heights = record { most = λ node h. let lt = h.1 in absurd (omega arith); least = inl refl }
-
 above_push : (front heights : List ℕ) (height node : ℕ) → IsAboveAll front heights height → IsAboveAll (front ++ node ∷ []) heights (max height (height_above heights node))
 above_push front heights height node a =
     elim (cases_lt height (height_above heights node)) [

@@ -29,17 +29,6 @@ fewer marks node lt e =
     let h2 = rw e at h in
     omega (arith, h2)
 
-pub spreads_none : (marks : List Bool) (found : List ℕ) → Spreads [] marks found marks found
-spreads_none marks found = record {
-  added = [];
-  grown = sym (append-nil found);
-  from = λ node h. let lt = h.1 in absurd (omega arith);
-  each = λ node h. let lt = h.1 in absurd (omega arith);
-  kept = λ node h. h;
-  only = λ node h. inl h;
-  counted = refl;
-}
-
 -- a reference that is marked already
 spreads_past : (front : List ℕ) (marks : List Bool) (found : List ℕ) (marks' : List Bool) (found' : List ℕ) (node : ℕ)
     → IsMarked marks' node → Spreads front marks found marks' found' → Spreads (front ++ node ∷ []) marks found marks' found'

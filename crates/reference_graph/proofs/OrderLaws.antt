@@ -11,7 +11,7 @@ stands_later : (order : List ℕ) (place later node : ℕ) → place ≤ later �
 stands_later order place later node le s = record { earlier = s.earlier; before = omega (arith, s.before); is = s.is }
 
 -- what a path that is not empty leads to stands before the node that it begins at
-path_back : (graph : List (List ℕ)) (order : List ℕ) → IsBottomUp graph order → (place from next to : ℕ) (rest : List ℕ) → place < length order → from ≡ get_or order place 0
+pub path_back : (graph : List (List ℕ)) (order : List ℕ) → IsBottomUp graph order → (place from next to : ℕ) (rest : List ℕ) → place < length order → from ≡ get_or order place 0
     → IsPath graph from (next ∷ rest) to → StandsBefore order place to
 path_back graph order b place from next to [] lt e leads = subst (StandsBefore order place) (sym leads.1) (b.after place next lt (subst (λ (n : ℕ). RefersTo graph n next) e leads.0))
 path_back graph order b place from next to (more ∷ rest) lt e leads =
@@ -42,22 +42,3 @@ order_closed graph order node to b spot refers =
     let s = b.after spot.0 to spot.1 (subst (λ (n : ℕ). RefersTo graph n to) (sym spot.2 ∙ get_or_default order spot.0 node 0 spot.1) refers) in
     let lt : s.earlier < length order = omega (arith, s.before, spot.1) in
     (s.earlier, lt, get_or_default order s.earlier to 0 lt ∙ s.is)
-
-along_below : (graph : List (List ℕ)) (order : List ℕ) → IsBottomUp graph order → (P : ℕ → Type 0) → ((node : ℕ) → Contains order node → ((to : ℕ) → RefersTo graph node to → P to) → P node)
-    → (n place : ℕ) → place < n → place < length order → P (get_or order place 0)
-along_below graph order b P step zero place below lt = absurd (omega arith)
-along_below graph order b P step (suc n) place below lt =
-    step (get_or order place 0) (Contains-get_or order place 0 lt)
-    (λ to refers. let s = b.after place to lt refers in subst P s.is (along_below graph order b P step n s.earlier (omega (arith, s.before)) (omega (arith, s.before))))
-
--- what holds of each node of the order whenever it holds of all that the node refers to, holds of all of them
-pub along_order : (graph : List (List ℕ)) (order : List ℕ) → IsBottomUp graph order → (P : ℕ → Type 0) → ((node : ℕ) → Contains order node → ((to : ℕ) → RefersTo graph node to → P to) → P node)
-    → (node : ℕ) → Contains order node → P node
-along_order graph order b P step node spot =
-    subst P (get_or_default order spot.0 0 node spot.1 ∙ spot.2) (along_below graph order b P step (suc spot.0) spot.0 (omega arith) spot.1)
-
--- what holds of each reached node whenever it holds of all that the node refers to, holds of all that is reached
-pub along_reached : (graph : List (List ℕ)) (start : ℕ) (order : List ℕ) → IsOrder graph start order → (P : ℕ → Type 0) → ((node : ℕ) → Reaches graph start node → ((to : ℕ) → RefersTo graph node to → P to) → P node)
-    → (node : ℕ) → Reaches graph start node → P node
-along_reached graph start order o P step node reached =
-    along_order graph order o.bottom_up P (λ k spot below. step k ((o.exact k).0 spot) below) node ((o.exact node).1 reached)

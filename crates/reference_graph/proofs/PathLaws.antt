@@ -15,6 +15,14 @@ path_push graph from node to (next ∷ rest) leads refers = (leads.0, path_push 
 pub reaches_on : (graph : List (List ℕ)) (from node to : ℕ) → Reaches graph from node → RefersTo graph node to → Reaches graph from to
 reaches_on graph from node to r refers = record { path = r.path ++ to ∷ []; leads = path_push graph from node to r.path r.leads refers }
 
+reaches_along : (graph : List (List ℕ)) (from node to : ℕ) (path : List ℕ) → Reaches graph from node → IsPath graph node path to → Reaches graph from to
+reaches_along graph from node to [] r leads = subst (Reaches graph from) (sym leads) r
+reaches_along graph from node to (next ∷ rest) r leads = reaches_along graph from next to rest (reaches_on graph from node next r leads.0) leads.1
+
+-- and so is what is reached from there
+pub reaches_over : (graph : List (List ℕ)) (from node to : ℕ) → Reaches graph from node → Reaches graph node to → Reaches graph from to
+reaches_over graph from node to r s = reaches_along graph from node to s.path r s.leads
+
 -- each node reaches itself by the empty path, in the wide sense
 pub reaches_start : (graph : List (List ℕ)) (from to : ℕ) → to ≡ from → Reaches graph from to
 reaches_start graph from to e = record { path = []; leads = e }
@@ -30,14 +38,6 @@ reaches_within graph from to within lt r = path_within graph from to r.path with
 -- each reference of a node is below the number of nodes
 pub all_within : (graph : List (List ℕ)) (node : ℕ) (references : List ℕ) → AreWithin graph → references ≡ get_or graph node [] → All (λ to. to < length graph) references
 all_within graph node references within e = λ k d h. within node (get_or references k d) (subst (λ (xs : List ℕ). Contains xs (get_or references k d)) e (Contains-get_or references k d h))
-
--- references are within where each list of references is
-pub within_from_all : (graph : List (List ℕ)) → ((node : ℕ) (d : List ℕ) → node < length graph → All (λ to. to < length graph) (get_or graph node d)) → AreWithin graph
-within_from_all graph all node to refers =
-    elim (cases_lt node (length graph)) [
-      | inl lt ↦ All-contains (λ (n : ℕ). n < length graph) (get_or graph node []) to (all node [] lt) refers
-      | inr ge ↦ let none = rw (get_or_past graph node [] ge) at refers in let lt : none.0 < 0 = none.1 in absurd (omega arith)
-    ]
 
 itself_by : (graph : List (List ℕ)) (node last : ℕ) (path : List ℕ) → IsPath graph node path last → RefersTo graph last node → ReachesItself graph node
 itself_by graph node last [] leads refers = record { next = node; rest = []; leads = (subst (λ (n : ℕ). RefersTo graph n node) leads refers, refl) }

@@ -242,12 +242,6 @@ enter_lighter graph stages to n =
     let h2 = rw (unseen_from (get_or stages to Unseen) n.not_open n.not_placed) at h in
     omega (arith, h2)
 
-pub place_lighter : (stages : List Stage) (node : ℕ) → node < length stages → IsOpen stages node → sum_by weight (set stages node Placed) < sum_by weight stages
-place_lighter stages node lt o =
-    let h = sum_by-set weight stages node Placed Unseen lt in
-    let h2 = rw o at h in
-    omega (arith, h2)
-
 -- the node is one that the search has not seen, as the reference at a place names it
 pub next_entered : (graph : List (List ℕ)) (node : ℕ) (stages stages' : List Stage) (references : List ℕ) (place : ℕ) → AreWithin graph → references ≡ get_or graph node [] → length stages ≡ length graph → stages' ≡ stages
     → IsNext stages' references place → (IsOpen stages (get_or references place 0) → ⊥) → IsEntered graph stages (get_or references place 0)
@@ -264,10 +258,6 @@ next_refers graph node references place e lt = subst (λ (xs : List ℕ). Contai
 pub placed_read : (graph : List (List ℕ)) (node : ℕ) (stages stages' : List Stage) (references : List ℕ) (place : ℕ) → references ≡ get_or graph node [] → stages' ≡ stages → ArePlaced stages' references place → ArePlaced stages (get_or graph node []) place
 placed_read graph node stages stages' references place e same h =
     subst (λ (xs : List ℕ). ArePlaced stages xs place) e (subst (λ (ss : List Stage). ArePlaced ss references place) same h)
-
--- the trail in its vector, whose last visit is the uppermost
-pub reverse_push : (vs : List Visit) (v : Visit) → reverse (vs ++ v ∷ []) ≡ v ∷ reverse vs
-reverse_push vs v = reverse-append vs (v ∷ [])
 
 pub all_read : (graph : List (List ℕ)) (node : ℕ) (stages stages' : List Stage) (references : List ℕ) → references ≡ get_or graph node [] → stages' ≡ stages → ArePlaced stages' references (length references)
     → ArePlaced stages (get_or graph node []) (length (get_or graph node []))

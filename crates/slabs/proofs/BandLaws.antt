@@ -8,13 +8,14 @@ use Rattle.or_geom.specs.declared.shape.Point.{Point}
 use Rattle.slabs.specs.declared.ends.End.{End}
 use Rattle.rectilinear.specs.declared.ring.Side.{Side}
 use Rattle.or_geom.specs.declared.shape.Rect.{Rect}
+use Rattle.or_geom.proofs.ListLaws.{contains_none}
 use Rattle.rectilinear.specs.Ring.{sides_of}
 use Rattle.slabs.specs.Slabs.{is_odd_left, HasHeight, AreNeighbours, IsSlab, AreDistinct, IsSlabList}
 use Rattle.slabs.specs.Rows.{is_odd_to, AreEnds, ArePairs, IsStretch, is_odd, is_odd_passed}
 use Rattle.slabs.specs.Heights.{IsNext, AreSlabsFrom}
 use Rattle.slabs.proofs.RingLaws.{row_is_uniform, ring_is_closed}
 use Rattle.slabs.proofs.RowLaws.{stretches_are_pairs, pairs_distinct, true_not_false}
-use Rattle.slabs.proofs.MemberLaws.{member_none, distinct_append}
+use Rattle.slabs.proofs.MemberLaws.{distinct_append}
 
 same_high : (corners : List Point) (low high high2 : ℤ) → AreNeighbours corners low high → AreNeighbours corners low high2 → high2 ≡ high
 same_high corners low high high2 a b =
@@ -61,9 +62,9 @@ band_slabs corners low high ends rects has next are pairs =
 
 pub top_slabs : (corners : List Point) (low : ℤ) → ((h : ℤ) → HasHeight corners h → h ≤ℤ low) → AreSlabsFrom corners low []
 top_slabs corners low none = record {
-  only = λ r one. member_none r one;
+  only = λ r one. absurd (contains_none r one);
   each = λ r slab at. let near = slab.heights in let high = none r.y2 near.has_high in let below = near.below in absurd (omega (arith, ints, high, below, at));
-  level = λ r one. member_none r one;
+  level = λ r one. absurd (contains_none r one);
   distinct = tt;
 }
 
@@ -77,15 +78,6 @@ pub record AreSlabsBut (corners rest : List Point) (rects : List Rect) : Type 0 
 
 pub first_height : (corners rest others : List Point) (p : Point) (rects : List Rect) (low : ℤ) → rest ≡ p ∷ others → low ≡ p.y → AreSlabsBut corners rest rects → HasHeight corners low
 first_height corners rest others p rects low e at but = but.inside low (subst (λ (ps : List Point). HasHeight ps low) (sym e) (inl at))
-
-pub none_yet : (corners : List Point) → AreSlabsBut corners corners []
-none_yet corners = record {
-  only = λ r one. member_none r one;
-  each = λ r slab. let near = slab.heights in inl near.has_low;
-  inside = λ h has. has;
-  done = λ r one has. member_none r one;
-  distinct = tt;
-}
 
 pub slabs_more : (corners rest others : List Point) (p : Point) (low : ℤ) (old new : List Rect) → rest ≡ p ∷ others → low ≡ p.y → (HasHeight others low → ⊥) → ((added : List Rect) × (new ≡ old ++ added) × AreSlabsFrom corners low added)
     → AreSlabsBut corners rest old → AreSlabsBut corners others new

@@ -7,10 +7,11 @@ use Rattle.slabs.specs.declared.ends.End.{End}
 use Rattle.rectilinear.specs.declared.ring.Side.{Side}
 use Rattle.or_geom.specs.declared.shape.Rect.{Rect}
 use Rattle.or_geom.specs.Covered.{HasCell, HasCellInSome}
+use Rattle.or_geom.proofs.ListLaws.{contains_none, contains_cases, contains_first, contains_later}
+use Rattle.or_geom.proofs.CoverLaws.{cell_among}
 use Rattle.rectilinear.specs.Ring.{sides_on, sides_of}
 use Rattle.slabs.specs.Slabs.{xor, is_below, passes, is_odd_left, IsInside, HasHeight, AreNeighbours, IsSlab, IsSlabList}
 use Rattle.slabs.specs.Laws.{SlabsFill}
-use Rattle.slabs.proofs.MemberLaws.{member_none, member_cases, member_here, member_later}
 use Rattle.slabs.specs.Rows.{is_odd_to, is_odd, Rise, AreEnds, ArePairs}
 use Rattle.slabs.proofs.RingLaws.{ring_is_closed, row_is_uniform, xor_same}
 use Rattle.slabs.proofs.RowLaws.{past_pair, before_pair, rises, true_not_false, at_or_left, not_left}
@@ -53,9 +54,9 @@ pair_at (a ∷ b ∷ es) low high (r ∷ rs) x rise pairs odd =
     by_lt_z x b.x
     (λ under. by_lt_z x a.x
     (λ before. true_not_false _ odd (before_pair a b es x rise.0 rise.1 before))
-    (λ ge. record { box = r; one = member_here r rs r refl; left = omega (arith, ints, pairs.0.0); right = omega (arith, ints, pairs.0.1); low_is = pairs.0.2; high_is = pairs.0.3 }))
+    (λ ge. record { box = r; one = contains_first r rs; left = omega (arith, ints, pairs.0.0); right = omega (arith, ints, pairs.0.1); low_is = pairs.0.2; high_is = pairs.0.3 }))
     (λ past. let more = pair_at es low high rs x (rises b.x es rise.1) pairs.1 (sym (past_pair a b es x rise.0 past) ∙ odd) in
-    record { box = more.box; one = member_later r rs more.box more.one; left = more.left; right = more.right; low_is = more.low_is; high_is = more.high_is })
+    record { box = more.box; one = contains_later r rs more.box more.one; left = more.left; right = more.right; low_is = more.low_is; high_is = more.high_is })
 
 record IsGreatest (ps : List Point) (y l : ℤ) : Type 0 where
   pub has : HasHeight ps l
@@ -111,19 +112,12 @@ none_pass p (q ∷ qs) last x y b e all f =
 
 slabs_fill_each : (corners : List Point) (rects : List Rect) (x y : ℤ) → ((r : Rect) → Contains rects r → IsSlab corners r) → HasCellInSome rects x y → IsInside corners x y
 slabs_fill_each corners [] x y are has = absurd has
-slabs_fill_each corners (r ∷ rs) x y are (inl here) = (are r (member_here r rs r refl)).inside x y here
-slabs_fill_each corners (r ∷ rs) x y are (inr there) = slabs_fill_each corners rs x y (λ s one. are s (member_later r rs s one)) there
+slabs_fill_each corners (r ∷ rs) x y are (inl here) = (are r (contains_first r rs)).inside x y here
+slabs_fill_each corners (r ∷ rs) x y are (inr there) = slabs_fill_each corners rs x y (λ s one. are s (contains_later r rs s one)) there
 
 ring_none : (corners : List Point) (x y : ℤ) (b : Bool) → ((h : ℤ) → HasHeight corners h → int_le h y ≡ b) → is_odd_left (sides_of corners) x y ≡ false
 ring_none [] x y b all = refl
 ring_none (p ∷ ps) x y b all = none_pass p ps p x y b (all p.y (inl refl)) (λ h has. all h (inr has)) (all p.y (inl refl))
-
-has_cell : (rects : List Rect) (r : Rect) (x y : ℤ) → Contains rects r → HasCell r x y → HasCellInSome rects x y
-has_cell [] r x y one h = member_none r one
-has_cell (s ∷ rs) r x y one h = elim (member_cases s rs r one) [
-  | inl e ↦ inl (subst (λ (t : Rect). HasCell t x y) e h)
-  | inr more ↦ inr (has_cell rs r x y more h)
-]
 
 in_slab : (corners : List Point) (rects : List Rect) (x y l u : ℤ) → IsSlabList corners rects → IsGreatest corners y l → IsLeast corners y u → IsInside corners x y → HasCellInSome rects x y
 in_slab corners rects x y l u are g m odd =
@@ -133,7 +127,7 @@ in_slab corners rects x y l u are g m odd =
     let pairs = pairs_some es.0 l u near.below e.rise (e.even ∙ ring_is_closed corners l) in
     let at = pair_at es.0 l u pairs.0 x e.rise pairs.1 (e.same x ∙ sym (row_is_uniform corners l u x y near g.le m.lt) ∙ odd) in
     let slab = (band_slabs corners l u es.0 pairs.0 g.has (record { has = m.has; above = near.below; none = near.none }) e pairs.1).only at.box at.one in
-    has_cell rects at.box x y ((are.exact at.box).1 slab) (record { left = at.left; right = at.right; low = omega (arith, ints, at.low_is, g.le); high = omega (arith, ints, at.high_is, m.lt) })
+    cell_among rects at.box x y ((are.exact at.box).1 slab) (record { left = at.left; right = at.right; low = omega (arith, ints, at.low_is, g.le); high = omega (arith, ints, at.high_is, m.lt) })
 
 in_some_slab : (corners : List Point) (rects : List Rect) (x y : ℤ) → IsSlabList corners rects → IsInside corners x y → HasCellInSome rects x y
 in_some_slab corners rects x y are odd = elim (greatest corners y) [

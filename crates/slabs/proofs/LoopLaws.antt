@@ -75,10 +75,6 @@ pairs_all ends low high old new but = (but.added, but.appended, subst (λ (xs : 
     append_nil [] = refl
     append_nil (x ∷ xs) = ap (λ (ys : List Rect). x ∷ ys) (append_nil xs)
 
-pub pair_rise : (ends rest others after : List End) (a b : End) (low high : ℤ) (old new : List Rect) → rest ≡ a ∷ others → others ≡ b ∷ after → ArePairsBut ends rest low high old new → a.x <ℤ b.x
-pair_rise ends rest others after a b low high old new e f but =
-    let rise : Rise (a ∷ b ∷ after) = subst (λ (es : List End). Rise es) (e ∙ ap (λ (es : List End). a ∷ es) f) but.rise in rise.0
-
 pub pairs_more : (ends rest others after : List End) (a b : End) (low high : ℤ) (old now new : List Rect) (r : Rect) → rest ≡ a ∷ others → others ≡ b ∷ after
     → (r.x1 ≡ a.x) × (r.x2 ≡ b.x) × (r.y1 ≡ low) × (r.y2 ≡ high) → new ≡ now ++ r ∷ [] → ArePairsBut ends rest low high old now → ArePairsBut ends after low high old new
 pairs_more ends rest others after a b low high old now new r e f box push but =
@@ -93,9 +89,6 @@ pairs_more ends rest others after a b low high old now new r e f box push but =
           (but.completes (r ∷ more) (subst (λ (es : List End). ArePairs es low high (r ∷ more)) (sym is) (box, pairs)));
     }
 
-pub pairs_odd : (ends rest : List End) (a : End) (low high : ℤ) (old new : List Rect) → rest ≡ a ∷ [] → ArePairsBut ends rest low high old new → ⊥
-pairs_odd ends rest a low high old new e but = let odd : true ≡ false = subst (λ (es : List End). is_odd es ≡ false) e but.even in absurd cc
-
 -- the least height so far
 abbrev pub IsFound : List Point → ℤ → Option Height → Type 0
 IsFound corners low None = Unit {0}
@@ -105,30 +98,3 @@ pub record IsNextBut (corners rest : List Point) (low : ℤ) (next : Option Heig
   pub found : IsFound corners low next
   pub inside : (h : ℤ) → HasHeight rest h → HasHeight corners h
   pub each : (h : ℤ) → HasHeight corners h → low <ℤ h → HasHeight rest h ⊎ IsAtMost next h
-
-pub next_none : (corners : List Point) (low : ℤ) → IsNextBut corners corners low None
-next_none corners low = record { found = tt; inside = λ h has. has; each = λ h has lt. inl has }
-
-found_more : (corners : List Point) (p : Point) (low : Height) (next new : Option Height) → HasHeight corners p.y → IsFrom next p low new → IsFound corners low.y next → IsFound corners low.y new
-found_more corners p low next None has from found = tt
-found_more corners p low next (Some n) has (inl e) found = subst (λ (o : Option Height). IsFound corners low.y o) e found
-found_more corners p low next (Some n) has (inr at) found = (subst (λ (h : ℤ). HasHeight corners h) (sym at.0) has, subst (λ (h : ℤ). low.y <ℤ h) (sym at.0) at.1)
-
-pub next_more : (corners rest others : List Point) (p : Point) (low : Height) (next new : Option Height) → rest ≡ p ∷ others → IsNearer next p low new → IsNextBut corners rest low.y next → IsNextBut corners others low.y new
-next_more corners rest others p low next new e near but =
-    let b = subst (λ (ps : List Point). IsNextBut corners ps low.y next) e but in
-    record {
-      found = found_more corners p low next new (b.inside p.y (inl refl)) near.from b.found;
-      inside = λ h has. b.inside h (inr has);
-      each = λ h has lt. elim (b.each h has lt) [
-        | inl left ↦ elim left [
-          | inl at ↦ inr (subst (λ (z : ℤ). IsAtMost new z) (sym at) (near.took (subst (λ (z : ℤ). low.y <ℤ z) at lt)))
-          | inr later ↦ inl later
-        ]
-        | inr most ↦ inr (near.kept h most)
-      ];
-    }
-
-pub next_all : (corners : List Point) (low : ℤ) (next : Option Height) → IsNextBut corners [] low next → MatchOption next ((h : ℤ) → HasHeight corners h → h ≤ℤ low) (λ high. IsNext corners low high.y)
-next_all corners low None but = λ h has. by_lt_z low h (λ lt. absurd (elim (but.each h has lt) [ inl a ↦ a | inr b ↦ b ])) (λ ge. ge)
-next_all corners low (Some n) but = record { has = but.found.0; above = but.found.1; none = λ h has lt. elim (but.each h has lt) [ inl a ↦ absurd a | inr b ↦ b ] }

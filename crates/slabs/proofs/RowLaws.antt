@@ -5,11 +5,10 @@ use Rattle.slabs.specs.Slabs.{xor}
 use Rattle.std.proofs.lemmas.Int.{ints, by_lt_z}
 use Rattle.slabs.specs.declared.ends.End.{End}
 use Rattle.or_geom.specs.declared.shape.Rect.{Rect}
+use Rattle.or_geom.proofs.ListLaws.{contains_none, contains_cases, contains_here, contains_later}
+use Rattle.or_geom.proofs.PlaceLaws.{same_rect}
 use Rattle.slabs.specs.Rows.{is_odd_to, RiseAbove, Rise, ArePairs, IsStretch}
-use mathlib.Core.HLevel.{is_prop→PathP}
-use lib.Dec.{T_prop}
 use Rattle.slabs.specs.Slabs.{AreDistinct}
-use Rattle.slabs.proofs.MemberLaws.{member_none, member_cases, member_here, member_later}
 
 pub at_or_left : (h x : ℤ) → h ≤ℤ x → int_le h x ≡ true
 at_or_left h x le = grind (arith, ints)
@@ -70,27 +69,14 @@ stretch_later a b es low high r ab rise s =
     }
 
 are_stretches : (es : List End) (low high : ℤ) (rects : List Rect) → Rise es → ArePairs es low high rects → (r : Rect) → Contains rects r → IsStretch es low high r
-are_stretches [] low high [] rise pairs r one = member_none r one
+are_stretches [] low high [] rise pairs r one = absurd (contains_none r one)
 are_stretches [] low high (s ∷ rs) rise pairs r one = absurd pairs
 are_stretches (a ∷ []) low high rs rise pairs r one = absurd pairs
 are_stretches (a ∷ b ∷ es) low high [] rise pairs r one = absurd pairs
-are_stretches (a ∷ b ∷ es) low high (s ∷ rs) rise pairs r one = elim (member_cases s rs r one) [
+are_stretches (a ∷ b ∷ es) low high (s ∷ rs) rise pairs r one = elim (contains_cases s rs r one) [
   | inl e ↦ subst (λ (t : Rect). IsStretch (a ∷ b ∷ es) low high t) (sym e) (stretch_here a b es low high s rise.0 rise.1 pairs.0.0 pairs.0.1 pairs.0.2 pairs.0.3)
   | inr more ↦ stretch_later a b es low high r rise.0 rise.1 (are_stretches es low high rs (rises b.x es rise.1) pairs.1 r more)
 ]
-
-below_prop : (a b : ℤ) → IsProp (a <ℤ b)
-below_prop a b = hlevel T_prop
-
-pub rect_eq : (r s : Rect) → r.x1 ≡ s.x1 → r.x2 ≡ s.x2 → r.y1 ≡ s.y1 → r.y2 ≡ s.y2 → r ≡ s
-rect_eq r s e1 e2 e3 e4 = λ i. record {
-  x1 = e1 i;
-  y1 = e3 i;
-  x2 = e2 i;
-  y2 = e4 i;
-  wide = is_prop→PathP (λ j. e1 j <ℤ e2 j) (λ j. below_prop (e1 j) (e2 j)) r.wide s.wide i;
-  tall = is_prop→PathP (λ j. e3 j <ℤ e4 j) (λ j. below_prop (e3 j) (e4 j)) r.tall s.tall i;
-}
 
 is_first : (a b : End) (es : List End) (low high : ℤ) (r : Rect) → a.x <ℤ b.x → RiseAbove b.x es → IsStretch (a ∷ b ∷ es) low high r → r.x1 <ℤ b.x → (r.x1 ≡ a.x) × (r.x2 ≡ b.x)
 is_first a b es low high r ab rise s lt =
@@ -122,8 +108,8 @@ all_stretches (a ∷ b ∷ es) low high [] rise pairs r s = absurd pairs
 all_stretches (a ∷ b ∷ es) low high (t ∷ rs) rise pairs r s =
     by_lt_z r.x1 b.x
     (λ lt. let is = is_first a b es low high r rise.0 rise.1 s lt in
-    member_here t rs r (rect_eq r t (is.0 ∙ sym pairs.0.0) (is.1 ∙ sym pairs.0.1) (s.low_is ∙ sym pairs.0.2) (s.high_is ∙ sym pairs.0.3)))
-    (λ ge. member_later t rs r (all_stretches es low high rs (rises b.x es rise.1) pairs.1 r (is_later a b es low high r rise.0 rise.1 s ge)))
+    contains_here t rs r (same_rect r t (is.0 ∙ sym pairs.0.0) (s.low_is ∙ sym pairs.0.2) (is.1 ∙ sym pairs.0.1) (s.high_is ∙ sym pairs.0.3)))
+    (λ ge. contains_later t rs r (all_stretches es low high rs (rises b.x es rise.1) pairs.1 r (is_later a b es low high r rise.0 rise.1 s ge)))
 
 -- pairs of rising ends are the maximal stretches
 pub stretches_are_pairs : (es : List End) (low high : ℤ) (rects : List Rect) → Rise es → ArePairs es low high rects → (r : Rect) → (Contains rects r → IsStretch es low high r) × (IsStretch es low high r → Contains rects r)

@@ -3,6 +3,7 @@ use Rattle.std.proofs.Common.{◌≡◌, ℕ, ◌<◌, List, [], ◌∷◌, ◌+
 use Rattle.std.proofs.lemmas.Bool.{false≢true}
 use Rattle.std.proofs.lemmas.List.{length-map}
 use Rattle.std.specs.Prelude.{IsSome, MatchOption, Contains}
+use Rattle.or_geom.proofs.ListLaws.{none_is}
 use denote.Ref.{Bor}
 use Rattle.spice_netlist.specs.declared.block.Block.{Block}
 use Rattle.spice_netlist.specs.declared.block.Part.{Part}
@@ -47,10 +48,6 @@ first_some : (f : List ℕ → List ℕ) (o later : Option (List ℕ)) → IsSom
 first_some f None later is = absurd (false≢true is)
 first_some f (Some path) later is = refl
 
-none_is : (o : Option (List ℕ)) → is_some o ≡ false → o ≡ None
-none_is None is = refl
-none_is (Some path) is = absurd (false≢true (sym is))
-
 pub still_some : (f : List ℕ → List ℕ) (o : Option (List ℕ)) → IsSome o → IsSome (option_map f o)
 still_some f None is = absurd (false≢true is)
 still_some f (Some path) is = refl
@@ -76,7 +73,7 @@ module _ (blocks : List Block) (f : ℕ → List Visit) (p : Part) (ps : List Pa
   bad_inside k some good is = bad_good k some good (first_bad blocks (f k)) refl ∙ first_some (path_above p) (first_bad blocks (f k)) (first_bad blocks (visits_by blocks f ps)) is
 
   pub bad_later : (k : ℕ) → p.place ≡ Some k → nat_eq (length p.nodes) (length (ports_at blocks k)) ≡ true → is_some (first_bad blocks (f k)) ≡ false → first_bad blocks (visits_by blocks f (p ∷ ps)) ≡ first_bad blocks (visits_by blocks f ps)
-  bad_later k some good is = bad_good k some good None (none_is (first_bad blocks (f k)) is)
+  bad_later k some good is = bad_good k some good None (none_is (first_bad blocks (f k)) (sym is))
 
 -- whether a part was found says whether there is a bad instance
 pub mark_is : (blocks : List Block) (parts : List Part) (found : Option BadPart) → MatchOption found (bad_in blocks parts ≡ None) (IsBadPart blocks parts) → is_some found ≡ is_some (bad_in blocks parts)

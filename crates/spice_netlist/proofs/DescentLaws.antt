@@ -4,6 +4,7 @@ use Rattle.std.specs.Prelude.{Contains}
 use Rattle.std.specs.List.{cons_option}
 use Rattle.std.proofs.lemmas.Bool.Decides.{nat_tests}
 use Rattle.std.proofs.lemmas.List.{append-nil, length-append, length-map, length-take-le, take_all, take-append-le}
+use Rattle.or_geom.proofs.ListLaws.{contains_first, contains_option}
 use Rattle.reference_graph.specs.Reaches.{Reaches}
 use Rattle.reference_graph.proofs.PathLaws.{reaches_on, reaches_start}
 use Rattle.spice_netlist.specs.declared.block.Block.{Block}
@@ -20,8 +21,7 @@ use Rattle.spice_netlist.specs.Pins.{NamedPin, pins_in, pins_of, pin_row}
 use Rattle.spice_netlist.specs.Frames.{text_of, AreNear, View, seen_net, seen_visit, view_of}
 use Rattle.spice_netlist.specs.Descent.{IsWalkable}
 use Rattle.spice_netlist.specs.Rows.{Adds, net_count}
-use Rattle.spice_netlist.proofs.WalkLaws.{refers_places, later_option}
-use Rattle.spice_netlist.proofs.ListLaws.{contains_first}
+use Rattle.spice_netlist.proofs.WalkLaws.{refers_places}
 use Rattle.spice_netlist.proofs.ViewLaws.{view_in, IsInView, seen_rows, own_rows, rows_absent, rows_there, rows_bare}
 use Rattle.spice_netlist.proofs.FrameLaws.{take_again, front_same, near_more, texts_same, view_same, view_keeps}
 use Rattle.spice_netlist.proofs.RowLaws.{adds_none, adds_then}
@@ -220,7 +220,7 @@ module _ (blocks : List Block) (top : ℕ) (old : RowList) (walkable : IsWalkabl
       record {
         within = omega arith;
         near = subst (AreNear f'.way) (sym nets_is) (subst (λ (w : ℕ). AreNear w f.nets.items) (sym way_is) u.nested.0.near);
-        reached = λ k c. u.nested.0.reached k (subst (λ (ps : List Part). Contains (places ps) k) (sym first) (later_option p.place (places f'.parts.now) k c));
+        reached = λ k c. u.nested.0.reached k (subst (λ (ps : List Part). Contains (places ps) k) (sym first) (contains_option p.place (places f'.parts.now) k c));
         good = good;
         plain = plain_here;
       },

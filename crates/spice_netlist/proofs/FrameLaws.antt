@@ -43,7 +43,3 @@ view_same path path' net net' f p n near = λ i. record { path = p i; inside = n
 -- a frame with other parts sees the same
 pub view_keeps : (path net : List ℕ) (f f' : Frame) → f'.places.now ≡ f.places.now → f'.nets.items ≡ f.nets.items → f'.way ≡ f.way → view_of path net f' ≡ view_of path net f
 view_keeps path net f f' p n w = λ i. record { path = take (w i) path; inside = take (w i) net; find = found (p i); nets = map (text_of net) (n i) }
-
--- the frame that was put behind the others is the innermost
-pub reverse_push : (fs : List Frame) (f : Frame) → reverse (fs ++ f ∷ []) ≡ f ∷ reverse fs
-reverse_push fs f = reverse-append fs (f ∷ [])

@@ -1,6 +1,7 @@
 -- The rows of an instance of a leaf, one row more.
 use Rattle.std.proofs.Common.{◌≡◌, ℕ, ◌+◌, ◌<◌, List, [], ◌∷◌, ◌++◌, length, map, get_or, drop, Bool, true, cond, refl, sym, ap, ◌∙◌, append_assoc}
 use Rattle.std.proofs.lemmas.List.{length-append, length-map}
+use Rattle.or_geom.proofs.ListLaws.{rest_at}
 use Rattle.spice_netlist.specs.declared.block.Block.{Block}
 use Rattle.spice_netlist.specs.declared.frame.Net.{Net}
 use Rattle.spice_netlist.specs.declared.rows.RowList.{RowList}
@@ -8,7 +9,6 @@ use Rattle.spice_netlist.specs.Resolved.{name_at, ports_at, leaf_at}
 use Rattle.spice_netlist.specs.Pins.{NamedPin, pins_from, pins_in, pin_row}
 use Rattle.spice_netlist.specs.Frames.{text_of, leaf_rows}
 use Rattle.spice_netlist.specs.Rows.{Adds}
-use Rattle.spice_netlist.proofs.ListLaws.{rest_at}
 use Rattle.spice_netlist.proofs.PinLaws.{length_from}
 use Rattle.spice_netlist.proofs.RowLaws.{adds_then}
 

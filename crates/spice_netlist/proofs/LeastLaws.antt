@@ -41,9 +41,6 @@ self_least a b e h =
     let back : compare a a ≡ Less = nat_list_cmp_total.antisymm a a ∙ ap ordering_reverse same in
     absurd cc
 
-pub no_least : (P : List ℕ → Type 0) → ((name : List ℕ) → P name → ⊥) → IsLeastOf P None
-no_least P none = none
-
 module _ (P Q : List ℕ → Type 0) (name : List ℕ) (q : Q name) (low : (other : List ℕ) → Q other → compare name other ≡ Greater → ⊥) where
   better : (best : List ℕ) (b : Bool) → is_gt (compare best name) ≡ b → IsLeast P best → IsLeast (λ n. P n ⊎ Q n) (cond b name best)
   better best true is l = record {

@@ -4,13 +4,14 @@ use Rattle.std.specs.Prelude.{is_some}
 use Rattle.std.proofs.lemmas.List.{get_or_past}
 use Rattle.std.proofs.lemmas.Bool.{cases_lt}
 use Rattle.std.proofs.lemmas.List.Elements.{Contains-push, Contains-push_cases, Contains-append_left}
+use Rattle.or_geom.proofs.ListLaws.{contains_none, none_is}
 use Rattle.reference_graph.specs.Reaches.{IsMarked, MarksReached, ReachesItself}
 use Rattle.spice_netlist.specs.declared.block.Block.{Block}
 use Rattle.spice_netlist.specs.declared.block.Part.{Part}
 use Rattle.spice_netlist.specs.Least.{IsLeast, IsLeastOf, IsMissingIn, lesser_of}
 use Rattle.spice_netlist.specs.Resolved.{parts_at, name_at, graph}
 use Rattle.spice_netlist.specs.Faults.{IsUnknown, IsCyclic}
-use Rattle.spice_netlist.proofs.ListLaws.{contains_none, front_at}
+use Rattle.spice_netlist.proofs.ListLaws.{front_at}
 use Rattle.spice_netlist.proofs.LeastLaws.{IsBelow, least_of_as, least_with, self_least}
 
 pub missing_none : IsLeastOf (IsMissingIn []) None
@@ -76,10 +77,6 @@ marked_inside marks place h = elim (cases_lt place (length marks)) [
 pub some_is : (o : Option ℕ) → true ≡ is_some o → o ≡ None → ⊥
 some_is None h e = absurd cc
 some_is (Some n) h e = absurd cc
-
-pub none_is : (o : Option ℕ) → false ≡ is_some o → o ≡ None
-none_is None h = refl
-none_is (Some n) h = absurd cc
 
 pub missing_at_none : (blocks : List Block) (marks : List Bool) (place : ℕ) (parts : List Part) (found : Option (List ℕ)) → parts ≡ parts_at blocks place → IsLeastOf (IsMissingIn parts) found → found ≡ None
     → (name : List ℕ) → IsMissingAt blocks marks place name → ⊥

@@ -4,10 +4,9 @@ use Rattle.std.specs.List.{cons_option}
 use Rattle.std.proofs.lemmas.List.{take_more, append-nil}
 use Rattle.std.proofs.lemmas.List.Elements.{filter_map-append}
 use Rattle.std.specs.Prelude.{Contains}
+use Rattle.or_geom.proofs.ListLaws.{contains_first, contains_option}
 use Rattle.spice_netlist.specs.declared.block.Part.{Part}
 use Rattle.spice_netlist.specs.Resolved.{places}
-use Rattle.spice_netlist.proofs.ListLaws.{contains_first}
-use Rattle.spice_netlist.proofs.WalkLaws.{later_option}
 
 pub places_more : (parts : List Part) (i : ℕ) (part : Part) → i < length parts → part ≡ get_or parts i part → places (take (i + 1) parts) ≡ places (take i parts) ++ cons_option part.place []
 places_more parts i part lt is =
@@ -27,4 +26,4 @@ listed [] i part place lt is some = absurd (omega arith)
 listed (p ∷ ps) zero part place lt is some =
     let here : p.place ≡ Some place = sym (ap (λ (q : Part). q.place) is) ∙ some in
     subst (λ (o : Option ℕ). Contains (cons_option o (places ps)) place) (sym here) (contains_first place (places ps))
-listed (p ∷ ps) (suc i) part place lt is some = later_option p.place (places ps) place (listed ps i part place (omega arith) is some)
+listed (p ∷ ps) (suc i) part place lt is some = contains_option p.place (places ps) place (listed ps i part place (omega arith) is some)

@@ -12,9 +12,6 @@ pub same_self : (x : List ℕ) → same x x ≡ true
 same_self x = nat_list_eq_equiv.refl x
 
 module _ {K : Type 0} (text : K → List ℕ) (name : List ℕ) (k : K) (v : ℕ) where
-  looks : K → Bool
-  looks key = same name (text key)
-
   present : (b : Bool) → same name (text k) ≡ b → (e : K) (w : ℕ) (rest : Option ℕ) → same (text k) (text e) ≡ true → cond (same name (text e)) (Some v) rest ≡ cond (same name (text k)) (Some v) (cond (same name (text e)) (Some w) rest)
   present b t e w rest eq =
       let one : text k ≡ text e = same_text (text k) (text e) (sym eq) in

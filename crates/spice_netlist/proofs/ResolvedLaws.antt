@@ -3,13 +3,13 @@ use Rattle.std.proofs.Common.{◌≡◌, inl, inr, ℕ, zero, suc, ◌+◌, ◌<
 use Rattle.std.specs.Prelude.{Contains}
 use Rattle.std.specs.List.{cons_option, position_from}
 use Rattle.std.proofs.lemmas.List.{length-map}
+use Rattle.or_geom.proofs.ListLaws.{contains_none, contains_cases}
 use Rattle.reference_graph.specs.Reaches.{AreWithin}
 use Rattle.netlist.specs.declared.deck.Subckt.{Subckt}
 use Rattle.netlist.specs.declared.deck.Instance.{Instance}
 use Rattle.spice_netlist.specs.declared.block.Block.{Block}
 use Rattle.spice_netlist.specs.Names.{lower, same, place_of}
 use Rattle.spice_netlist.specs.Resolved.{names_of, part_of, is_leaf, block_of, blocks_of, places, graph}
-use Rattle.spice_netlist.proofs.ListLaws.{contains_none, contains_cases}
 
 choose : (b : Bool) (i : ℕ) (rest : Option ℕ) (n end : ℕ) → cond b (Some i) rest ≡ Some n → i < end → (rest ≡ Some n → n < end) → n < end
 choose true i rest n end is lt later = let same : i ≡ n = cc in subst (λ (k : ℕ). k < end) same lt

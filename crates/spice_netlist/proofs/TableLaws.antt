@@ -10,25 +10,13 @@ use Rattle.spice_netlist.specs.Walk.{Visit, visits_by, walk_at}
 use Rattle.spice_netlist.specs.Tables.{IsKnown, AreKnown, IsTable, IsUpward}
 use Rattle.spice_netlist.proofs.WalkLaws.{refers_places, walk_opens, walk_longer}
 
-pub parts_is : (blocks : List Block) (place : ℕ) (b : Block) → place < length blocks → b ≡ get_or blocks place b → b.parts ≡ parts_at blocks place
-parts_is blocks place b lt is = ap (λ (x : Block). x.parts) is ∙ sym (get_or-map (λ (x : Block). x.parts) blocks place b [] lt)
-
-pub ports_is : (blocks : List Block) (place : ℕ) (b : Block) → place < length blocks → b ≡ get_or blocks place b → b.ports ≡ ports_at blocks place
-ports_is blocks place b lt is = ap (λ (x : Block). x.ports) is ∙ sym (get_or-map (λ (x : Block). x.ports) blocks place b [] lt)
-
 pub name_is : (blocks : List Block) (place : ℕ) (b : Block) → place < length blocks → b ≡ get_or blocks place b → b.name ≡ name_at blocks place
 name_is blocks place b lt is = ap (λ (x : Block). x.name) is ∙ sym (get_or-map (λ (x : Block). x.name) blocks place b [] lt)
-
-pub leaf_is : (blocks : List Block) (place : ℕ) (b : Block) → place < length blocks → b ≡ get_or blocks place b → b.leaf ≡ leaf_at blocks place
-leaf_is blocks place b lt is = ap (λ (x : Block). x.leaf) is ∙ sym (get_or-map (λ (x : Block). x.leaf) blocks place b _ lt)
 
 -- the table has what f gives of each node of the order before the place
 pub record IsFilled {V : Type 0} (f : ℕ → V) (count : ℕ) (order : List ℕ) (table : List V) (place : ℕ) : Type 0 where
   pub sized : length table ≡ count
   pub each : (earlier : ℕ) → earlier < place → earlier < length order → IsKnown f table (get_or order earlier 0)
-
-pub filled_none : {V : Type 0} (f : ℕ → V) (count : ℕ) (order : List ℕ) (table : List V) → length table ≡ count → IsFilled f count order table 0
-filled_none f count order table sized = record { sized = sized; each = λ earlier before inside. absurd (omega arith) }
 
 pub node_inside : (blocks : List Block) (order : List ℕ) (place : ℕ) → IsUpward blocks order → place < length order → get_or order place 0 < length blocks
 node_inside blocks order place u lt = subst (λ (n : ℕ). get_or order place 0 < n) (length-map blocks (λ (b : Block). places b.parts)) (u.bottom_up.within place 0 lt)
@@ -74,9 +62,6 @@ filled_all f count order table place le filled node spot =
 -- a node of the order stands at a place in it
 pub node_at : (order : List ℕ) (node : ℕ) (spot : Contains order node) → get_or order spot.0 0 ≡ node
 node_at order node spot = get_or_default order spot.0 0 node spot.1 ∙ spot.2
-
-pub listed_inside : (blocks : List Block) (order : List ℕ) (node : ℕ) → IsUpward blocks order → Contains order node → node < length blocks
-listed_inside blocks order node u spot = subst (λ (n : ℕ). n < length blocks) (node_at order node spot) (node_inside blocks order spot.0 u spot.1)
 
 -- what a node of the order refers to stands in it too
 pub listed_below : (blocks : List Block) (order : List ℕ) (node to : ℕ) → IsUpward blocks order → Contains order node → Contains (places (parts_at blocks node)) to → Contains order to

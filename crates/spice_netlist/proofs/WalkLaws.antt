@@ -3,12 +3,12 @@ use Rattle.std.proofs.Common.{◌≡◌, inl, inr, ℕ, zero, suc, ◌<◌, ◌�
 use Rattle.std.specs.Prelude.{Contains}
 use Rattle.std.proofs.lemmas.List.{length-map, length-append}
 use Rattle.std.specs.List.{cons_option}
+use Rattle.or_geom.proofs.ListLaws.{contains_none, contains_cases, contains_first, contains_option}
 use Rattle.reference_graph.specs.BottomUp.{IsBottomUp}
 use Rattle.spice_netlist.specs.declared.block.Block.{Block}
 use Rattle.spice_netlist.specs.declared.block.Part.{Part}
 use Rattle.spice_netlist.specs.Resolved.{parts_at, ports_at, places, graph}
 use Rattle.spice_netlist.specs.Walk.{Visit, visit_above, visits_in, visits_by, visits, walk_at}
-use Rattle.spice_netlist.proofs.ListLaws.{contains_none, contains_cases, contains_first, contains_later}
 
 -- what a subcircuit refers to are the places of its parts
 pub refers_places : (blocks : List Block) (node : ℕ) → get_or (graph blocks) node [] ≡ places (parts_at blocks node)
@@ -23,16 +23,12 @@ in_same blocks f g part (Some k) rest h =
     let me : Visit = record { path = part.name; of = k; nets = part.nodes } in
     ap (λ (vs : List Visit). me ∷ map (visit_above part (ports_at blocks k)) vs) (h k (contains_first k rest))
 
-pub later_option : (place : Option ℕ) (rest : List ℕ) (k : ℕ) → Contains rest k → Contains (cons_option place rest) k
-later_option None rest k h = h
-later_option (Some p) rest k h = contains_later p rest k h
-
 -- only what the parts refer to counts
 pub visits_same : (blocks : List Block) (f g : ℕ → List Visit) (parts : List Part) → ((k : ℕ) → Contains (places parts) k → f k ≡ g k) → visits_by blocks f parts ≡ visits_by blocks g parts
 visits_same blocks f g [] h = refl
 visits_same blocks f g (p ∷ ps) h =
     let first : visits_in blocks f p p.place ≡ visits_in blocks g p p.place = in_same blocks f g p p.place (places ps) h in
-    let rest : visits_by blocks f ps ≡ visits_by blocks g ps = visits_same blocks f g ps (λ k c. h k (later_option p.place (places ps) k c)) in
+    let rest : visits_by blocks f ps ≡ visits_by blocks g ps = visits_same blocks f g ps (λ k c. h k (contains_option p.place (places ps) k c)) in
     ap (λ (vs : List Visit). vs ++ visits_by blocks f ps) first ∙ ap (λ (vs : List Visit). visits_in blocks g p p.place ++ vs) rest
 
 -- below its place in the order a walk has no more levels

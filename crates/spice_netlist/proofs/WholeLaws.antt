@@ -3,7 +3,7 @@ use Rattle.std.proofs.Common.{◌≡◌, ℕ, zero, suc, ◌<◌, List, [], ◌�
 use Rattle.std.specs.Prelude.{Contains}
 use Rattle.reference_graph.specs.Reaches.{RefersTo, AreWithin, IsPath, Reaches, IsAcyclic}
 use Rattle.reference_graph.specs.BottomUp.{AcyclicPathsAreShort}
-use Rattle.reference_graph.proofs.PathLaws.{reaches_on, reaches_within}
+use Rattle.reference_graph.proofs.PathLaws.{reaches_on, reaches_within, reaches_over}
 use Rattle.spice_netlist.specs.declared.block.Block.{Block}
 use Rattle.spice_netlist.specs.Resolved.{parts_at, graph}
 use Rattle.spice_netlist.specs.Walk.{visits_by, visits, walk_at, first_bad}
@@ -24,17 +24,12 @@ pub whole : AcyclicPathsAreShort → (blocks : List Block) (place : ℕ) → Are
 whole short blocks place within inside acyclic =
     enough blocks (length blocks) place (λ path to leads. let lt = short (graph blocks) place within inside acyclic path to leads in omega (arith, lt, graph_long blocks))
 
--- what is reached from there is reached
-along : (graph : List (List ℕ)) (from middle to : ℕ) (path : List ℕ) → Reaches graph from middle → IsPath graph middle path to → Reaches graph from to
-along graph from middle to [] r leads = subst (Reaches graph from) (sym leads) r
-along graph from middle to (next ∷ rest) r leads = along graph from next to rest (reaches_on graph from middle next r leads.0) leads.1
-
 pub walkable : AcyclicPathsAreShort → (blocks : List Block) (top : ℕ) → AreWithin (graph blocks) → top < length blocks → IsAcyclic (graph blocks) top → first_bad blocks (walk_at blocks top) ≡ None → HaveNoA blocks → IsWalkable blocks top
 walkable short blocks top within inside acyclic good plain =
     let reached = λ (place : ℕ) (r : Reaches (graph blocks) top place). reaches_within (graph blocks) top place within (omega (arith, inside, graph_long blocks)) r in
     record {
       within = λ place r. let lt = reached place r in omega (arith, lt, graph_long blocks);
-      whole = λ place r. whole short blocks place within (reached place r) (λ node n itself. acyclic node (along (graph blocks) top place node n.path r n.leads) itself);
+      whole = λ place r. whole short blocks place within (reached place r) (λ node n itself. acyclic node (reaches_over (graph blocks) top place node r n) itself);
       good = good;
       plain = plain;
     }

@@ -1,6 +1,7 @@
 -- Where reading stands when a deck's lines are read.
 use Rattle.std.proofs.Common.{◌≡◌, ℕ, List, [], ◌∷◌, ◌++◌, Bool, true, false, cond, map, Option, Some, None, Result, Ok, Err, refl, sym, ap, subst, ◌∙◌}
 use Rattle.std.proofs.lemmas.List.{map-append}
+use Rattle.spice_text.proofs.PassLaws.{passed, two_tests, one_pass, mapped_test}
 use Rattle.netlist.specs.declared.deck.Deck.{Deck}
 use Rattle.netlist.specs.declared.deck.Subckt.{Subckt}
 use Rattle.spice_text.specs.declared.fault.SpiceFault.{SpiceFault}
@@ -25,56 +26,34 @@ IsNamed (Some o) done names = names ≡ map name_of done ++ o.subckt.name ∷ []
 abbrev pub Named : Reading → Type 0
 Named r = IsNamed r.current r.done r.names
 
-abbrev ok : Reading → Result Reading SpiceFault
-ok r = Ok r
-
-same_named : (r r2 : Reading) → Named r → ok r ≡ ok r2 → Named r2
-same_named r r2 h e = let same : r ≡ r2 = cc in subst Named same h
-
-one_test : (v : Bool) (e : SpiceFault) (r r2 : Reading) → Named r → cond v (Err e) (Ok r) ≡ Ok r2 → Named r2
-one_test true e r r2 h is = absurd cc
-one_test false e r r2 h is = same_named r r2 h is
-
-two_tests : (u v : Bool) (e : SpiceFault) (r r2 : Reading) → Named r → cond u (Err e) (cond v (Err e) (Ok r)) ≡ Ok r2 → Named r2
-two_tests true v e r r2 h is = absurd cc
-two_tests false v e r r2 h is = one_test v e r r2 h is
-
-one_pass : (v : Bool) (e : SpiceFault) (r r2 : Reading) → Named r → cond v (Ok r) (Err e) ≡ Ok r2 → Named r2
-one_pass true e r r2 h is = same_named r r2 h is
-one_pass false e r r2 h is = absurd cc
-
-mapped_test : (v : Bool) (e : SpiceFault) (r r2 : Reading) (o : OpenSubckt) → Named (with_current r o) → map_ok (with_current r) (cond v (Err e) (Ok o)) ≡ Ok r2 → Named r2
-mapped_test true e r r2 o h is = absurd cc
-mapped_test false e r r2 o h is = same_named (with_current r o) r2 h is
-
 named_placed : (words : List (List ℕ)) (done : List Subckt) (names : List (List ℕ)) (o : OpenSubckt) (line : Line) (r2 : Reading) → IsNamed (Some o) done names
     → map_ok (with_current (record { done = done; names = names; current = Some o })) (placed o line.number words) ≡ Ok r2 → Named r2
 named_placed [] done names o line r2 h is = absurd cc
 named_placed (name ∷ []) done names o line r2 h is = absurd cc
 named_placed (name ∷ word ∷ words) done names o line r2 h is =
-    mapped_test (is_among name o.instances) (fault.Duplicate line.number) (record { done = done; names = names; current = Some o }) r2 (with_instance o (instance_of name word words)) h is
+    mapped_test Named (is_among name o.instances) (fault.Duplicate line.number) (record { done = done; names = names; current = Some o }) r2 (with_instance o (instance_of name word words)) (λ new. h) is
 
 pub named_step : (current : Option OpenSubckt) (st : Statement) (done : List Subckt) (names : List (List ℕ)) (line : Line) (r2 : Reading) → IsNamed current done names
     → step (record { done = done; names = names; current = current }) line st ≡ Ok r2 → Named r2
 named_step None says.Refused done names line r2 h is = absurd cc
 named_step None (says.Begin []) done names line r2 h is = absurd cc
 named_step None (says.Begin (name ∷ ports)) done names line r2 h is =
-    two_tests (is_among name names) (has_repeat [] ports) (fault.Duplicate line.number) (record { done = done; names = names ++ name ∷ []; current = Some (opened line.number name ports) }) r2 (ap (λ (l : List (List ℕ)). l ++ name ∷ []) h) is
+    two_tests Named (is_among name names) (has_repeat [] ports) (fault.Duplicate line.number) (record { done = done; names = names ++ name ∷ []; current = Some (opened line.number name ports) }) r2 (λ new once. ap (λ (l : List (List ℕ)). l ++ name ∷ []) h) is
 named_step None (says.End words) done names line r2 h is = absurd cc
-named_step None says.Stop done names line r2 h is = same_named (record { done = done; names = names; current = None }) r2 h is
-named_step None says.Command done names line r2 h is = same_named (record { done = done; names = names; current = None }) r2 h is
+named_step None says.Stop done names line r2 h is = passed Named (record { done = done; names = names; current = None }) r2 h is
+named_step None says.Command done names line r2 h is = passed Named (record { done = done; names = names; current = None }) r2 h is
 named_step None (says.Instance words) done names line r2 h is = absurd cc
 named_step None says.Continuation done names line r2 h is = absurd cc
 named_step None says.Other done names line r2 h is = absurd cc
 named_step (Some o) says.Refused done names line r2 h is = absurd cc
 named_step (Some o) (says.Begin words) done names line r2 h is = absurd cc
 named_step (Some o) (says.End words) done names line r2 h is =
-    one_pass (closed_by words o.subckt.name) (fault.Unclosed line.number) (record { done = done ++ o.subckt ∷ []; names = names; current = None }) r2 (h ∙ sym (map-append name_of done (o.subckt ∷ []))) is
-named_step (Some o) says.Stop done names line r2 h is = same_named _ r2 h is
-named_step (Some o) says.Command done names line r2 h is = same_named _ r2 h is
+    one_pass Named (closed_by words o.subckt.name) (fault.Unclosed line.number) (record { done = done ++ o.subckt ∷ []; names = names; current = None }) r2 (h ∙ sym (map-append name_of done (o.subckt ∷ []))) is
+named_step (Some o) says.Stop done names line r2 h is = passed Named _ r2 h is
+named_step (Some o) says.Command done names line r2 h is = passed Named _ r2 h is
 named_step (Some o) (says.Instance words) done names line r2 h is = named_placed words done names o line r2 h is
 named_step (Some o) says.Continuation done names line r2 h is = absurd cc
-named_step (Some o) says.Other done names line r2 h is = same_named _ r2 h is
+named_step (Some o) says.Other done names line r2 h is = passed Named _ r2 h is
 
 -- how many bytes are used where these lines are not read
 abbrev pub Ends : ℕ → List Line → ℕ → Type 0

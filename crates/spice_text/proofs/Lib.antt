@@ -8,6 +8,7 @@ pub mod WrittenNames
 pub mod TestLaws
 pub mod WrittenDeck
 pub mod WrittenBytes
+pub mod PassLaws
 pub mod AppendedState
 pub mod AppendedLines
 pub mod AppendedText

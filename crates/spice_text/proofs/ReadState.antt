@@ -4,6 +4,7 @@ use Rattle.std.specs.List.{AllByRecursion}
 use Rattle.std.specs.Str.{bytes_eq}
 use Rattle.std.proofs.lemmas.List.{append-nil, map-append}
 use Rattle.std.specs.Prelude.{codes}
+use Rattle.spice_text.proofs.PassLaws.{ok, passed, two_tests, one_pass, mapped_test}
 use Rattle.netlist.specs.declared.deck.Instance.{Instance}
 use Rattle.netlist.specs.declared.deck.Subckt.{Subckt}
 use Rattle.spice_text.specs.declared.fault.SpiceFault.{SpiceFault}
@@ -128,26 +129,6 @@ last_read : (w : List ℕ) (words : List (List ℕ)) → AllByRecursion IsReadNa
 last_read w [] all = all.0
 last_read w (next ∷ words) all = last_read next words all.1
 
--- what tests that let a reading pass tell
-abbrev ok : Reading → Result Reading SpiceFault
-ok r = Ok r
-
-same_read : (r r2 : Reading) → IsReadSoFar r → ok r ≡ ok r2 → IsReadSoFar r2
-same_read r r2 h e = let same : r ≡ r2 = cc in subst IsReadSoFar same h
-
-two_tests : (u v : Bool) (e : SpiceFault) (r r2 : Reading) → (u ≡ false → v ≡ false → IsReadSoFar r) → cond u (Err e) (cond v (Err e) (Ok r)) ≡ Ok r2 → IsReadSoFar r2
-two_tests true v e r r2 h is = absurd cc
-two_tests false true e r r2 h is = absurd cc
-two_tests false false e r r2 h is = same_read r r2 (h refl refl) is
-
-one_pass : (v : Bool) (e : SpiceFault) (r r2 : Reading) → IsReadSoFar r → cond v (Ok r) (Err e) ≡ Ok r2 → IsReadSoFar r2
-one_pass true e r r2 h is = same_read r r2 h is
-one_pass false e r r2 h is = absurd cc
-
-mapped_test : (v : Bool) (e : SpiceFault) (r r2 : Reading) (o : OpenSubckt) → (v ≡ false → IsReadSoFar (with_current r o)) → map_ok (with_current r) (cond v (Err e) (Ok o)) ≡ Ok r2 → IsReadSoFar r2
-mapped_test true e r r2 o h is = absurd cc
-mapped_test false e r r2 o h is = same_read (with_current r o) r2 (h refl) is
-
 begun_open : (line : ℕ) (name : List ℕ) (ports : List (List ℕ)) → IsReadName name → AllByRecursion IsReadName ports → has_repeat [] ports ≡ false → IsReadOpen (opened line name ports)
 begun_open line name ports n p once = record { subckt = record { name = n; ports = p; ports_once = once; instances = tt; instances_once = refl }; named = refl }
 
@@ -176,7 +157,7 @@ read_placed : (words : List (List ℕ)) (done : List Subckt) (names : List (List
 read_placed [] done names o line r2 all x h is = absurd cc
 read_placed (name ∷ []) done names o line r2 all x h is = absurd cc
 read_placed (name ∷ w ∷ words) done names o line r2 all x h is =
-    mapped_test (is_among name o.instances) (fault.Duplicate line.number) (record { done = done; names = names; current = Some o }) r2 (with_instance o (instance_of name w words))
+    mapped_test IsReadSoFar (is_among name o.instances) (fault.Duplicate line.number) (record { done = done; names = names; current = Some o }) r2 (with_instance o (instance_of name w words))
     (λ new. record {
       subckts = h.subckts;
       once = h.once;
@@ -185,25 +166,25 @@ read_placed (name ∷ w ∷ words) done names o line r2 all x h is =
     is
 
 raw_read : (done : List Subckt) (names : List (List ℕ)) (o : OpenSubckt) (text : List ℕ) (r2 : Reading) → IsReadTo (Some o) done names → ok (record { done = done; names = names; current = Some (kept_raw o text) }) ≡ Ok r2 → IsReadSoFar r2
-raw_read done names o text r2 h is = same_read (record { done = done; names = names; current = Some (kept_raw o text) }) r2 (record { subckts = h.subckts; once = h.once; last = raw_open o text h.last }) is
+raw_read done names o text r2 h is = passed IsReadSoFar (record { done = done; names = names; current = Some (kept_raw o text) }) r2 (record { subckts = h.subckts; once = h.once; last = raw_open o text h.last }) is
 
 pub read_step : (current : Option OpenSubckt) (st : Statement) (done : List Subckt) (names : List (List ℕ)) (line : Line) (r2 : Reading) → IsReadStatement st → IsReadTo current done names
     → step (record { done = done; names = names; current = current }) line st ≡ Ok r2 → IsReadSoFar r2
 read_step None says.Refused done names line r2 w h is = absurd cc
 read_step None (says.Begin []) done names line r2 w h is = absurd cc
 read_step None (says.Begin (name ∷ ports)) done names line r2 w h is =
-    two_tests (is_among name names) (has_repeat [] ports) (fault.Duplicate line.number) (record { done = done; names = names ++ name ∷ []; current = Some (opened line.number name ports) }) r2
+    two_tests IsReadSoFar (is_among name names) (has_repeat [] ports) (fault.Duplicate line.number) (record { done = done; names = names ++ name ∷ []; current = Some (opened line.number name ports) }) r2
     (λ new once. record { subckts = h.subckts; once = once_more name names [] h.once new; last = begun_open line.number name ports w.0 w.1 once }) is
 read_step None (says.End words) done names line r2 w h is = absurd cc
-read_step None says.Stop done names line r2 w h is = same_read (record { done = done; names = names; current = None }) r2 h is
-read_step None says.Command done names line r2 w h is = same_read (record { done = done; names = names; current = None }) r2 h is
+read_step None says.Stop done names line r2 w h is = passed IsReadSoFar (record { done = done; names = names; current = None }) r2 h is
+read_step None says.Command done names line r2 w h is = passed IsReadSoFar (record { done = done; names = names; current = None }) r2 h is
 read_step None (says.Instance words) done names line r2 w h is = absurd cc
 read_step None says.Continuation done names line r2 w h is = absurd cc
 read_step None says.Other done names line r2 w h is = absurd cc
 read_step (Some o) says.Refused done names line r2 w h is = absurd cc
 read_step (Some o) (says.Begin words) done names line r2 w h is = absurd cc
 read_step (Some o) (says.End words) done names line r2 w h is =
-    one_pass (closed_by words o.subckt.name) (fault.Unclosed line.number) (record { done = done ++ o.subckt ∷ []; names = names; current = None }) r2
+    one_pass IsReadSoFar (closed_by words o.subckt.name) (fault.Unclosed line.number) (record { done = done ++ o.subckt ∷ []; names = names; current = None }) r2
     (record { subckts = one_more IsReadSubckt done o.subckt h.subckts h.last.subckt; once = h.once; last = tt }) is
 read_step (Some o) says.Stop done names line r2 w h is = raw_read done names o line.text r2 h is
 read_step (Some o) says.Command done names line r2 w h is = raw_read done names o line.text r2 h is

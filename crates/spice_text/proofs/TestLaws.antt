@@ -3,15 +3,16 @@ use Rattle.std.proofs.Common.{◌≡◌, ◌≢◌, ◌<◌, ℕ, List, [], ◌�
 use Rattle.std.specs.List.{AllByRecursion, list_all}
 use Rattle.std.specs.Str.{bytes_eq}
 use Rattle.std.specs.Bool.{Decides}
-use Rattle.std.proofs.lemmas.Bool.{leb-true, le-leb, or_parts}
+use Rattle.std.proofs.lemmas.Bool.{leb-true, le-leb, or_parts, not-true}
 use Rattle.std.proofs.lemmas.Bool.Decides.{Decides-and, Decides-or, Decides-not, Decides-like, Decides-eqb}
+use Rattle.or_geom.proofs.NameLaws.{same_name}
 use Rattle.netlist.specs.declared.deck.Instance.{Instance}
 use Rattle.netlist.specs.declared.deck.Subckt.{Subckt}
 use Rattle.spice_text.specs.Words.{lower, is_word, is_among}
 use Rattle.spice_text.specs.Subcircuits.{has_repeat}
 use Rattle.spice_text.specs.Writable.{IsNameByte, IsName, BeginsWithX, Differ, IsWritableInstance, instance_name, IsWritable, subckt_name, AreWritable}
 use Rattle.spice_text.specs.WritableTests as test
-use Rattle.spice_text.proofs.WrittenNames.{same_name, differ_once, once_parts}
+use Rattle.spice_text.proofs.WrittenNames.{differ_once, once_parts}
 
 -- each element passes where the test is true of all
 pub all_decided : {X : Type 0} (p : X → Bool) (P : X → Type 0) → ((x : X) → Decides (p x) (P x)) → (xs : List X) → Decides (list_all p xs) (AllByRecursion P xs)
@@ -49,10 +50,6 @@ empty_decided [] = (λ e. refl, λ h. refl)
 empty_decided (line ∷ lines) = (λ e. absurd cc, λ h. absurd cc)
 
 -- names of which none stands there twice differ
-was_false : (b : Bool) → not b ≡ true → b ≡ false
-was_false true e = absurd cc
-was_false false e = refl
-
 before_one : (y x : List ℕ) (seen : List (List ℕ)) → is_among y (seen ++ x ∷ []) ≡ false → (is_among y seen ≡ false) × (x ≢ y)
 before_one y x [] is = (
   refl,
@@ -83,7 +80,7 @@ once_differ (x ∷ names) seen is =
     ((parts.0, one.0), (one.1, more.1))
 
 pub differ_decided : (names : List (List ℕ)) → Decides (not (has_repeat [] names)) (Differ names)
-differ_decided names = (λ e. (once_differ names [] (was_false (has_repeat [] names) e)).1, λ h. ap not (differ_once names h))
+differ_decided names = (λ e. (once_differ names [] (not-true (has_repeat [] names) e)).1, λ h. ap not (differ_once names h))
 
 only_names_decided : (s : Subckt) → Decides (test.has_only_names s) ((s.raw ≡ []) × (IsName s.name × (AllByRecursion IsName s.ports × AllByRecursion IsWritableInstance s.instances)))
 only_names_decided s =

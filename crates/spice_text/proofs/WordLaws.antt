@@ -7,10 +7,6 @@ use Rattle.spice_text.specs.LogicalLines.{is_blank}
 use Rattle.spice_text.specs.Words.{is_word, words_of}
 use Rattle.spice_text.proofs.LineLaws.{pieces_past, pieces_cut}
 
--- a space before words
-pub past_space : (text others : List ℕ) (b : ℕ) → text ≡ b ∷ others → is_blank b ≡ true → words_of text ≡ words_of others
-past_space text others b e is = ap words_of e ∙ ap (λ v. filter is_word (cond v ([] ∷ pieces is_blank others) (with_head b (pieces is_blank others)))) is
-
 -- the pieces past the first are the words of what follows
 after_word : (text : List ℕ) → filter is_word (pieces_past is_blank (drop (position_or_len is_blank text) text)) ≡ words_of (drop (position_or_len is_blank text) text)
 after_word [] = refl

@@ -5,6 +5,7 @@ use Rattle.std.specs.List.{AllByRecursion}
 use Rattle.std.specs.Char.{to_ascii_lowercase}
 use Rattle.std.proofs.lemmas.List.{append_assoc, append-nil, map-append}
 use Rattle.std.proofs.lemmas.Bool.{ne_eqb}
+use Rattle.or_geom.proofs.NameLaws.{same_name}
 use Rattle.netlist.specs.declared.deck.Subckt.{Subckt}
 use Rattle.netlist.specs.declared.deck.Instance.{Instance}
 use Rattle.spice_text.specs.declared.fault.SpiceFault.TheVariants as fault
@@ -22,7 +23,7 @@ use Rattle.spice_text.specs.WrittenText.{words_text, instance_text, begin_text, 
 use Rattle.spice_text.specs.Writable.{IsName, BeginsWithX, IsWritableInstance, instance_name, IsWritable, subckt_name, lowered_instance, lowered_subckt}
 use Rattle.spice_text.proofs.WrittenLines.{IsLine, IsPlain, line_at, Read, IsApart, tail_text, first_reads, line_apart}
 use Rattle.spice_text.proofs.WrittenWords.{IsApartWord, all_of, words_back, lower_line, lower_name, lower_names, apart_word, plain_word, all_before, byte_blank}
-use Rattle.spice_text.proofs.WrittenNames.{same_name, differ_once, once_parts}
+use Rattle.spice_text.proofs.WrittenNames.{differ_once, once_parts}
 use Rattle.spice_text.proofs.DeckLaws.{made, new_placed}
 
 -- reading goes on from one state to another, with these bytes left

@@ -4,18 +4,13 @@ use Rattle.std.specs.List.{AllByRecursion}
 use Rattle.std.specs.Str.{bytes_eq}
 use Rattle.std.proofs.lemmas.Bool.{or_parts, false_from_ne_true}
 use Rattle.std.proofs.lemmas.Slice.Eq.{bytes_eq-Decides}
+use Rattle.or_geom.proofs.NameLaws.{other_name}
 use Rattle.spice_text.specs.Words.{is_among}
 use Rattle.spice_text.specs.Subcircuits.{has_repeat}
 use Rattle.spice_text.specs.Writable.{Differ}
 
-pub same_name : (name : List ℕ) → bytes_eq name name ≡ true
-same_name name = (bytes_eq-Decides name name).1 refl
-
-other_name : (y x : List ℕ) → x ≢ y → bytes_eq y x ≡ false
-other_name y x off = false_from_ne_true (bytes_eq y x) (λ is. off (sym ((bytes_eq-Decides y x).0 is)))
-
 among_none : (y x : List ℕ) (seen : List (List ℕ)) → is_among y seen ≡ false → x ≢ y → is_among y (seen ++ x ∷ []) ≡ false
-among_none y x [] is off = (λ i. other_name y x off i || false)
+among_none y x [] is off = (λ i. other_name y x (λ e. off (sym e)) i || false)
 among_none y x (s ∷ seen) is off = let parts = or_parts (bytes_eq y s) (is_among y seen) is in (λ i. parts.0 i || among_none y x seen parts.1 off i)
 
 grown : (x : List ℕ) (seen ys : List (List ℕ)) → AllByRecursion (λ y. is_among y seen ≡ false) ys → AllByRecursion (λ y. x ≢ y) ys → AllByRecursion (λ y. is_among y (seen ++ x ∷ []) ≡ false) ys

@@ -19,7 +19,7 @@ abbrev pub IsPlaceOf : List Layer → List ℕ → ℕ → Type 0
 IsPlaceOf layers name place = position (is_named name) layers ≡ Some place
 
 -- a layer that no technology has, to look up at
-some_layer : Layer
+pub some_layer : Layer
 some_layer = record { name = []; number = pos 0; datatype = pos 0; text_number = pos 0; texttype = pos 0 }
 
 pub place_found : (layers : List Layer) (s : Section) (key name : List ℕ) (place : ℕ) → place_of layers s key name ≡ Ok place → IsPlaceOf layers name place

@@ -23,7 +23,7 @@ use Rattle.tech_rules.specs.Technology.{tech_in, technology}
 use Rattle.tech_rules.specs.WireRules.{is_bad_metal, is_bad_cut, first_bad_cut, first_bad_place, bad_layer}
 use Rattle.tech_rules.specs.Wires.{wire_under}
 use Rattle.tech_rules.proofs.LayerFacts.{layers_hold}
-use Rattle.tech_rules.proofs.PlaceFacts.{layer_under-IsPlace}
+use Rattle.tech_rules.proofs.PlaceFacts.{layer_under-IsPlace, some_layer}
 use Rattle.tech_rules.proofs.RuleFacts.{rules_hold, connects_hold}
 use Rattle.tech_rules.proofs.WireFacts.{wire_holds}
 
@@ -79,9 +79,6 @@ none_if : (layers : List Layer) (d : Layer) (place : Option ℕ) → ((x : ℕ) 
 none_if layers d None within none = refl
 none_if layers d (Some x) within none = let there = slice_get-get_or layers x d (within x refl) in cc
 
-some_layer : Layer
-some_layer = record { name = []; number = pos 0; datatype = pos 0; text_number = pos 0; texttype = pos 0 }
-
 allowed_wire : (tech : Tech) (wire : Option Wire) → IfSome wire (IsWire tech.layers) → option_and_then (slice_get tech.layers) (option_and_then (first_bad_place tech) wire) ≡ None
     → IfSome wire (λ w. first_bad_place tech w ≡ None)
 allowed_wire tech None good none = tt
@@ -126,12 +123,6 @@ tech_holds s tech made =
       allowed = allowed_wire made_so e.x wire kept.none;
       roles = roles_hold s f.x f.first;
     })
-
--- what a file is read as is a technology
-pub technology-IsTech : (bytes : List ℕ) (tech : Tech) → technology bytes ≡ Ok tech → IsTech tech
-technology-IsTech bytes tech made =
-    let a = steps_of (ok_or (document bytes) NotToml) (λ ms. tech_in (whole ms)) tech made in
-    tech_holds (whole a.x) tech a.next
 
 pub gives-IsTech : (s : Section) (answer : Result Tech TechFault) → Gives (λ t. t) answer (tech_in s) → IfOk answer IsTech
 gives-IsTech s (Ok tech) given = tech_holds s tech given

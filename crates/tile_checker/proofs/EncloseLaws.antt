@@ -5,8 +5,8 @@ use Rattle.or_geom.specs.declared.shape.Rect.{Rect}
 use Rattle.or_geom.specs.declared.shape.Shape.{Shape}
 use Rattle.or_geom.specs.Covered.{IsCovered}
 use Rattle.or_geom.proofs.PlaceLaws.{same_rect}
+use Rattle.or_geom.proofs.ListLaws.{contains_none, contains_cases, contains_first, contains_later}
 use Rattle.ordered_set.specs.Gathering.{SomeHas}
-use Rattle.ordered_set.proofs.OneListLaws.{contains_cases, contains_first, contains_later, none_in}
 use Rattle.tile_checker.specs.Layers.{rects_on, IsCoveredBy}
 use Rattle.tile_checker.specs.Breaks.{IsGrown, BreaksEnclose}
 
@@ -19,7 +19,7 @@ some_layer shapes area (b ∷ bs) (inl c) = (b, contains_first b bs, c)
 some_layer shapes area (b ∷ bs) (inr h) = let r = some_layer shapes area bs h in (r.0, contains_later b bs r.0 r.1, r.2)
 
 layer_some : (shapes : List Shape) (area : Rect) (by : List ℕ) (layer : ℕ) → Contains by layer → IsCoveredBy layer shapes area → SomeHas (IsCovered area) (lists_of shapes by)
-layer_some shapes area [] layer h c = absurd (none_in h.0 h.1)
+layer_some shapes area [] layer h c = absurd (contains_none layer h)
 layer_some shapes area (b ∷ bs) layer h c = elim (contains_cases b bs layer h) [
   | inl e ↦ inl (subst (λ (l : ℕ). IsCoveredBy l shapes area) e c)
   | inr k ↦ inr (layer_some shapes area bs layer k c)

@@ -4,12 +4,11 @@ use Rattle.std.proofs.Common.{◌≡◌, ◌≢◌, ◌⊎◌, inl, inr, ℕ, ze
 use Rattle.std.specs.Int.{int_max}
 use Rattle.std.specs.Prelude.{unsigned_abs, Contains}
 use Rattle.or_geom.proofs.PlaceLaws.{same_point}
-use Rattle.ordered_set.proofs.OneListLaws.{contains_cases, none_in}
-use Rattle.ordered_set.proofs.GatheringLaws.{rest_at, rest_over}
 use Rattle.std.proofs.lemmas.Int.{ints, clamps, by_lt_z}
 use Rattle.or_geom.specs.declared.shape.Point.{Point}
 use Rattle.or_geom.specs.declared.shape.Rect.{Rect}
 use Rattle.or_geom.specs.Covered.{HasCellInSome, IsCovered}
+use Rattle.or_geom.proofs.ListLaws.{contains_none, contains_cases, rest_at}
 use Rattle.tile_checker.specs.Breaks.{HasWidth}
 use Rattle.tile_checker.specs.Frame.{IsFrame, point, CoversFrom, HasBoxAt, HasBoxAtLow, HasBoxAlong, HasBoxAtLeft, HasBox}
 use Rattle.tile_checker.specs.declared.width.Frame.{Frame}
@@ -205,14 +204,14 @@ at_index : (rects : List Rect) (i : ℕ) (r : Rect) → i < length rects → r �
 at_index rects i r lt is = (i, lt, sym is)
 
 found_low : (all : List Rect) (f : Frame) (x : ℤ) (r : Rect) → HasBoxAt all f (point x r.y1) → (rects : List Rect) → Contains rects r → HasBoxAtLow all f x rects
-found_low all f x r b [] h = absurd (none_in h.0 h.1)
+found_low all f x r b [] h = absurd (contains_none r h)
 found_low all f x r b (s ∷ ss) h = elim (contains_cases s ss r h) [
   | inl e ↦ inl (subst (λ (t : Rect). HasBoxAt all f (point x t.y1)) e b)
   | inr k ↦ inr (found_low all f x r b ss k)
 ]
 
 found_left : (all : List Rect) (f : Frame) (r : Rect) → HasBoxAlong all f r.x1 → (rects : List Rect) → Contains rects r → HasBoxAtLeft all f rects
-found_left all f r b [] h = absurd (none_in h.0 h.1)
+found_left all f r b [] h = absurd (contains_none r h)
 found_left all f r b (s ∷ ss) h = elim (contains_cases s ss r h) [
   | inl e ↦ inl (subst (λ (t : Rect). HasBoxAlong all f t.x1) e b)
   | inr k ↦ inr (found_left all f r b ss k)
@@ -222,16 +221,9 @@ found_left all f r b (s ∷ ss) h = elim (contains_cases s ss r h) [
 abbrev pub IsLowLeft : List Rect → Frame → ℤ → ℕ → Type 0
 IsLowLeft rects f x i = HasBoxAlong rects f x → HasBoxAtLow rects f x (drop i rects)
 
-pub low_begins : (rects : List Rect) (f : Frame) (x : ℤ) → (HasBoxAt rects f (point x f.low.y) → ⊥) → IsLowLeft rects f x 0
-low_begins rects f x none (inl b) = absurd (none b)
-low_begins rects f x none (inr h) = h
-
 pub low_goes_on : (rects : List Rect) (f : Frame) (x : ℤ) (i : ℕ) (r : Rect) → i < length rects → r ≡ get_or rects i r → (HasBoxAt rects f (point x r.y1) → ⊥) → IsLowLeft rects f x i → IsLowLeft rects f x (i + 1)
 low_goes_on rects f x i r lt is none left h =
     elim (subst (λ (rs : List Rect). HasBoxAtLow rects f x rs) (rest_at rects i r lt is) (left h)) [ inl b ↦ absurd (none b) | inr k ↦ k ]
-
-pub low_ends : (rects : List Rect) (f : Frame) (x : ℤ) (i : ℕ) → length rects ≤ i → IsLowLeft rects f x i → HasBoxAlong rects f x → ⊥
-low_ends rects f x i le left h = subst (λ (rs : List Rect). HasBoxAtLow rects f x rs) (rest_over rects i le) (left h)
 
 pub low_found : (rects : List Rect) (f : Frame) (x : ℤ) (i : ℕ) (r : Rect) → i < length rects → r ≡ get_or rects i r → HasBoxAt rects f (point x r.y1) → HasBoxAlong rects f x
 low_found rects f x i r lt is b = inr (found_low rects f x r b rects (at_index rects i r lt is))
@@ -239,16 +231,9 @@ low_found rects f x i r lt is b = inr (found_low rects f x r b rects (at_index r
 abbrev pub IsLeftLeft : List Rect → Frame → ℕ → Type 0
 IsLeftLeft rects f i = HasBox rects f → HasBoxAtLeft rects f (drop i rects)
 
-pub left_begins : (rects : List Rect) (f : Frame) → (HasBoxAlong rects f f.low.x → ⊥) → IsLeftLeft rects f 0
-left_begins rects f none (inl b) = absurd (none b)
-left_begins rects f none (inr h) = h
-
 pub left_goes_on : (rects : List Rect) (f : Frame) (i : ℕ) (r : Rect) → i < length rects → r ≡ get_or rects i r → (HasBoxAlong rects f r.x1 → ⊥) → IsLeftLeft rects f i → IsLeftLeft rects f (i + 1)
 left_goes_on rects f i r lt is none left h =
     elim (subst (λ (rs : List Rect). HasBoxAtLeft rects f rs) (rest_at rects i r lt is) (left h)) [ inl b ↦ absurd (none b) | inr k ↦ k ]
-
-pub left_ends : (rects : List Rect) (f : Frame) (i : ℕ) → length rects ≤ i → IsLeftLeft rects f i → HasBox rects f → ⊥
-left_ends rects f i le left h = subst (λ (rs : List Rect). HasBoxAtLeft rects f rs) (rest_over rects i le) (left h)
 
 pub left_found : (rects : List Rect) (f : Frame) (i : ℕ) (r : Rect) → i < length rects → r ≡ get_or rects i r → HasBoxAlong rects f r.x1 → HasBox rects f
 left_found rects f i r lt is b = inr (found_left rects f r b rects (at_index rects i r lt is))

@@ -11,6 +11,7 @@ use Rattle.tech_rules.specs.declared.tech.Layer.{Layer}
 use Rattle.tech_rules.specs.Facts.{IsRule}
 use Rattle.std.proofs.lemmas.List.Elements.{All-contains}
 use Rattle.std.proofs.lemmas.Option.{same_Some, slice_get_read, slice_get_within}
+use Rattle.or_geom.proofs.ListLaws.{below_or}
 use Rattle.tile_checker.specs.Minimum.{HasMinimum}
 use Rattle.tile_checker.specs.Breaks.{Breaks}
 use Rattle.tile_checker.specs.RuleReport.{IsViolation, IsReport, violation_order}
@@ -32,15 +33,6 @@ minimums layers rules seen is all = subst (λ (rs : List Rule). All HasMinimum r
 
 pub minimum_at : (rules : List Rule) (i : ℕ) (rule : Rule) → All HasMinimum rules → i < length rules → rule ≡ get_or rules i rule → HasMinimum rule
 minimum_at rules i rule all lt is = All-contains HasMinimum rules rule all (i, lt, sym is)
-
-pub report_begins : (rules : List Rule) (shapes : List Shape) (out : List Violation) → Adds out out (IsBelow rules shapes 0)
-report_begins rules shapes out = adds_none out (IsBelow rules shapes 0) (λ v b. let lt = b.below in omega arith)
-
-below_or : (a n : ℕ) → a < n + 1 → (a < n) ⊎ (a ≡ n)
-below_or zero zero lt = inr refl
-below_or zero (suc n) lt = inl (omega arith)
-below_or (suc a) zero lt = absurd (omega arith)
-below_or (suc a) (suc n) lt = elim (below_or a n (omega arith)) [ inl h ↦ inl (omega arith) | inr e ↦ inr (ap suc e) ]
 
 step_to : (rules : List Rule) (shapes : List Shape) (n : ℕ) (rule : Rule) → n < length rules → rule ≡ get_or rules n rule → (v : Violation) → IsBelow rules shapes n v ⊎ IsViolationOf n rule shapes v → IsBelow rules shapes (n + 1) v
 step_to rules shapes n rule lt is v (inl b) = record { below = omega (arith, b.below); violation = b.violation }

@@ -66,11 +66,6 @@ gap_box_once a b g h p q =
     let y = gap_once (upward a) (upward b) (upward g) (upward h) p.in_y q.in_y in
     same_rect g h x.low y.low x.high y.high
 
-pub reachable_at : (shapes : List Shape) (i : ℕ) (s : Shape) → AreReachable shapes → i < length shapes → s ≡ get_or shapes i s → IsReachable s.rect
-reachable_at [] i s all lt is = absurd (omega arith)
-reachable_at (t ∷ ts) zero s all lt is = subst (λ (u : Shape). IsReachable u.rect) (sym is) all.0
-reachable_at (t ∷ ts) (suc i) s all lt is = reachable_at ts i s all.1 (omega arith) is
-
 pub others_reachable : (rest others : List Shape) (first : Shape) → rest ≡ first ∷ others → AreReachable rest → IsReachable first.rect × AreReachable others
 others_reachable rest others first e all = subst AreReachable e all
 

@@ -8,31 +8,23 @@ use Rattle.or_geom.specs.declared.shape.Rect.{Rect}
 use Rattle.or_geom.specs.declared.shape.Shape.{Shape}
 use Rattle.or_geom.specs.Joined.{AreJoined}
 use Rattle.or_geom.specs.Covered.{HasCell, HasCellInSome, IsCovered}
-use Rattle.ordered_set.proofs.OneListLaws.{contains_cases, contains_first, contains_later, none_in}
+use Rattle.or_geom.proofs.ListLaws.{contains_none, contains_cases, contains_first, contains_later, contains_here}
+use Rattle.or_geom.proofs.CoverLaws.{cell_among}
 use Rattle.tile_checker.specs.Breaks.{Holds, IsAsWide, HasWidth}
 use Rattle.tile_checker.specs.Layers.{rects_on}
 use Rattle.tile_checker.specs.Unjoined.{AreUnjoined, WidthOfUnjoinedShapes}
 
-abbrev IsOneOf : List Rect → Rect → Type 0
-IsOneOf [] a = ⊥
-IsOneOf (r ∷ rs) a = (a ≡ r) ⊎ IsOneOf rs a
-
 -- only a rectangle and itself are joined
 abbrev AreAlone : List Rect → Type 0
-AreAlone rects = (a b : Rect) → IsOneOf rects a → IsOneOf rects b → AreJoined a b → b ≡ a
+AreAlone rects = (a b : Rect) → Contains rects a → Contains rects b → AreJoined a b → b ≡ a
 
-found : (rects : List Rect) (x y : ℤ) → HasCellInSome rects x y → (s : Rect) × IsOneOf rects s × HasCell s x y
+found : (rects : List Rect) (x y : ℤ) → HasCellInSome rects x y → (s : Rect) × Contains rects s × HasCell s x y
 found [] x y h = absurd h
-found (r ∷ rs) x y (inl here) = (r, inl refl, here)
-found (r ∷ rs) x y (inr there) = let f = found rs x y there in (f.0, inr f.1, f.2)
-
-has_own : (rects : List Rect) (a : Rect) (x y : ℤ) → IsOneOf rects a → HasCell a x y → HasCellInSome rects x y
-has_own [] a x y one h = absurd one
-has_own (r ∷ rs) a x y (inl e) h = inl (subst (λ (s : Rect). HasCell s x y) e h)
-has_own (r ∷ rs) a x y (inr one) h = inr (has_own rs a x y one h)
+found (r ∷ rs) x y (inl here) = (r, contains_first r rs, here)
+found (r ∷ rs) x y (inr there) = let f = found rs x y there in (f.0, contains_later r rs f.0 f.1, f.2)
 
 -- a cell beside a, and an edge that its box shares with a
-beside : (rects : List Rect) (a box : Rect) (x y : ℤ) → AreAlone rects → IsOneOf rects a → IsCovered box rects → HasCell box x y → (HasCell a x y → ⊥)
+beside : (rects : List Rect) (a box : Rect) (x y : ℤ) → AreAlone rects → Contains rects a → IsCovered box rects → HasCell box x y → (HasCell a x y → ⊥)
     → ((s : Rect) → HasCell s x y → AreJoined a s) → ⊥
 beside rects a box x y alone one covers in_box not_in joins =
     let f = found rects x y (covers x y in_box) in
@@ -44,7 +36,7 @@ differ_y x y e = let h : y ≡ y +ℤ pos 1 = ap (λ (p : Point). p.y) e in omeg
 differ_x : (x y : ℤ) → ◌≢◌ {A = Point} (record { x = x; y = y }) (record { x = x +ℤ pos 1; y = y })
 differ_x x y e = let h : x ≡ x +ℤ pos 1 = ap (λ (p : Point). p.x) e in omega (arith, ints)
 
-not_left : (rects : List Rect) (a box : Rect) → AreAlone rects → IsOneOf rects a → Holds box a → IsCovered box rects → a.x1 ≤ℤ box.x1
+not_left : (rects : List Rect) (a box : Rect) → AreAlone rects → Contains rects a → Holds box a → IsCovered box rects → a.x1 ≤ℤ box.x1
 not_left rects a box alone one c covers =
     let wide : a.x1 <ℤ a.x2 = a.wide in
     let tall : a.y1 <ℤ a.y2 = a.tall in
@@ -62,7 +54,7 @@ not_left rects a box alone one c covers =
     })))
     (λ ge. ge)
 
-not_right : (rects : List Rect) (a box : Rect) → AreAlone rects → IsOneOf rects a → Holds box a → IsCovered box rects → box.x2 ≤ℤ a.x2
+not_right : (rects : List Rect) (a box : Rect) → AreAlone rects → Contains rects a → Holds box a → IsCovered box rects → box.x2 ≤ℤ a.x2
 not_right rects a box alone one c covers =
     let wide : a.x1 <ℤ a.x2 = a.wide in
     let tall : a.y1 <ℤ a.y2 = a.tall in
@@ -80,7 +72,7 @@ not_right rects a box alone one c covers =
     })))
     (λ ge. ge)
 
-not_low : (rects : List Rect) (a box : Rect) → AreAlone rects → IsOneOf rects a → Holds box a → IsCovered box rects → a.y1 ≤ℤ box.y1
+not_low : (rects : List Rect) (a box : Rect) → AreAlone rects → Contains rects a → Holds box a → IsCovered box rects → a.y1 ≤ℤ box.y1
 not_low rects a box alone one c covers =
     let wide : a.x1 <ℤ a.x2 = a.wide in
     let tall : a.y1 <ℤ a.y2 = a.tall in
@@ -98,7 +90,7 @@ not_low rects a box alone one c covers =
     })))
     (λ ge. ge)
 
-not_high : (rects : List Rect) (a box : Rect) → AreAlone rects → IsOneOf rects a → Holds box a → IsCovered box rects → box.y2 ≤ℤ a.y2
+not_high : (rects : List Rect) (a box : Rect) → AreAlone rects → Contains rects a → Holds box a → IsCovered box rects → box.y2 ≤ℤ a.y2
 not_high rects a box alone one c covers =
     let wide : a.x1 <ℤ a.x2 = a.wide in
     let tall : a.y1 <ℤ a.y2 = a.tall in
@@ -116,7 +108,7 @@ not_high rects a box alone one c covers =
     })))
     (λ ge. ge)
 
-wide_itself : (rects : List Rect) (a : Rect) (min : ℤ) → AreAlone rects → IsOneOf rects a → HasWidth rects min a → IsAsWide min a
+wide_itself : (rects : List Rect) (a : Rect) (min : ℤ) → AreAlone rects → Contains rects a → HasWidth rects min a → IsAsWide min a
 wide_itself rects a min alone one h =
     let l = not_left rects a h.box alone one h.holds h.covered in
     let r = not_right rects a h.box alone one h.holds h.covered in
@@ -124,12 +116,12 @@ wide_itself rects a min alone one h =
     let u = not_high rects a h.box alone one h.holds h.covered in
     record { wide = omega (arith, ints, h.as_wide.wide); tall = omega (arith, ints, h.as_wide.tall) }
 
-itself_wide : (rects : List Rect) (a : Rect) (min : ℤ) → IsOneOf rects a → IsAsWide min a → HasWidth rects min a
+itself_wide : (rects : List Rect) (a : Rect) (min : ℤ) → Contains rects a → IsAsWide min a → HasWidth rects min a
 itself_wide rects a min one w = record {
   box = a;
   holds = record { left = omega (arith, ints); right = omega (arith, ints); low = omega (arith, ints); high = omega (arith, ints) };
   as_wide = w;
-  covered = λ x y h. has_own rects a x y one h;
+  covered = λ x y h. cell_among rects a x y one h;
 }
 
 -- a rectangle of a layer is that of a shape
@@ -142,13 +134,15 @@ record IsOfShape (layer : ℕ) (shapes : List Shape) (r : Rect) : Type 0 where
 later : (layer : ℕ) (s : Shape) (ss : List Shape) (r : Rect) → IsOfShape layer ss r → IsOfShape layer (s ∷ ss) r
 later layer s ss r o = record { shape = o.shape; there = contains_later s ss o.shape o.there; on = o.on; rect = o.rect }
 
-of_first : (layer : ℕ) (s : Shape) (ss : List Shape) (r : Rect) (b : Bool) → (s.layer == layer) ≡ b → (IsOneOf (rects_on layer ss) r → IsOfShape layer ss r) → IsOneOf (if b then s.rect ∷ rects_on layer ss else rects_on layer ss) r → IsOfShape layer (s ∷ ss) r
-of_first layer s ss r true e more (inl is) = record { shape = s; there = contains_first s ss; on = eqb-true s.layer layer e; rect = sym is }
-of_first layer s ss r true e more (inr one) = later layer s ss r (more one)
+of_first : (layer : ℕ) (s : Shape) (ss : List Shape) (r : Rect) (b : Bool) → (s.layer == layer) ≡ b → (Contains (rects_on layer ss) r → IsOfShape layer ss r) → Contains (if b then s.rect ∷ rects_on layer ss else rects_on layer ss) r → IsOfShape layer (s ∷ ss) r
+of_first layer s ss r true e more one = elim (contains_cases s.rect (rects_on layer ss) r one) [
+  | inl is ↦ record { shape = s; there = contains_first s ss; on = eqb-true s.layer layer e; rect = sym is }
+  | inr behind ↦ later layer s ss r (more behind)
+]
 of_first layer s ss r false e more one = later layer s ss r (more one)
 
-of_shape : (layer : ℕ) (shapes : List Shape) (r : Rect) → IsOneOf (rects_on layer shapes) r → IsOfShape layer shapes r
-of_shape layer [] r one = absurd one
+of_shape : (layer : ℕ) (shapes : List Shape) (r : Rect) → Contains (rects_on layer shapes) r → IsOfShape layer shapes r
+of_shape layer [] r one = absurd (contains_none r one)
 of_shape layer (s ∷ ss) r one = of_first layer s ss r (s.layer == layer) refl (of_shape layer ss r) one
 
 alone_on : (layer : ℕ) (shapes : List Shape) → AreUnjoined shapes → AreAlone (rects_on layer shapes)
@@ -162,17 +156,17 @@ alone_on layer shapes unjoined a b one two joined =
 eqb-same : (m n : ℕ) → m ≡ n → (m == n) ≡ true
 eqb-same m n e = grind (arith)
 
-among_first : (layer : ℕ) (s : Shape) (ss : List Shape) (a : Shape) (b : Bool) → (s.layer == layer) ≡ b → a.layer ≡ layer → (Contains ss a → IsOneOf (rects_on layer ss) a.rect) → (a ≡ s) ⊎ Contains ss a → IsOneOf (if b then s.rect ∷ rects_on layer ss else rects_on layer ss) a.rect
-among_first layer s ss a true e on more (inl is) = inl (ap (λ (u : Shape). u.rect) is)
-among_first layer s ss a true e on more (inr h) = inr (more h)
+among_first : (layer : ℕ) (s : Shape) (ss : List Shape) (a : Shape) (b : Bool) → (s.layer == layer) ≡ b → a.layer ≡ layer → (Contains ss a → Contains (rects_on layer ss) a.rect) → (a ≡ s) ⊎ Contains ss a → Contains (if b then s.rect ∷ rects_on layer ss else rects_on layer ss) a.rect
+among_first layer s ss a true e on more (inl is) = contains_here s.rect (rects_on layer ss) a.rect (ap (λ (u : Shape). u.rect) is)
+among_first layer s ss a true e on more (inr h) = contains_later s.rect (rects_on layer ss) a.rect (more h)
 among_first layer s ss a false e on more (inl is) =
     let same : (s.layer == layer) ≡ true = eqb-same s.layer layer (ap (λ (u : Shape). u.layer) (sym is) ∙ on) in
     let no : ◌≡◌ {A = Bool} true false = sym same ∙ e in
     absurd cc
 among_first layer s ss a false e on more (inr h) = more h
 
-among : (layer : ℕ) (shapes : List Shape) (a : Shape) → Contains shapes a → a.layer ≡ layer → IsOneOf (rects_on layer shapes) a.rect
-among layer [] a h on = absurd (none_in h.0 h.1)
+among : (layer : ℕ) (shapes : List Shape) (a : Shape) → Contains shapes a → a.layer ≡ layer → Contains (rects_on layer shapes) a.rect
+among layer [] a h on = absurd (contains_none a h)
 among layer (s ∷ ss) a h on = among_first layer s ss a (s.layer == layer) refl on (λ k. among layer ss a k on) (contains_cases s ss a h)
 
 pub width_of_unjoined_shapes : WidthOfUnjoinedShapes

@@ -6,20 +6,8 @@ use Rattle.std.proofs.lemmas.Bool.{eqb-true, and_parts}
 use Rattle.or_geom.specs.declared.shape.Rect.{Rect}
 use Rattle.or_geom.specs.declared.shape.Shape.{Shape}
 use Rattle.or_geom.proofs.PlaceLaws.{same_box}
+use Rattle.ordered_set.proofs.ShapeOrderLaws.{shape_eq, same_shape}
 use Rattle.tile_checker.specs.declared.violation.Violation.{Violation}
-
-abbrev rect_eq : Rect → Rect → Bool
-rect_eq r s = is_eq (int_cmp r.x1 s.x1) && (is_eq (int_cmp r.y1 s.y1) && (is_eq (int_cmp r.x2 s.x2) && is_eq (int_cmp r.y2 s.y2)))
-
-abbrev shape_eq : Shape → Shape → Bool
-shape_eq s t = eqb s.layer t.layer && rect_eq s.rect t.rect
-
-same_shape : (s t : Shape) → shape_eq s t ≡ true → s ≡ t
-same_shape s t e =
-    let both = and_parts (eqb s.layer t.layer) (rect_eq s.rect t.rect) e in
-    let layer = eqb-true s.layer t.layer both.0 in
-    let rect = same_box s.rect t.rect both.1 in
-    λ i. record { layer = layer i; rect = rect i }
 
 same_option : (s t : Option Shape) → option_eq shape_eq s t ≡ true → s ≡ t
 same_option None None e = refl

@@ -1,7 +1,7 @@
 -- The names are there.
 use Rattle.cell_chains.specs.Numbering.{all_referred}
-use Rattle.cell_chains.proofs.MemberLaws.{contains_first, contains_later}
 use Rattle.cell_chains.proofs.nodes.nodes_of.Goals as goal
+use Rattle.or_geom.proofs.ListLaws.{contains_first, contains_later}
 
 pub graph_of-requires-clause-there : goal.graph_of-requires-clause-there
 graph_of-requires-clause-there c = λ name h. rw c.deref-2.ensures.value (c.in_ok-names.ensures.all name (contains_later c.args.top.now (all_referred c.args.structs.now) name h))

@@ -1,10 +1,11 @@
 use Rattle.std.proofs.Common.{List, sym, subst}
 use Rattle.std.specs.List.Sorted.{IsStrictlySortedBy}
 use Rattle.or_geom.specs.declared.shape.Shape.{Shape}
+use Rattle.ordered_set.proofs.ShapeOrderLaws.{same_shape}
 use Rattle.ordered_set.specs.ShapeOrder.{shape_order}
 use Rattle.element_drawing.specs.declared.label.OwnLabel.{OwnLabel}
 use Rattle.element_drawing.specs.LabelOrder.{label_order}
-use Rattle.cell_hierarchy.proofs.FlattenLaws.{same_shape, same_items, none_far_in}
+use Rattle.cell_hierarchy.proofs.FlattenLaws.{same_items, none_far_in}
 use Rattle.cell_hierarchy.proofs.settle.settle.Goals as goal
 
 pub returns-clause-lists : goal.returns-clause-lists

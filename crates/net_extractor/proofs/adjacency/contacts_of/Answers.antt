@@ -1,11 +1,11 @@
 use Rattle.std.proofs.Common.{refl, length}
 use Rattle.std.proofs.lemmas.Option.{slice_get_within, slice_get_read}
 use Rattle.net_extractor.specs.Contacts.{TouchesAt}
-use Rattle.net_extractor.proofs.PlaceLaws.{one_at}
 use Rattle.net_extractor.proofs.ContactLaws.{below_skips, below_adds, below_all}
 use Rattle.net_extractor.specs.Touch.{Touch}
 use Rattle.or_geom.specs.declared.shape.Shape.{Shape}
 use Rattle.std.proofs.Common.{subst}
+use Rattle.or_geom.proofs.ListLaws.{one_at}
 use Rattle.net_extractor.proofs.adjacency.contacts_of.Goals as goal
 
 pub loop-place-preserved-then-not-touch : goal.loop-place-preserved-then-not-touch

@@ -1,12 +1,13 @@
 -- Each step of the search enters a node that it has not seen, closes a cycle, or places the node that it is at.
 use Rattle.std.proofs.Common.{◌≡◌, ◌<◌, List, [], ◌∷◌, ◌++◌, length, get_or, reverse, sym, ap, subst, ◌∙◌, arith, rules}
 use Rattle.std.proofs.lemmas.List.{get_or_default, nil_from_length}
+use Rattle.or_geom.proofs.ListLaws.{reverse_push}
 use Rattle.reference_graph.specs.declared.search.Stage.TheVariants.{Unseen, Open}
 use Rattle.reference_graph.specs.declared.search.Visit.{Visit}
 use Rattle.reference_graph.proofs.PathLaws.{all_within}
 use Rattle.reference_graph.proofs.OrderLaws.{acyclic}
 use Rattle.reference_graph.proofs.StageLaws.{IsOpen}
-use Rattle.reference_graph.proofs.SearchLaws.{IsSearch, search_begins, search_cycle, search_enters, search_leaves, search_ends, enter_lighter, next_entered, next_refers, placed_read, all_read, reverse_push}
+use Rattle.reference_graph.proofs.SearchLaws.{IsSearch, search_begins, search_cycle, search_enters, search_leaves, search_ends, enter_lighter, next_entered, next_refers, placed_read, all_read}
 use Rattle.reference_graph.proofs.search.order.Goals as goal
 
 pub steps-init : goal.steps-init

@@ -1,10 +1,10 @@
 -- The parts so far have enough nodes, and so has all inside them.
 use Rattle.std.proofs.Common.{◌≡◌, ◌+◌, ◌<◌, ℕ, List, ◌∷◌, ◌++◌, Option, eq-eqb, true, false, option_map, nat_eq, length, drop, sym, ap, subst, ◌∙◌}
 use Rattle.std.specs.Prelude.{IsSome}
+use Rattle.or_geom.proofs.ListLaws.{rest_at}
 use Rattle.spice_netlist.specs.Bad.{bad_at, bad_in, has_bad}
 use Rattle.spice_netlist.specs.Resolved.{ports_at}
 use Rattle.spice_netlist.specs.Walk.{path_above, walk_at}
-use Rattle.spice_netlist.proofs.ListLaws.{rest_at}
 use Rattle.spice_netlist.proofs.PartLaws.{listed}
 use Rattle.spice_netlist.proofs.BadLaws.{bad_inside, bad_later, still_some}
 use Rattle.spice_netlist.proofs.ports.bad_part.Goals as goal

@@ -1,9 +1,10 @@
 -- A part whose subcircuit is there is passed over, and of another the name is compared.
 use Rattle.std.proofs.Common.{List, sym, subst}
 use Rattle.std.proofs.lemmas.List.{take_all}
+use Rattle.or_geom.proofs.ListLaws.{none_is}
 use Rattle.spice_netlist.specs.declared.block.Part.{Part}
 use Rattle.spice_netlist.specs.Least.{IsLeastOf, IsMissingIn}
-use Rattle.spice_netlist.proofs.MissingLaws.{missing_none, missing_skip, missing_add, some_is, none_is}
+use Rattle.spice_netlist.proofs.MissingLaws.{missing_none, missing_skip, missing_add, some_is}
 use Rattle.spice_netlist.proofs.unknown.least_missing.Goals as goal
 
 pub loop-part-init : goal.loop-part-init

@@ -1,6 +1,7 @@
 -- Each step passes a part, goes into it, or goes back to the frame around.
 use Rattle.std.proofs.Common.{◌≡◌, ◌<◌, ℕ, List, [], ◌∷◌, ◌++◌, length, map, reverse, Option, None, refl, sym, ap, subst, ◌∙◌, arith}
 use Rattle.std.proofs.lemmas.List.{nil_from_length}
+use Rattle.or_geom.proofs.ListLaws.{reverse_push}
 use Rattle.spice_netlist.specs.declared.block.Block.{Block}
 use Rattle.spice_netlist.specs.declared.frame.Frame.{Frame}
 use Rattle.spice_netlist.specs.declared.places.Places.{Places}
@@ -12,7 +13,6 @@ use Rattle.spice_netlist.specs.Walk.{walk_at}
 use Rattle.spice_netlist.specs.Pins.{pins_of}
 use Rattle.spice_netlist.specs.Descent.{IsTableBy}
 use Rattle.spice_netlist.specs.Frames.{text_of, seen_net, view_of}
-use Rattle.spice_netlist.proofs.FrameLaws.{reverse_push}
 use Rattle.spice_netlist.proofs.DescentLaws.{IsUnderWay, weight, begins, ends, leaves, skips, place_here, few_pins, writes, passes, enters, lighter_inside, lighter_past}
 use Rattle.spice_netlist.proofs.walk.walk.Goals as goal
 

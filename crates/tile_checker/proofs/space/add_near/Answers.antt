@@ -1,7 +1,9 @@
 use Rattle.std.proofs.Common.{refl}
+use Rattle.std.proofs.lemmas.List.{drop_all}
+use Rattle.or_geom.proofs.ListLaws.{rest_at}
+use Rattle.ordered_set.proofs.ShapeOrderLaws.{reachable_at}
 use Rattle.ordered_set.proofs.AddsLaws.{adds_one}
-use Rattle.ordered_set.proofs.GatheringLaws.{gather_skips, gather_goes_on, gather_ends, rest_at, rest_over}
-use Rattle.tile_checker.proofs.SpaceLaws.{reachable_at}
+use Rattle.ordered_set.proofs.GatheringLaws.{gather_skips, gather_goes_on, gather_ends}
 use Rattle.tile_checker.proofs.space.add_near.Goals as goal
 
 pub breaks_space-requires-clause-second : goal.breaks_space-requires-clause-second
@@ -18,4 +20,4 @@ loop-other-preserved c =
     (adds_one _ _ _ _ c.in_ok-push.ensures.items (record { is = refl; found = c.if-not-breaks_space.ensures.0 refl }) (λ v s. s.is))
 
 pub returns : goal.returns
-returns c = gather_ends _ _ _ _ _ (rest_over c.args.others.now c.loop-other.other-index c.loop-other-test.false) c.loop-other.invariant
+returns c = gather_ends _ _ _ _ _ (drop_all c.loop-other.other-index c.args.others.now c.loop-other-test.false) c.loop-other.invariant

@@ -1,10 +1,12 @@
 use Rattle.std.proofs.Common.{refl, sym, subst, List, ◌∙◌}
 use Rattle.or_geom.specs.declared.shape.Rect.{Rect}
+use Rattle.std.proofs.lemmas.List.{drop_all}
+use Rattle.or_geom.proofs.ListLaws.{rest_at}
+use Rattle.ordered_set.proofs.ShapeOrderLaws.{reachable_at}
 use Rattle.ordered_set.proofs.AddsLaws.{adds_one}
-use Rattle.ordered_set.proofs.GatheringLaws.{gather_skips, gather_goes_on, gather_ends, rest_at, rest_over}
+use Rattle.ordered_set.proofs.GatheringLaws.{gather_skips, gather_goes_on, gather_ends}
 use Rattle.tile_checker.specs.Breaks.{HasWidth}
 use Rattle.tile_checker.proofs.AloneLaws.{alones_found}
-use Rattle.tile_checker.proofs.SpaceLaws.{reachable_at}
 use Rattle.tile_checker.proofs.widths.add_widths.Goals as goal
 
 pub has_width-requires : goal.has_width-requires
@@ -36,4 +38,4 @@ loop-shape-preserved c =
     }) (λ v s. s.is))
 
 pub returns : goal.returns
-returns c = alones_found _ _ _ _ _ (λ a b none. none) (gather_ends _ _ _ _ _ (rest_over c.args.shapes.now c.loop-shape.shape-index c.loop-shape-test.false) c.loop-shape.invariant)
+returns c = alones_found _ _ _ _ _ (λ a b none. none) (gather_ends _ _ _ _ _ (drop_all c.loop-shape.shape-index c.args.shapes.now c.loop-shape-test.false) c.loop-shape.invariant)
