@@ -5,6 +5,7 @@ use Rattle.std.specs.Ordering.{nat_cmp}
 use Rattle.std.specs.Cmp.Lexicographic.{slice_cmp}
 use Rattle.std.specs.declared.cmp.Ordering.TheVariants.{Greater}
 use Rattle.std.proofs.lemmas.Bool.{cases_lt}
+use Rattle.or_geom.specs.Least.{IsLeast}
 use Rattle.reference_graph.specs.Reaches as paths
 use Rattle.reference_graph.specs.Reaches.{IsPath, IsAcyclic, IsLeastCyclic}
 use Rattle.reference_graph.specs.Height.{IsHeight}
@@ -12,7 +13,7 @@ use Rattle.reference_graph.proofs.PathLaws.{reaches_within}
 use Rattle.gds_stream.specs.declared.library.Structure.{Structure}
 use Rattle.gds_stream.specs.Writable.{IsWritableCell}
 use Rattle.cell_chains.specs.Instances.{Item}
-use Rattle.cell_chains.specs.Chains.{IsThere, IsChain, Reaches, ReachesItself, IsMissing, IsCyclic, IsLeast, IsDepth}
+use Rattle.cell_chains.specs.Chains.{IsThere, IsChain, Reaches, ReachesItself, IsMissing, IsCyclic, IsDepth}
 use Rattle.cell_chains.specs.Numbering.{texts, name_at, Rises, IsNode, AreFirsts, IsGraph, AreNodes}
 use Rattle.cell_chains.specs.declared.nodes.Nodes.{Nodes}
 use Rattle.cell_chains.specs.Listing.{IsLeastUnknown, AreKnown}

@@ -53,11 +53,6 @@ pub record IsCyclic (structs : List Structure) (top name : List ℕ) : Type 0 wh
   pub reached : Reaches structs top name
   pub itself : ReachesItself structs name
 
--- the least of the names that have P, by their bytes
-pub record IsLeast (P : List ℕ → Type 0) (name : List ℕ) : Type 0 where
-  pub has : P name
-  pub least : (other : List ℕ) → P other → slice_cmp nat_cmp name other ≢ Greater
-
 -- the longest chain from the top has this many references, where more than 2^32 - 1 count as that many
 pub record IsDepth (structs : List Structure) (top : List ℕ) (depth : ℕ) : Type 0 where
   pub chain : List Item

@@ -4,13 +4,11 @@ use Rattle.std.proofs.lemmas.Int.{ints, by_lt_z}
 use Rattle.or_geom.specs.declared.shape.Point.{Point}
 use Rattle.or_geom.specs.declared.shape.Rect.{Rect}
 use Rattle.or_geom.proofs.PlaceLaws.{same_rect}
+use Rattle.rectilinear.specs.Ring.{side}
 use Rattle.rectilinear.specs.declared.ring.Side.{Side}
 use Rattle.rectilinear.specs.Simple.{AllStraight, IsStraight}
 use Rattle.gds_stream.specs.Values.{segments, segments_from}
 use Rattle.element_drawing.specs.Paths.{IsBox, IsRightward, IsUpward, IsSegmentBox, AreBoxesFrom, IsEnd, AreBoxes}
-
-abbrev side : Point → Point → Side
-side p q = record { a = p; b = q }
 
 one_box : (left bottom right top : ℤ) (r s : Rect) → IsBox left bottom right top r → IsBox left bottom right top s → r ≡ s
 one_box left bottom right top r s a b = same_rect r s (a.x1 ∙ sym b.x1) (a.y1 ∙ sym b.y1) (a.x2 ∙ sym b.x2) (a.y2 ∙ sym b.y2)

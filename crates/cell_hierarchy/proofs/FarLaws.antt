@@ -1,21 +1,22 @@
 -- The first of some points.
 use Rattle.std.proofs.Common.{◌≡◌, ◌≢◌, ◌⊎◌, inl, inr, ℕ, ◌+◌, ◌<◌, ◌≤◌, false, List, length, get_or, Option, Some, None, refl, sym, ap, subst, ◌∙◌, arith}
-use Rattle.std.specs.Prelude.{Contains, slice_get}
+use Rattle.std.specs.Prelude.{slice_get}
 use Rattle.std.specs.Cmp.{IsTotalOrder}
 use Rattle.std.specs.Ordering.{ordering_reverse, is_gt}
 use Rattle.std.specs.declared.cmp.Ordering.{Ordering}
 use Rattle.std.specs.declared.cmp.Ordering.TheVariants.{Less, Equal, Greater}
 use Rattle.std.proofs.lemmas.Cmp.{on_total, then_total, int_cmp_total, upto, tied_itself}
-use Rattle.std.proofs.lemmas.Option.{slice_get_within, get_or_from_slice_get, same_Some, slice_get_read}
+use Rattle.std.proofs.lemmas.Option.{same_Some, slice_get_read}
 use Rattle.or_geom.specs.declared.shape.Point.{Point}
 use Rattle.or_geom.specs.declared.shape.Shape.{Shape}
 use Rattle.or_geom.proofs.PlaceLaws.{same_point}
 use Rattle.or_geom.proofs.ListLaws.{contained_at}
+use Rattle.or_geom.specs.Place.{low_corner, high_corner}
 use Rattle.gds_records.specs.Values.{IsShort}
 use Rattle.element_drawing.specs.declared.label.OwnLabel.{OwnLabel}
 use Rattle.cell_hierarchy.specs.FlatLists.{point_order}
 use Rattle.cell_hierarchy.specs.Below.{SomeBelow}
-use Rattle.cell_hierarchy.specs.Far.{IsFirst, IsFirstOf, earlier, first_of, lower_left, upper_left, lower_right, upper_right, IsFarAt, IsFarCorner, HasFarCorner, HasFarLabel, IsFarCornerAt, IsFarLabelAt}
+use Rattle.cell_hierarchy.specs.Far.{IsFirst, IsFirstOf, earlier, first_of, upper_left, lower_right, IsFarAt, IsFarCorner, HasFarCorner, HasFarLabel, IsFarCornerAt, IsFarLabelAt}
 use Rattle.cell_hierarchy.proofs.BelowLaws.{step_to, step_from}
 
 pub point_total : IsTotalOrder point_order
@@ -83,7 +84,7 @@ none_far p short q h = h.far (subst IsShort h.is short)
 
 -- the four corners
 abbrev AtCorners : Shape → Point → Type 0
-AtCorners s p = (IsFarAt (lower_left s.rect) p ⊎ IsFarAt (upper_left s.rect) p) ⊎ (IsFarAt (lower_right s.rect) p ⊎ IsFarAt (upper_right s.rect) p)
+AtCorners s p = (IsFarAt (low_corner s.rect) p ⊎ IsFarAt (upper_left s.rect) p) ⊎ (IsFarAt (lower_right s.rect) p ⊎ IsFarAt (high_corner s.rect) p)
 
 x_of : (p q : Point) → p ≡ q → q.x ≡ p.x
 x_of p q e = ap (λ (r : Point). r.x) (sym e)
@@ -92,16 +93,16 @@ y_of : (p q : Point) → p ≡ q → q.y ≡ p.y
 y_of p q e = ap (λ (r : Point). r.y) (sym e)
 
 is_corner : (s : Shape) (p : Point) → AtCorners s p → IsFarCorner s p
-is_corner s p (inl (inl h)) = record { corner = record { x = inl (x_of (lower_left s.rect) p h.is); y = inl (y_of (lower_left s.rect) p h.is) }; far = h.far }
+is_corner s p (inl (inl h)) = record { corner = record { x = inl (x_of (low_corner s.rect) p h.is); y = inl (y_of (low_corner s.rect) p h.is) }; far = h.far }
 is_corner s p (inl (inr h)) = record { corner = record { x = inl (x_of (upper_left s.rect) p h.is); y = inr (y_of (upper_left s.rect) p h.is) }; far = h.far }
 is_corner s p (inr (inl h)) = record { corner = record { x = inr (x_of (lower_right s.rect) p h.is); y = inl (y_of (lower_right s.rect) p h.is) }; far = h.far }
-is_corner s p (inr (inr h)) = record { corner = record { x = inr (x_of (upper_right s.rect) p h.is); y = inr (y_of (upper_right s.rect) p h.is) }; far = h.far }
+is_corner s p (inr (inr h)) = record { corner = record { x = inr (x_of (high_corner s.rect) p h.is); y = inr (y_of (high_corner s.rect) p h.is) }; far = h.far }
 
 which_corner : (s : Shape) (p : Point) → (p.x ≡ s.rect.x1) ⊎ (p.x ≡ s.rect.x2) → (p.y ≡ s.rect.y1) ⊎ (p.y ≡ s.rect.y2) → (IsShort p → ⊥) → AtCorners s p
-which_corner s p (inl x) (inl y) far = inl (inl (record { is = same_point (lower_left s.rect) p (sym x) (sym y); far = far }))
+which_corner s p (inl x) (inl y) far = inl (inl (record { is = same_point (low_corner s.rect) p (sym x) (sym y); far = far }))
 which_corner s p (inl x) (inr y) far = inl (inr (record { is = same_point (upper_left s.rect) p (sym x) (sym y); far = far }))
 which_corner s p (inr x) (inl y) far = inr (inl (record { is = same_point (lower_right s.rect) p (sym x) (sym y); far = far }))
-which_corner s p (inr x) (inr y) far = inr (inr (record { is = same_point (upper_right s.rect) p (sym x) (sym y); far = far }))
+which_corner s p (inr x) (inr y) far = inr (inr (record { is = same_point (high_corner s.rect) p (sym x) (sym y); far = far }))
 
 at_corner : (p corner : Point) (o : Option Point) → p ≡ corner → IsFirstOf (IsFarAt p) o → IsFirstOf (IsFarAt corner) o
 at_corner p corner o e f = subst (λ (q : Point). IsFirstOf (IsFarAt q) o) e f
@@ -109,10 +110,10 @@ at_corner p corner o e f = subst (λ (q : Point). IsFirstOf (IsFarAt q) o) e f
 pub two_corners : (p q a b : Point) (x y o : Option Point) → p ≡ a → q ≡ b → IsFirstOf (IsFarAt p) x → IsFirstOf (IsFarAt q) y → o ≡ first_of x y → IsFirstOf (λ r. IsFarAt a r ⊎ IsFarAt b r) o
 two_corners p q a b x y o ea eb f g is = joined (IsFarAt a) (IsFarAt b) x y o is (at_corner p a x ea f) (at_corner q b y eb g)
 
-pub corners_far : (s : Shape) (left right o : Option Point) → IsFirstOf (λ r. IsFarAt (lower_left s.rect) r ⊎ IsFarAt (upper_left s.rect) r) left → IsFirstOf (λ r. IsFarAt (lower_right s.rect) r ⊎ IsFarAt (upper_right s.rect) r) right
+pub corners_far : (s : Shape) (left right o : Option Point) → IsFirstOf (λ r. IsFarAt (low_corner s.rect) r ⊎ IsFarAt (upper_left s.rect) r) left → IsFirstOf (λ r. IsFarAt (lower_right s.rect) r ⊎ IsFarAt (high_corner s.rect) r) right
     → o ≡ first_of left right → IsFirstOf (IsFarCorner s) o
 corners_far s left right o l r is =
-    let all = joined (λ p. IsFarAt (lower_left s.rect) p ⊎ IsFarAt (upper_left s.rect) p) (λ p. IsFarAt (lower_right s.rect) p ⊎ IsFarAt (upper_right s.rect) p) left right o is l r in
+    let all = joined (λ p. IsFarAt (low_corner s.rect) p ⊎ IsFarAt (upper_left s.rect) p) (λ p. IsFarAt (lower_right s.rect) p ⊎ IsFarAt (high_corner s.rect) p) left right o is l r in
     first_as (AtCorners s) (IsFarCorner s) o (is_corner s) (λ p h. which_corner s p h.corner.x h.corner.y h.far) all
 
 -- a loop over the items of a list, where `At` tells of the one at a place

@@ -6,12 +6,10 @@ use Rattle.or_geom.specs.declared.place.Orient.{Orient}
 use Rattle.or_geom.specs.declared.place.Orient.TheVariants.{R0, R90, R180, R270, MX, MX90, MX180, MX270}
 use Rattle.or_geom.specs.declared.shape.Shape.{Shape}
 use Rattle.or_geom.specs.declared.place.Place.{Place}
-use Rattle.or_geom.specs.Distance.{IsReachable}
 use Rattle.or_geom.specs.Place.{IsNearPoint, turned, placed}
-use Rattle.or_geom.proofs.PlaceLaws.{image_once, same_point}
+use Rattle.or_geom.proofs.PlaceLaws.{image_once, same_point, origin}
 use Rattle.ordered_set.specs.Adds.{Adds}
 use Rattle.ordered_set.specs.Gathering.{SomeGives}
-use Rattle.ordered_set.specs.Reachable.{AreReachable}
 use Rattle.element_drawing.specs.declared.label.OwnLabel.{OwnLabel}
 use Rattle.cell_hierarchy.specs.FlatSet.{IsMoved}
 use Rattle.cell_hierarchy.specs.Below.{IsLabelUnder, AreNearLabels}
@@ -38,9 +36,6 @@ near_label_at (t ∷ ts) (suc i) label all lt is = near_label_at ts i label all.
 pub under_as : (a b : List ℕ) (p q : Place) (labels old new : List OwnLabel) → a ≡ b → p ≡ q → Adds old new (SomeGives (IsLabelUnder a p) labels) → Adds old new (SomeGives (IsLabelUnder b q) labels)
 under_as a b p q labels old new e f h =
     subst (λ (m : Place). Adds old new (SomeGives (IsLabelUnder b m) labels)) f (subst (λ (m : List ℕ). Adds old new (SomeGives (IsLabelUnder m p) labels)) e h)
-
-abbrev pub origin : Point
-origin = record { x = pos 0; y = pos 0 }
 
 origin_turned : (o : Orient) → turned o origin ≡ origin
 origin_turned R0 = same_point _ _ (omega (arith, ints)) (omega (arith, ints))

@@ -31,18 +31,12 @@ first_of None b = b
 first_of (Some p) None = Some p
 first_of (Some p) (Some q) = Some (earlier (point_order p q) p q)
 
--- the corners of a rectangle
-abbrev pub lower_left : Rect → Point
-lower_left r = record { x = r.x1; y = r.y1 }
-
+-- two corners of a rectangle
 abbrev pub upper_left : Rect → Point
 upper_left r = record { x = r.x1; y = r.y2 }
 
 abbrev pub lower_right : Rect → Point
 lower_right r = record { x = r.x2; y = r.y1 }
-
-abbrev pub upper_right : Rect → Point
-upper_right r = record { x = r.x2; y = r.y2 }
 
 -- q is p, and lies outside 32 bits
 pub record IsFarAt (p q : Point) : Type 0 where

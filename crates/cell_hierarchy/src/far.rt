@@ -1,6 +1,7 @@
 ghost use Rattle.std.specs.Prelude.{◌≡◌, ◌↔◌, IsTrue};
 ghost use Rattle.gds_records.specs.Values.{IsShort};
-ghost use Rattle.cell_hierarchy.specs.Far.{IsFirstOf, first_of, lower_left, upper_left, lower_right, upper_right, IsFarAt, IsFarCorner, HasFarCorner, HasFarLabel, IsFarIn};
+ghost use Rattle.or_geom.specs.Place.{low_corner, high_corner};
+ghost use Rattle.cell_hierarchy.specs.Far.{IsFirstOf, first_of, upper_left, lower_right, IsFarAt, IsFarCorner, HasFarCorner, HasFarLabel, IsFarIn};
 
 use element_drawing::OwnLabel;
 use or_geom::{Point, Rect, Shape};
@@ -46,7 +47,7 @@ fn first_of(a: Option<Point>, b: Option<Point>) -> Option<Point>
 }
 
 fn lower_left(rect: Rect) -> Point
-    ensures { result ≡ lower_left rect }
+    ensures { result ≡ low_corner rect }
 {
     Point {
         x: rect.x1,
@@ -73,7 +74,7 @@ fn lower_right(rect: Rect) -> Point
 }
 
 fn upper_right(rect: Rect) -> Point
-    ensures { result ≡ upper_right rect }
+    ensures { result ≡ high_corner rect }
 {
     Point {
         x: rect.x2,

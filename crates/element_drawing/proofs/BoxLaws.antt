@@ -1,5 +1,5 @@
 -- The boxes of a path, segment by segment.
-use Rattle.std.proofs.Common.{◌≡◌, List, [], ◌∷◌, ◌++◌, ℤ, ◌-ℤ◌, refl, ap, sym, subst, ◌∙◌, append_assoc, FitsSigned, to_z, of_z, arith}
+use Rattle.std.proofs.Common.{◌≡◌, List, [], ◌++◌, ℤ, ◌-ℤ◌, refl, subst, ◌∙◌, FitsSigned, to_z, of_z, arith}
 use Rattle.std.proofs.lemmas.Int.{ints, to_z-of_z}
 use Rattle.std.specs.Int.{w32, w64}
 use Rattle.std.proofs.lemmas.List.{append-nil}
@@ -14,7 +14,7 @@ use Rattle.element_drawing.specs.declared.boxes.Stroke.{Stroke}
 use Rattle.element_drawing.specs.declared.boxes.Tip.{Tip}
 use Rattle.element_drawing.specs.declared.boxes.Segment.{Segment}
 use Rattle.element_drawing.specs.Paths.{IsSegmentBox, AreBoxesFrom}
-use Rattle.element_drawing.specs.Segments.{IsLength, IsExtentOf, IsOver, IsShortStroke, IsShortSegment, longer_before, segment_at}
+use Rattle.element_drawing.specs.Segments.{IsLength, IsExtentOf, IsOver}
 
 -- the boxes so far, which those of the rest complete
 pub record AreBoxesBut (stroke : Stroke) (first : Point) (others : List Point) (tip : Tip) (rest : List Point) (boxes : List Rect) : Type 0 where

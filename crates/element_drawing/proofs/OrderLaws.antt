@@ -1,8 +1,8 @@
 -- The order of labels tells all labels apart.
-use Rattle.std.proofs.Common.{◌≡◌, true, refl}
+use Rattle.std.proofs.Common.{◌≡◌, refl}
 use Rattle.std.specs.Cmp.Lexicographic.{slice_cmp}
 use Rattle.std.specs.FinMap.{nat_cmp-IsAntisymmetric, int_cmp-IsAntisymmetric}
-use Rattle.std.specs.Ordering.{ordering_then, nat_cmp, int_cmp, is_eq}
+use Rattle.std.specs.Ordering.{ordering_then, nat_cmp, int_cmp}
 use Rattle.std.specs.declared.cmp.Ordering.{Ordering}
 use Rattle.std.specs.declared.cmp.Ordering.TheVariants.{Less, Equal, Greater}
 use Rattle.std.proofs.lemmas.Map.Lookups.{exact_bytes}

@@ -8,6 +8,7 @@ use Rattle.std.proofs.Math.IntN.{*ℤ_comm, *ℤ-zero, +ℤ_idr, neg_ℤ}
 use Rattle.std.proofs.Math.Nat.{mul-mod_right, mul-div_right}
 use Rattle.std.specs.Ordering.{int_eq}
 use Rattle.or_geom.specs.declared.shape.Point.{Point}
+use Rattle.or_geom.proofs.PlaceLaws.{origin}
 use Rattle.gds_records.specs.declared.code.TheConstants.{XY}
 use Rattle.gds_records.specs.Record.{is_formed}
 use Rattle.gds_records.specs.Values.{Means, points_of, first_point_of, with_point}
@@ -180,9 +181,6 @@ lattice_only counts columns rows content g is =
     let across = pitch_there counts.0 g.0 g.1.0 columns in
     let down = pitch_there counts.1 g.0 g.1.1 rows in
     ap (lattice_in counts) three ∙ (λ i. with_pitches g.0 (across i) (down i))
-
-abbrev origin : Point
-origin = record { x = pos 0; y = pos 0 }
 
 zero_times : (n : ℤ) → pos 0 +ℤ n *ℤ pos 0 ≡ pos 0
 zero_times n = ap (λ (z : ℤ). pos 0 +ℤ z) (*ℤ-zero n)

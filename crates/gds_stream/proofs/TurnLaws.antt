@@ -6,12 +6,9 @@ use Rattle.std.proofs.lemmas.Bool.{and_right, and_from, and_parts}
 use Rattle.std.specs.Ordering.{int_eq}
 use Rattle.or_geom.specs.declared.shape.Point.{Point}
 use Rattle.rectilinear.specs.declared.ring.Side.{Side}
-use Rattle.rectilinear.specs.Ring.{sides_on, sides_of}
+use Rattle.rectilinear.specs.Ring.{sides_on, sides_of, side}
 use Rattle.rectilinear.specs.Corners.{is_zero, is_up, is_down, is_right, is_left, is_run, steps, turns_after, last_of, turns, corners_of}
 use Rattle.rectilinear.specs.Simple.{IsStraight, AllStraight}
-
-abbrev side : Point → Point → Side
-side p q = record { a = p; b = q }
 
 -- both go the same way along an axis, or neither goes along one
 pub record SameWay (s t : Side) : Type 0 where

@@ -1,7 +1,7 @@
 //! Worked examples of `nets` and `compare`: two inverters, of which the first drives the second.
 
 use crate::layouts::{end, points, rectangle, started};
-use crate::tests::{NONE, answer_of, begin, file, record};
+use crate::tests::{NONE, answer_of, begin, expect_reply, file, record};
 use or_host::MemSink;
 use std::alloc::Global;
 use std::test::Fail;
@@ -109,14 +109,18 @@ fn nets_of_two_inverters(rt: HostRuntime) -> Result<(), Fail> {
 
 #[test]
 fn two_inverters_compared(rt: HostRuntime) -> Result<(), Fail> {
-    let (same, text) = answer(&rt, rt.alloc(), &COMPARE, &[WIRE])?;
-    assert_eq!(rt; same, 0);
-    assert_eq!(rt; text.written(), b"".as_slice());
-    let (open, text) = answer(&rt, rt.alloc(), &COMPARE, &[])?;
-    assert_eq!(rt; open, 1);
-    assert_eq!(rt; text.written(), b"Open xa/z xb/a\n".as_slice());
-    let (short, text) = answer(&rt, rt.alloc(), &COMPARE, &[[2, 28, 22, 32]])?;
-    assert_eq!(rt; short, 1);
-    assert_eq!(rt; text.written(), b"Short i xa/z\n".as_slice());
+    expect_reply(&rt, answer(&rt, rt.alloc(), &COMPARE, &[WIRE])?, 0, b"");
+    expect_reply(
+        &rt,
+        answer(&rt, rt.alloc(), &COMPARE, &[])?,
+        1,
+        b"Open xa/z xb/a\n",
+    );
+    expect_reply(
+        &rt,
+        answer(&rt, rt.alloc(), &COMPARE, &[[2, 28, 22, 32]])?,
+        1,
+        b"Short i xa/z\n",
+    );
     Ok(())
 }

@@ -4,6 +4,7 @@ use crate::run::run;
 use or_geom::{Items, Name};
 use or_host::{MemFile, MemSink, MemStore};
 use std::alloc::Global;
+use std::process::Abort;
 use std::test::Fail;
 use std::thread::Threads;
 
@@ -107,6 +108,13 @@ pub struct Failing {
 
 pub const NONE: Failing = Failing { store: 0, sink: 0 };
 
+/// The run ended with this status and printed this text.
+pub fn expect_reply(rt: &impl Abort, reply: (u8, MemSink), status: u8, text: &[u8]) {
+    let (ended, printed) = reply;
+    assert_eq!(rt; ended, status);
+    assert_eq!(rt; printed.written(), text);
+}
+
 /// Runs the words on a technology and a library of rectangles.
 fn answer<R: Threads + Sync>(
     alloc: Global,
@@ -164,89 +172,112 @@ fn second<R: Threads + Sync>(
 
 #[test]
 fn two_rectangles_apart(rt: HostRuntime) -> Result<(), Fail> {
-    let (far, text) = second(&rt, rt.alloc(), [9, 0, 13, 4])?;
-    assert_eq!(rt; far, 0);
-    assert_eq!(rt; text.written(), b"".as_slice());
-    let (at_minimum, text) = second(&rt, rt.alloc(), [7, 8, 11, 12])?;
-    assert_eq!(rt; at_minimum, 0);
-    assert_eq!(rt; text.written(), b"".as_slice());
+    expect_reply(&rt, second(&rt, rt.alloc(), [9, 0, 13, 4])?, 0, b"");
+    expect_reply(&rt, second(&rt, rt.alloc(), [7, 8, 11, 12])?, 0, b"");
     Ok(())
 }
 
 #[test]
 fn two_rectangles_near(rt: HostRuntime) -> Result<(), Fail> {
-    let (beside, text) = second(&rt, rt.alloc(), [8, 0, 12, 4])?;
-    assert_eq!(rt; beside, 1);
-    assert_eq!(rt; text.written(), b"1 m1 0 0 4 4 m1 8 0 12 4\n".as_slice());
-    let (corner, text) = second(&rt, rt.alloc(), [4, 4, 8, 8])?;
-    assert_eq!(rt; corner, 1);
-    assert_eq!(rt; text.written(), b"1 m1 0 0 4 4 m1 4 4 8 8\n".as_slice());
-    let (diagonal, text) = second(&rt, rt.alloc(), [7, 7, 11, 11])?;
-    assert_eq!(rt; diagonal, 1);
-    assert_eq!(rt; text.written(), b"1 m1 0 0 4 4 m1 7 7 11 11\n".as_slice());
+    expect_reply(
+        &rt,
+        second(&rt, rt.alloc(), [8, 0, 12, 4])?,
+        1,
+        b"1 m1 0 0 4 4 m1 8 0 12 4\n",
+    );
+    expect_reply(
+        &rt,
+        second(&rt, rt.alloc(), [4, 4, 8, 8])?,
+        1,
+        b"1 m1 0 0 4 4 m1 4 4 8 8\n",
+    );
+    expect_reply(
+        &rt,
+        second(&rt, rt.alloc(), [7, 7, 11, 11])?,
+        1,
+        b"1 m1 0 0 4 4 m1 7 7 11 11\n",
+    );
     Ok(())
 }
 
 #[test]
 fn an_empty_structure(rt: HostRuntime) -> Result<(), Fail> {
-    let (status, text) = answer(rt.alloc(), &CHECK, PLAIN, &[], &rt, NONE)?;
-    assert_eq!(rt; status, 0);
-    assert_eq!(rt; text.written(), b"".as_slice());
+    expect_reply(
+        &rt,
+        answer(rt.alloc(), &CHECK, PLAIN, &[], &rt, NONE)?,
+        0,
+        b"",
+    );
     Ok(())
 }
 
 #[test]
 fn names_that_are_not_there(rt: HostRuntime) -> Result<(), Fail> {
     let alloc = rt.alloc();
-    let (cell, text) = answer(
-        alloc,
-        &["check", "t.toml", "a.gds", "z", "1"],
-        PLAIN,
-        &[FIRST],
+    expect_reply(
         &rt,
-        NONE,
-    )?;
-    assert_eq!(rt; cell, 3);
-    assert_eq!(rt; text.written(), b"openram: 31 UnknownStruct z\n".as_slice());
-    let (tech, text) = answer(
-        alloc,
-        &["check", "u.toml", "a.gds", "t", "1"],
-        PLAIN,
-        &[],
+        answer(
+            alloc,
+            &["check", "t.toml", "a.gds", "z", "1"],
+            PLAIN,
+            &[FIRST],
+            &rt,
+            NONE,
+        )?,
+        3,
+        b"openram: 31 UnknownStruct z\n",
+    );
+    expect_reply(
         &rt,
-        NONE,
-    )?;
-    assert_eq!(rt; tech, 3);
-    assert_eq!(rt; text.written(), b"openram: 67 NoFile u.toml\n".as_slice());
-    let (gds, text) = answer(
-        alloc,
-        &["check", "t.toml", "b.gds", "t", "1"],
-        PLAIN,
-        &[],
+        answer(
+            alloc,
+            &["check", "u.toml", "a.gds", "t", "1"],
+            PLAIN,
+            &[],
+            &rt,
+            NONE,
+        )?,
+        3,
+        b"openram: 67 NoFile u.toml\n",
+    );
+    expect_reply(
         &rt,
-        NONE,
-    )?;
-    assert_eq!(rt; gds, 3);
-    assert_eq!(rt; text.written(), b"openram: 67 NoFile b.gds\n".as_slice());
+        answer(
+            alloc,
+            &["check", "t.toml", "b.gds", "t", "1"],
+            PLAIN,
+            &[],
+            &rt,
+            NONE,
+        )?,
+        3,
+        b"openram: 67 NoFile b.gds\n",
+    );
     Ok(())
 }
 
 #[test]
 fn words_that_are_no_form(rt: HostRuntime) -> Result<(), Fail> {
     let alloc = rt.alloc();
-    let (workers, text) = answer(
-        alloc,
-        &["check", "t.toml", "a.gds", "t", "65"],
-        PLAIN,
-        &[],
+    expect_reply(
         &rt,
-        NONE,
-    )?;
-    assert_eq!(rt; workers, 2);
-    assert_eq!(rt; text.written(), b"openram: 90 Usage\n".as_slice());
-    let (none, text) = answer(alloc, &[], PLAIN, &[], &rt, NONE)?;
-    assert_eq!(rt; none, 2);
-    assert_eq!(rt; text.written(), b"openram: 90 Usage\n".as_slice());
+        answer(
+            alloc,
+            &["check", "t.toml", "a.gds", "t", "65"],
+            PLAIN,
+            &[],
+            &rt,
+            NONE,
+        )?,
+        2,
+        b"openram: 90 Usage\n",
+    );
+    expect_reply(
+        &rt,
+        answer(alloc, &[], PLAIN, &[], &rt, NONE)?,
+        2,
+        b"openram: 90 Usage\n",
+    );
     Ok(())
 }
 
@@ -255,70 +286,76 @@ fn words_that_are_no_form(rt: HostRuntime) -> Result<(), Fail> {
 fn calls_that_fail(rt: HostRuntime) -> Result<(), Fail> {
     let alloc = rt.alloc();
     let near = [FIRST, [8, 0, 12, 4]];
-    let (tech, text) = answer(
-        alloc,
-        &CHECK,
-        PLAIN,
-        &near,
+    expect_reply(
         &rt,
-        Failing { store: 1, sink: 0 },
-    )?;
-    assert_eq!(rt; tech, 4);
-    assert_eq!(rt;
-        text.written(),
-        b"openram: 91 ReadFailed t.toml\n".as_slice()
+        answer(
+            alloc,
+            &CHECK,
+            PLAIN,
+            &near,
+            &rt,
+            Failing { store: 1, sink: 0 },
+        )?,
+        4,
+        b"openram: 91 ReadFailed t.toml\n",
     );
-    let (gds, text) = answer(
-        alloc,
-        &CHECK,
-        PLAIN,
-        &near,
+    expect_reply(
         &rt,
-        Failing { store: 2, sink: 0 },
-    )?;
-    assert_eq!(rt; gds, 4);
-    assert_eq!(rt;
-        text.written(),
-        b"openram: 91 ReadFailed a.gds\n".as_slice()
+        answer(
+            alloc,
+            &CHECK,
+            PLAIN,
+            &near,
+            &rt,
+            Failing { store: 2, sink: 0 },
+        )?,
+        4,
+        b"openram: 91 ReadFailed a.gds\n",
     );
-    let (put, text) = answer(
-        alloc,
-        &CHECK,
-        PLAIN,
-        &near,
+    expect_reply(
         &rt,
-        Failing { store: 0, sink: 1 },
-    )?;
-    assert_eq!(rt; put, 4);
-    assert_eq!(rt; text.written(), b"1 m1 0 0 4 4".as_slice());
-    let (both, text) = answer(
-        alloc,
-        &CHECK,
-        PLAIN,
-        &near,
+        answer(
+            alloc,
+            &CHECK,
+            PLAIN,
+            &near,
+            &rt,
+            Failing { store: 0, sink: 1 },
+        )?,
+        4,
+        b"1 m1 0 0 4 4",
+    );
+    expect_reply(
         &rt,
-        Failing { store: 1, sink: 1 },
-    )?;
-    assert_eq!(rt; both, 4);
-    assert_eq!(rt; text.written(), b"openram: 91 Rea".as_slice());
+        answer(
+            alloc,
+            &CHECK,
+            PLAIN,
+            &near,
+            &rt,
+            Failing { store: 1, sink: 1 },
+        )?,
+        4,
+        b"openram: 91 Rea",
+    );
     Ok(())
 }
 
 /// Of two lines the second put fails, and so the second line alone is cut.
 #[test]
 fn each_line_is_one_put(rt: HostRuntime) -> Result<(), Fail> {
-    let (status, text) = answer(
-        rt.alloc(),
-        &CHECK,
-        PLAIN,
-        &[FIRST, [8, 0, 12, 4], [16, 0, 20, 4]],
+    expect_reply(
         &rt,
-        Failing { store: 0, sink: 2 },
-    )?;
-    assert_eq!(rt; status, 4);
-    assert_eq!(rt;
-        text.written(),
-        b"1 m1 0 0 4 4 m1 8 0 12 4\n1 m1 8 0 12 4".as_slice()
+        answer(
+            rt.alloc(),
+            &CHECK,
+            PLAIN,
+            &[FIRST, [8, 0, 12, 4], [16, 0, 20, 4]],
+            &rt,
+            Failing { store: 0, sink: 2 },
+        )?,
+        4,
+        b"1 m1 0 0 4 4 m1 8 0 12 4\n1 m1 8 0 12 4",
     );
     Ok(())
 }
@@ -328,9 +365,12 @@ fn each_line_is_one_put(rt: HostRuntime) -> Result<(), Fail> {
 fn dropped_records(rt: HostRuntime) -> Result<(), Fail> {
     let alloc = rt.alloc();
     let gds = library_with(alloc, &[FIRST, [8, 0, 12, 4]], true, [0x5A, 0x54])?;
-    let (status, text) = answer_on(alloc, &CHECK, PLAIN, gds, &rt, NONE)?;
-    assert_eq!(rt; status, 1);
-    assert_eq!(rt; text.written(), b"1 m1 0 0 4 4 m1 8 0 12 4\n".as_slice());
+    expect_reply(
+        &rt,
+        answer_on(alloc, &CHECK, PLAIN, gds, &rt, NONE)?,
+        1,
+        b"1 m1 0 0 4 4 m1 8 0 12 4\n",
+    );
     Ok(())
 }
 
@@ -339,13 +379,19 @@ fn dropped_records(rt: HostRuntime) -> Result<(), Fail> {
 fn units_within_rounding(rt: HostRuntime) -> Result<(), Fail> {
     let alloc = rt.alloc();
     let near = library_with(alloc, &[FIRST], false, [0x5B, 0x54])?;
-    let (status, text) = answer_on(alloc, &CHECK, PLAIN, near, &rt, NONE)?;
-    assert_eq!(rt; status, 0);
-    assert_eq!(rt; text.written(), b"".as_slice());
+    expect_reply(
+        &rt,
+        answer_on(alloc, &CHECK, PLAIN, near, &rt, NONE)?,
+        0,
+        b"",
+    );
     let far = library_with(alloc, &[FIRST], false, [0x5B, 0x55])?;
-    let (status, text) = answer_on(alloc, &CHECK, PLAIN, far, &rt, NONE)?;
-    assert_eq!(rt; status, 3);
-    assert_eq!(rt; text.written(), b"openram: 4 BadUnits 40\n".as_slice());
+    expect_reply(
+        &rt,
+        answer_on(alloc, &CHECK, PLAIN, far, &rt, NONE)?,
+        3,
+        b"openram: 4 BadUnits 40\n",
+    );
     Ok(())
 }
 
@@ -354,20 +400,23 @@ fn where_a_library_ends(rt: HostRuntime) -> Result<(), Fail> {
     let alloc = rt.alloc();
     let mut cut = library(alloc, &[FIRST])?;
     cut.truncate(130);
-    let (status, text) = answer_on(alloc, &CHECK, PLAIN, cut, &rt, NONE)?;
-    assert_eq!(rt; status, 3);
-    assert_eq!(rt; text.written(), b"openram: 1 Truncated 110\n".as_slice());
+    expect_reply(
+        &rt,
+        answer_on(alloc, &CHECK, PLAIN, cut, &rt, NONE)?,
+        3,
+        b"openram: 1 Truncated 110\n",
+    );
     let mut zeros = library(alloc, &[FIRST])?;
     zeros.extend_from_slice(&[0; 6])?;
     let (status, _) = answer_on(alloc, &CHECK, PLAIN, zeros, &rt, NONE)?;
     assert_eq!(rt; status, 0);
     let mut more = library(alloc, &[FIRST])?;
     more.extend_from_slice(&[7])?;
-    let (status, text) = answer_on(alloc, &CHECK, PLAIN, more, &rt, NONE)?;
-    assert_eq!(rt; status, 3);
-    assert_eq!(rt;
-        text.written(),
-        b"openram: 8 TrailingBytes 166\n".as_slice()
+    expect_reply(
+        &rt,
+        answer_on(alloc, &CHECK, PLAIN, more, &rt, NONE)?,
+        3,
+        b"openram: 8 TrailingBytes 166\n",
     );
     Ok(())
 }

@@ -3,7 +3,7 @@ use Rattle.std.specs.Ordering.{is_eq, int_cmp}
 use Rattle.std.specs.FinMap.{int_cmp-IsAntisymmetric}
 use Rattle.std.specs.Cmp.{Equal-is}
 use Rattle.std.proofs.Props.{props}
-use Rattle.std.proofs.Common.{◌≡◌, ◌≢◌, Bool, true, false, ◌&&◌, ℕ, ◌+◌, subst, ℤ, ◌<ℤ◌, ◌+ℤ◌, w64, FitsSigned, to_z, of_z, refl, ap, ◌∙◌, sym, arith}
+use Rattle.std.proofs.Common.{◌≡◌, ◌≢◌, Bool, true, false, ◌&&◌, ℕ, ◌+◌, subst, ℤ, ◌<ℤ◌, ◌+ℤ◌, w64, FitsSigned, to_z, of_z, refl, ap, ◌∙◌, sym, arith, pos}
 use Rattle.std.proofs.lemmas.Int.{ints, to_z-of_z}
 use Rattle.or_geom.specs.declared.shape.Point.{Point}
 use Rattle.or_geom.specs.declared.shape.Rect.{Rect}
@@ -12,6 +12,9 @@ use Rattle.or_geom.specs.declared.place.Orient.{Orient}
 use Rattle.or_geom.specs.declared.place.Orient.TheVariants.{R0, R90, R180, R270, MX, MX90, MX180, MX270}
 use Rattle.or_geom.specs.declared.place.Place.{Place}
 use Rattle.or_geom.specs.Place.{IsWithin, quarter, reflected, turned, placed, low_corner, high_corner, IsImage}
+
+abbrev pub origin : Point
+origin = record { x = pos 0; y = pos 0 }
 
 pub same_point : (p q : Point) → p.x ≡ q.x → p.y ≡ q.y → p ≡ q
 same_point p q x y = λ i. record { x = x i; y = y i }

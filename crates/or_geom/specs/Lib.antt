@@ -7,3 +7,4 @@ pub mod Contact
 pub mod Texts
 pub mod Row
 pub mod Place
+pub mod Least

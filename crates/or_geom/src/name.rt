@@ -2,6 +2,7 @@ ghost use Rattle.std.specs.Prelude.{◌≡◌, ◌↔◌, IfOk, IsTrue};
 
 use crate::memory::Memory;
 use std::alloc::Global;
+use std::fmt;
 use std::marker::Model;
 
 /// A name, which is a text of bytes: of a file, a structure, a layer, a pin, an instance.
@@ -17,6 +18,16 @@ impl Model for Name {
     ghost Value = { List ℕ };
 
     ghost view = { λ n. n.bytes.items };
+}
+
+/// A character for each byte, for messages to people.
+impl fmt::Display for Name {
+    fn fmt<W: fmt::Write>(&self, f: &mut fmt::Formatter<W>) -> fmt::Result {
+        for byte in &self.bytes {
+            write!(f, "{}", char::from(*byte))?;
+        }
+        Ok(())
+    }
 }
 
 impl Name {

@@ -1,6 +1,5 @@
 -- A loop that gathers what the items of a list give: whatever adds what the rest gives makes it all.
-use Rattle.std.proofs.Common.{◌≡◌, inl, inr, ℕ, ◌+◌, ◌<◌, ◌≤◌, List, [], ◌∷◌, length, get_or, drop, sym, subst, ◌∙◌, ap}
-use Rattle.std.proofs.lemmas.List.{at_drop_more, at_drop_all}
+use Rattle.std.proofs.Common.{◌≡◌, inl, inr, ℕ, ◌+◌, ◌<◌, List, [], ◌∷◌, length, get_or, drop, sym, subst}
 use Rattle.std.specs.Prelude.{Contains}
 use Rattle.std.specs.Cmp.{IsTotalOrder}
 use Rattle.std.specs.List.Sorted.{IsStrictlySortedBy}

@@ -1,6 +1,6 @@
 -- Nodes that reach themselves: the last reference of the way back.
-use Rattle.std.proofs.Common.{◌≡◌, ◌↔◌, ℕ, zero, suc, ◌<◌, Bool, true, false, List, [], ◌∷◌, length, refl, sym, subst, arith}
-use Rattle.reference_graph.specs.Reaches.{RefersTo, IsPath, Reaches, ReachesItself, IsMarked, MarksReached, IsReferredTo}
+use Rattle.std.proofs.Common.{◌↔◌, ℕ, Bool, List, [], ◌∷◌, refl, sym, subst}
+use Rattle.reference_graph.specs.Reaches.{RefersTo, IsPath, Reaches, ReachesItself, MarksReached, IsReferredTo}
 use Rattle.reference_graph.proofs.PathLaws.{itself_from}
 
 -- the last reference of a path that is not empty

@@ -1,9 +1,8 @@
 -- What an order in which each node comes after all that it refers to says of paths, and how to argue along it.
-use Rattle.std.proofs.Common.{◌≡◌, ℕ, zero, suc, ◌<◌, ◌≤◌, List, [], ◌∷◌, length, get_or, sym, subst, ◌∙◌, arith}
+use Rattle.std.proofs.Common.{◌≡◌, ℕ, ◌<◌, ◌≤◌, List, [], ◌∷◌, length, get_or, sym, subst, ◌∙◌, arith}
 use Rattle.std.specs.Prelude.{Contains}
 use Rattle.std.proofs.lemmas.List.{get_or_default}
-use Rattle.std.proofs.lemmas.List.Elements.{Contains-get_or}
-use Rattle.reference_graph.specs.Reaches.{RefersTo, IsPath, Reaches, ReachesItself, IsAcyclic}
+use Rattle.reference_graph.specs.Reaches.{RefersTo, IsPath, ReachesItself, IsAcyclic}
 use Rattle.reference_graph.specs.BottomUp.{StandsBefore, IsBottomUp, IsOrder}
 
 -- what stands before an earlier place stands before a later one

@@ -1,14 +1,15 @@
 -- Slabs have exactly the cells inside.
-use Rattle.std.proofs.Common.{◌≡◌, ◌⊎◌, inl, inr, List, [], ◌∷◌, ℤ, ◌≤ℤ◌, ◌<ℤ◌, Bool, true, false, ◌&&◌, refl, sym, subst, ◌∙◌, arith}
+use Rattle.std.proofs.Common.{◌≡◌, ◌⊎◌, inl, inr, List, [], ◌∷◌, ℤ, ◌≤ℤ◌, ◌<ℤ◌, Bool, true, false, ◌&&◌, refl, sym, ◌∙◌, arith}
 use Rattle.std.specs.Prelude.{int_le, Contains}
 use Rattle.std.proofs.lemmas.Int.{ints, by_lt_z}
 use Rattle.or_geom.specs.declared.shape.Point.{Point}
 use Rattle.slabs.specs.declared.ends.End.{End}
 use Rattle.rectilinear.specs.declared.ring.Side.{Side}
 use Rattle.or_geom.specs.declared.shape.Rect.{Rect}
-use Rattle.or_geom.specs.Covered.{HasCell, HasCellInSome}
-use Rattle.or_geom.proofs.ListLaws.{contains_none, contains_cases, contains_first, contains_later}
+use Rattle.or_geom.specs.Covered.{HasCellInSome}
+use Rattle.or_geom.proofs.ListLaws.{contains_first, contains_later}
 use Rattle.or_geom.proofs.CoverLaws.{cell_among}
+use Rattle.slabs.specs.Heights.{IsNext}
 use Rattle.rectilinear.specs.Ring.{sides_on, sides_of}
 use Rattle.slabs.specs.Slabs.{xor, is_below, passes, is_odd_left, IsInside, HasHeight, AreNeighbours, IsSlab, IsSlabList}
 use Rattle.slabs.specs.Laws.{SlabsFill}
@@ -63,11 +64,6 @@ record IsGreatest (ps : List Point) (y l : ℤ) : Type 0 where
   pub le : l ≤ℤ y
   pub most : (h : ℤ) → HasHeight ps h → h ≤ℤ y → h ≤ℤ l
 
-record IsLeast (ps : List Point) (y u : ℤ) : Type 0 where
-  pub has : HasHeight ps u
-  pub lt : y <ℤ u
-  pub least : (h : ℤ) → HasHeight ps h → y <ℤ h → u ≤ℤ h
-
 greatest : (ps : List Point) (y : ℤ) → ((h : ℤ) → HasHeight ps h → y <ℤ h) ⊎ ((l : ℤ) × IsGreatest ps y l)
 greatest [] y = inl (λ h has. absurd has)
 greatest (p ∷ ps) y = by_lt_z y p.y
@@ -82,26 +78,26 @@ greatest (p ∷ ps) y = by_lt_z y p.y
           (λ ge. inr (some.0, record { has = inr g.has; le = g.le; most = λ h has le. elim has [ inl e ↦ omega (arith, ints, e, ge) | inr later ↦ g.most h later le ] }))
     ])
 
-least : (ps : List Point) (y : ℤ) → ((h : ℤ) → HasHeight ps h → h ≤ℤ y) ⊎ ((u : ℤ) × IsLeast ps y u)
+least : (ps : List Point) (y : ℤ) → ((h : ℤ) → HasHeight ps h → h ≤ℤ y) ⊎ ((u : ℤ) × IsNext ps y u)
 least [] y = inl (λ h has. absurd has)
 least (p ∷ ps) y = by_lt_z y p.y
     (λ above. elim (least ps y) [
-      | inl none ↦ inr (p.y, record { has = inl refl; lt = above; least = λ h has lt. elim has [ inl e ↦ omega (arith, ints, e) | inr later ↦ let n = none h later in absurd (omega (arith, ints, n, lt)) ] })
+      | inl none ↦ inr (p.y, record { has = inl refl; above = above; none = λ h has lt. elim has [ inl e ↦ omega (arith, ints, e) | inr later ↦ let n = none h later in absurd (omega (arith, ints, n, lt)) ] })
       | inr some ↦ let g = some.1 in by_lt_z p.y some.0
-          (λ less. inr (p.y, record { has = inl refl; lt = above; least = λ h has lt. elim has [ inl e ↦ omega (arith, ints, e) | inr later ↦ let n = g.least h later lt in omega (arith, ints, n, less) ] }))
-          (λ ge. inr (some.0, record { has = inr g.has; lt = g.lt; least = λ h has lt. elim has [ inl e ↦ omega (arith, ints, e, ge) | inr later ↦ g.least h later lt ] }))
+          (λ less. inr (p.y, record { has = inl refl; above = above; none = λ h has lt. elim has [ inl e ↦ omega (arith, ints, e) | inr later ↦ let n = g.none h later lt in omega (arith, ints, n, less) ] }))
+          (λ ge. inr (some.0, record { has = inr g.has; above = g.above; none = λ h has lt. elim has [ inl e ↦ omega (arith, ints, e, ge) | inr later ↦ g.none h later lt ] }))
     ])
     (λ under. elim (least ps y) [
       | inl none ↦ inl (λ h has. elim has [ inl e ↦ omega (arith, ints, e, under) | inr later ↦ none h later ])
-      | inr some ↦ let g = some.1 in inr (some.0, record { has = inr g.has; lt = g.lt; least = λ h has lt. elim has [ inl e ↦ absurd (omega (arith, ints, e, under, lt)) | inr later ↦ g.least h later lt ] })
+      | inr some ↦ let g = some.1 in inr (some.0, record { has = inr g.has; above = g.above; none = λ h has lt. elim has [ inl e ↦ absurd (omega (arith, ints, e, under, lt)) | inr later ↦ g.none h later lt ] })
     ])
 
-neighbours : (corners : List Point) (y l u : ℤ) → IsGreatest corners y l → IsLeast corners y u → AreNeighbours corners l u
+neighbours : (corners : List Point) (y l u : ℤ) → IsGreatest corners y l → IsNext corners y u → AreNeighbours corners l u
 neighbours corners y l u g m = record {
   has_low = g.has;
   has_high = m.has;
-  below = omega (arith, ints, g.le, m.lt);
-  none = λ h has lt. by_lt_z y h (λ above. m.least h has above) (λ under. let n = g.most h has under in absurd (omega (arith, ints, n, lt)));
+  below = omega (arith, ints, g.le, m.above);
+  none = λ h has lt. by_lt_z y h (λ above. m.none h has above) (λ under. let n = g.most h has under in absurd (omega (arith, ints, n, lt)));
 }
 
 none_pass : (p : Point) (qs : List Point) (last : Point) (x y : ℤ) (b : Bool) → is_below p y ≡ b → ((h : ℤ) → HasHeight qs h → int_le h y ≡ b) → is_below last y ≡ b → is_odd_left (sides_on p qs last) x y ≡ false
@@ -119,15 +115,15 @@ ring_none : (corners : List Point) (x y : ℤ) (b : Bool) → ((h : ℤ) → Has
 ring_none [] x y b all = refl
 ring_none (p ∷ ps) x y b all = none_pass p ps p x y b (all p.y (inl refl)) (λ h has. all h (inr has)) (all p.y (inl refl))
 
-in_slab : (corners : List Point) (rects : List Rect) (x y l u : ℤ) → IsSlabList corners rects → IsGreatest corners y l → IsLeast corners y u → IsInside corners x y → HasCellInSome rects x y
+in_slab : (corners : List Point) (rects : List Rect) (x y l u : ℤ) → IsSlabList corners rects → IsGreatest corners y l → IsNext corners y u → IsInside corners x y → HasCellInSome rects x y
 in_slab corners rects x y l u are g m odd =
     let near = neighbours corners y l u g m in
     let es = ends_after (sides_of corners) (sides_of corners) l [] (ends_none (sides_of corners) l) in
     let e = es.1 in
     let pairs = pairs_some es.0 l u near.below e.rise (e.even ∙ ring_is_closed corners l) in
-    let at = pair_at es.0 l u pairs.0 x e.rise pairs.1 (e.same x ∙ sym (row_is_uniform corners l u x y near g.le m.lt) ∙ odd) in
+    let at = pair_at es.0 l u pairs.0 x e.rise pairs.1 (e.same x ∙ sym (row_is_uniform corners l u x y near g.le m.above) ∙ odd) in
     let slab = (band_slabs corners l u es.0 pairs.0 g.has (record { has = m.has; above = near.below; none = near.none }) e pairs.1).only at.box at.one in
-    cell_among rects at.box x y ((are.exact at.box).1 slab) (record { left = at.left; right = at.right; low = omega (arith, ints, at.low_is, g.le); high = omega (arith, ints, at.high_is, m.lt) })
+    cell_among rects at.box x y ((are.exact at.box).1 slab) (record { left = at.left; right = at.right; low = omega (arith, ints, at.low_is, g.le); high = omega (arith, ints, at.high_is, m.above) })
 
 in_some_slab : (corners : List Point) (rects : List Rect) (x y : ℤ) → IsSlabList corners rects → IsInside corners x y → HasCellInSome rects x y
 in_some_slab corners rects x y are odd = elim (greatest corners y) [

@@ -1,7 +1,6 @@
 -- What the loops keep.
-use Rattle.std.proofs.Common.{◌≡◌, ◌⊎◌, inl, inr, List, [], ◌∷◌, ◌++◌, ℤ, ◌≤ℤ◌, ◌<ℤ◌, Bool, true, false, not, ◌&&◌, Option, Some, None, MatchOption, refl, ap, sym, subst, ◌∙◌, append_assoc}
+use Rattle.std.proofs.Common.{◌≡◌, ◌⊎◌, List, [], ◌∷◌, ◌++◌, ℤ, ◌<ℤ◌, Bool, true, false, not, ◌&&◌, Option, Some, None, refl, ap, sym, subst, ◌∙◌, append_assoc}
 use Rattle.std.specs.Prelude.{int_le}
-use Rattle.std.proofs.lemmas.Int.{by_lt_z}
 use Rattle.or_geom.specs.declared.shape.Point.{Point}
 use Rattle.slabs.specs.declared.ends.End.{End}
 use Rattle.rectilinear.specs.declared.ring.Side.{Side}
@@ -9,7 +8,7 @@ use Rattle.or_geom.specs.declared.shape.Rect.{Rect}
 use Rattle.slabs.specs.declared.heights.Height.{Height}
 use Rattle.slabs.specs.Slabs.{xor, passes, is_odd_left, HasHeight}
 use Rattle.slabs.specs.Rows.{is_odd_to, is_odd, is_odd_passed, Rise, AreEnds, ArePairs, IsToggled}
-use Rattle.slabs.specs.Heights.{IsAtMost, IsFrom, IsNearer, IsNext}
+use Rattle.slabs.specs.Heights.{IsAtMost}
 use Rattle.slabs.proofs.RowLaws.{rises}
 use Rattle.slabs.proofs.ToggleLaws.{twice_not}
 

@@ -1,5 +1,5 @@
 -- Members of lists of rectangles.
-use Rattle.std.proofs.Common.{◌≡◌, ◌⊎◌, inl, inr, ℕ, zero, suc, ◌<◌, List, [], ◌∷◌, ◌++◌, length, slice_index_or, refl, sym, arith}
+use Rattle.std.proofs.Common.{inl, inr, List, [], ◌∷◌, ◌++◌}
 use Rattle.std.specs.Prelude.{Contains}
 use Rattle.std.proofs.lemmas.List.Elements.{Contains-append_cases}
 use Rattle.or_geom.specs.declared.shape.Rect.{Rect}

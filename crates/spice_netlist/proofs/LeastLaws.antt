@@ -6,21 +6,19 @@ use Rattle.std.specs.Cmp.Lexicographic.{slice_cmp}
 use Rattle.std.proofs.lemmas.Cmp.{nat_list_cmp_total}
 use Rattle.std.specs.declared.cmp.Ordering.{Ordering}
 use Rattle.std.specs.declared.cmp.Ordering.TheVariants.{Less, Equal, Greater}
-use Rattle.spice_netlist.specs.Least.{IsLeast, IsLeastOf, lesser_of}
-
-abbrev compare : List ℕ → List ℕ → Ordering
-compare a b = slice_cmp nat_cmp a b
+use Rattle.or_geom.specs.Least.{IsLeast, name_order}
+use Rattle.spice_netlist.specs.Least.{IsLeastOf, lesser_of}
 
 -- a is at most b, and b at most c
-after : (a b c : List ℕ) (o p : Ordering) → compare a b ≡ o → compare b c ≡ p → (o ≡ Greater → ⊥) → (p ≡ Greater → ⊥) → compare a c ≡ Greater → ⊥
+after : (a b c : List ℕ) (o p : Ordering) → name_order a b ≡ o → name_order b c ≡ p → (o ≡ Greater → ⊥) → (p ≡ Greater → ⊥) → name_order a c ≡ Greater → ⊥
 after a b c Greater p ab bc no_first no_second h = no_first refl
 after a b c Equal p ab bc no_first no_second h = no_second (sym bc ∙ sym (nat_list_cmp_total.congr a b c ab) ∙ h)
 after a b c Less Greater ab bc no_first no_second h = no_second refl
-after a b c Less Less ab bc no_first no_second h = let less : compare a c ≡ Less = nat_list_cmp_total.trans a b c ab bc in absurd cc
+after a b c Less Less ab bc no_first no_second h = let less : name_order a c ≡ Less = nat_list_cmp_total.trans a b c ab bc in absurd cc
 after a b c Less Equal ab bc no_first no_second h =
-    let ba : compare b a ≡ Greater = nat_list_cmp_total.antisymm b a ∙ ap ordering_reverse ab in
-    let cb : compare b a ≡ compare c a = nat_list_cmp_total.congr b c a bc in
-    let ca : compare c a ≡ Less = nat_list_cmp_total.antisymm c a ∙ ap ordering_reverse h in
+    let ba : name_order b a ≡ Greater = nat_list_cmp_total.antisymm b a ∙ ap ordering_reverse ab in
+    let cb : name_order b a ≡ name_order c a = nat_list_cmp_total.congr b c a bc in
+    let ca : name_order c a ≡ Less = nat_list_cmp_total.antisymm c a ∙ ap ordering_reverse h in
     absurd cc
 
 not_after : (o : Ordering) → is_gt o ≡ false → o ≡ Greater → ⊥
@@ -28,25 +26,25 @@ not_after Less h e = absurd cc
 not_after Equal h e = absurd cc
 not_after Greater h e = absurd cc
 
-is_before : (a b : List ℕ) (o : Ordering) → compare a b ≡ o → is_gt o ≡ true → compare b a ≡ Greater → ⊥
+is_before : (a b : List ℕ) (o : Ordering) → name_order a b ≡ o → is_gt o ≡ true → name_order b a ≡ Greater → ⊥
 is_before a b Less e h back = absurd cc
 is_before a b Equal e h back = absurd cc
 is_before a b Greater e h back =
-    let less : compare b a ≡ Less = nat_list_cmp_total.antisymm b a ∙ ap ordering_reverse e in
+    let less : name_order b a ≡ Less = nat_list_cmp_total.antisymm b a ∙ ap ordering_reverse e in
     absurd cc
 
-pub self_least : (a b : List ℕ) → a ≡ b → compare a b ≡ Greater → ⊥
+pub self_least : (a b : List ℕ) → a ≡ b → name_order a b ≡ Greater → ⊥
 self_least a b e h =
-    let same : compare a a ≡ Greater = subst (λ (x : List ℕ). compare a x ≡ Greater) (sym e) h in
-    let back : compare a a ≡ Less = nat_list_cmp_total.antisymm a a ∙ ap ordering_reverse same in
+    let same : name_order a a ≡ Greater = subst (λ (x : List ℕ). name_order a x ≡ Greater) (sym e) h in
+    let back : name_order a a ≡ Less = nat_list_cmp_total.antisymm a a ∙ ap ordering_reverse same in
     absurd cc
 
-module _ (P Q : List ℕ → Type 0) (name : List ℕ) (q : Q name) (low : (other : List ℕ) → Q other → compare name other ≡ Greater → ⊥) where
-  better : (best : List ℕ) (b : Bool) → is_gt (compare best name) ≡ b → IsLeast P best → IsLeast (λ n. P n ⊎ Q n) (cond b name best)
+module _ (P Q : List ℕ → Type 0) (name : List ℕ) (q : Q name) (low : (other : List ℕ) → Q other → name_order name other ≡ Greater → ⊥) where
+  better : (best : List ℕ) (b : Bool) → is_gt (name_order best name) ≡ b → IsLeast P best → IsLeast (λ n. P n ⊎ Q n) (cond b name best)
   better best true is l = record {
     has = inr q;
     least = λ other h. elim h [
-      | inl p ↦ after name best other (compare name best) (compare best other) refl refl (is_before best name (compare best name) refl is) (l.least other p)
+      | inl p ↦ after name best other (name_order name best) (name_order best other) refl refl (is_before best name (name_order best name) refl is) (l.least other p)
       | inr k ↦ low other k
     ];
   }
@@ -54,14 +52,14 @@ module _ (P Q : List ℕ → Type 0) (name : List ℕ) (q : Q name) (low : (othe
     has = inl l.has;
     least = λ other h. elim h [
       | inl p ↦ l.least other p
-      | inr k ↦ after best name other (compare best name) (compare name other) refl refl (not_after (compare best name) is) (low other k)
+      | inr k ↦ after best name other (name_order best name) (name_order name other) refl refl (not_after (name_order best name) is) (low other k)
     ];
   }
 
   -- with the least of Q beside the best of P
   pub least_more : (found : Option (List ℕ)) → IsLeastOf P found → IsLeast (λ n. P n ⊎ Q n) (lesser_of found name)
   least_more None none = record { has = inr q; least = λ other h. elim h [ inl p ↦ absurd (none other p) | inr k ↦ low other k ] }
-  least_more (Some best) l = better best (is_gt (compare best name)) refl l
+  least_more (Some best) l = better best (is_gt (name_order best name)) refl l
 
 -- the same of what says as much
 least_as : (P R : List ℕ → Type 0) → ((n : List ℕ) → P n → R n) → ((n : List ℕ) → R n → P n) → (name : List ℕ) → IsLeast P name → IsLeast R name

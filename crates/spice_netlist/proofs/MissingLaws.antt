@@ -5,10 +5,11 @@ use Rattle.std.proofs.lemmas.List.{get_or_past}
 use Rattle.std.proofs.lemmas.Bool.{cases_lt}
 use Rattle.std.proofs.lemmas.List.Elements.{Contains-push, Contains-push_cases, Contains-append_left}
 use Rattle.or_geom.proofs.ListLaws.{contains_none, none_is}
+use Rattle.or_geom.specs.Least.{IsLeast}
 use Rattle.reference_graph.specs.Reaches.{IsMarked, MarksReached, ReachesItself}
 use Rattle.spice_netlist.specs.declared.block.Block.{Block}
 use Rattle.spice_netlist.specs.declared.block.Part.{Part}
-use Rattle.spice_netlist.specs.Least.{IsLeast, IsLeastOf, IsMissingIn, lesser_of}
+use Rattle.spice_netlist.specs.Least.{IsLeastOf, IsMissingIn, lesser_of}
 use Rattle.spice_netlist.specs.Resolved.{parts_at, name_at, graph}
 use Rattle.spice_netlist.specs.Faults.{IsUnknown, IsCyclic}
 use Rattle.spice_netlist.proofs.ListLaws.{front_at}

@@ -1,12 +1,13 @@
 -- Which refusal comes first, and what the rows are where none does.
 use Rattle.std.specs.Prelude.{◌≡◌, ◌⊎◌, ℕ, ◌+◌, ◌^◌, ◌<◌, ◌≤◌, List, length, Option, None, Some}
+use Rattle.or_geom.specs.Least.{IsLeast}
 use Rattle.netlist.specs.declared.deck.Subckt.{Subckt}
 use Rattle.netlist.specs.declared.rows.RowPin.{RowPin}
 use Rattle.reference_graph.specs.Reaches.{Reaches, ReachesItself, IsAcyclic}
 use Rattle.spice_netlist.specs.declared.block.Block.{Block}
 use Rattle.spice_netlist.specs.declared.fault.FlatFault.{FlatFault}
 use Rattle.spice_netlist.specs.declared.fault.FlatFault.TheVariants.{UnknownSubckt, Cycle, PortCount, TooMany, Memory}
-use Rattle.spice_netlist.specs.Least.{IsLeast, IsMissingIn}
+use Rattle.spice_netlist.specs.Least.{IsMissingIn}
 use Rattle.spice_netlist.specs.Names.{lower, place_of}
 use Rattle.spice_netlist.specs.Resolved.{names_of, blocks_of, name_at, parts_at, graph}
 use Rattle.spice_netlist.specs.Walk.{walk_at, first_bad, leaf_count}

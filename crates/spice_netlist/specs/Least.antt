@@ -1,14 +1,10 @@
--- The least of names in byte order.
+-- The least of names, where there is one, and names that are missing.
 use Rattle.std.specs.Prelude.{◌≡◌, ◌≢◌, ℕ, List, Option, None, Some, MatchOption, Contains, if◌then◌else◌}
 use Rattle.std.specs.Ordering.{nat_cmp, is_gt}
 use Rattle.std.specs.Cmp.Lexicographic.{slice_cmp}
 use Rattle.std.specs.declared.cmp.Ordering.TheVariants.{Greater}
+use Rattle.or_geom.specs.Least.{IsLeast}
 use Rattle.spice_netlist.specs.declared.block.Part.{Part}
-
--- the name has P, and no name before it in byte order has
-pub record IsLeast (P : List ℕ → Type 0) (name : List ℕ) : Type 0 where
-  pub has : P name
-  pub least : (other : List ℕ) → P other → slice_cmp nat_cmp name other ≢ Greater
 
 -- the least name that has P; None where no name has
 abbrev pub IsLeastOf : (List ℕ → Type 0) → Option (List ℕ) → Type 0

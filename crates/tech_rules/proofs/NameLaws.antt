@@ -1,7 +1,6 @@
 -- Names that differ.
 use Rattle.std.proofs.Common.{◌≡◌, ℕ, ◌+◌, ◌-◌, ◌<◌, ◌≤◌, ◌∙◌, Bool, true, false, List, ◌∷◌, length, get_or, take, drop, refl, sym, ap}
-use Rattle.std.proofs.Math.Seq.{take-length}
-use Rattle.std.proofs.lemmas.List.{at_drop_more, at_drop_all, length-drop, take_rest}
+use Rattle.std.proofs.lemmas.List.{at_drop_more, at_drop_all, take_rest}
 use Rattle.tech_rules.specs.Names.{holds, are_different}
 
 at_name : (names : List (List ℕ)) (i : ℕ) (name : List ℕ) → i < length names → name ≡ get_or names i name → are_different (drop i names) ≡ are_different (name ∷ drop (i + 1) names)

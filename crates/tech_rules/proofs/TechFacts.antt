@@ -1,14 +1,13 @@
 -- What holds of every technology that is read.
-use Rattle.std.proofs.Common.{◌≡◌, ℕ, Bool, true, false, cond, List, [], ◌∷◌, Option, Some, None, Result, Ok, Err, IfOk, IfSome, All, IsTrue, find, option_map, unwrap_or, refl, subst, is_some, codes, pos}
+use Rattle.std.proofs.Common.{◌≡◌, ℕ, Bool, true, false, cond, List, [], ◌∷◌, Option, Some, None, Result, Ok, Err, IfOk, IfSome, All, IsTrue, find, option_map, unwrap_or, refl, subst, is_some, codes}
 use Rattle.std.specs.List.{slice_get}
-use Rattle.std.specs.Option.{option_or, option_and_then, ok_or}
+use Rattle.std.specs.Option.{option_or, option_and_then}
 use Rattle.std.proofs.lemmas.List.Elements.{All-nil, All-head, All-tail, All-push}
 use Rattle.std.proofs.lemmas.Option.{slice_get-get_or}
 use Rattle.toml.specs.Data.{get}
 use Rattle.tech_keys.specs.declared.fault.TechFault.{TechFault}
-use Rattle.tech_keys.specs.declared.fault.TechFault.TheVariants.{NotToml, BadWire}
-use Rattle.tech_keys.specs.Document.{document}
-use Rattle.tech_keys.specs.Keys.{◌>>=◌, Gives, Section, whole, section_under, text_under, each}
+use Rattle.tech_keys.specs.declared.fault.TechFault.TheVariants.{BadWire}
+use Rattle.tech_keys.specs.Keys.{◌>>=◌, Gives, Section, section_under, text_under, each}
 use Rattle.tech_keys.proofs.StepLaws.{steps_of, met_by, each_keeps}
 use Rattle.tech_rules.specs.declared.tech.Layer.{Layer}
 use Rattle.tech_rules.specs.declared.tech.RoleName.{RoleName}
@@ -19,7 +18,7 @@ use Rattle.tech_rules.specs.Facts.{IsPlace, IsWire, IsTech}
 use Rattle.tech_rules.specs.Layers.{layers_under, layer_under}
 use Rattle.tech_rules.specs.Roles.{is_cell_name, role_cell, roles_in, roles_under, rows_under}
 use Rattle.tech_rules.specs.Rules.{rules_under}
-use Rattle.tech_rules.specs.Technology.{tech_in, technology}
+use Rattle.tech_rules.specs.Technology.{tech_in}
 use Rattle.tech_rules.specs.WireRules.{is_bad_metal, is_bad_cut, first_bad_cut, first_bad_place, bad_layer}
 use Rattle.tech_rules.specs.Wires.{wire_under}
 use Rattle.tech_rules.proofs.LayerFacts.{layers_hold}

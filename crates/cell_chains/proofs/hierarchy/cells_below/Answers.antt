@@ -1,11 +1,12 @@
 -- What the graph's searches find, said of chains.
 use Rattle.std.proofs.Common.{◌≡◌, ◌<◌, ◌≤◌, ℕ, List, length, get_or, refl, sym, subst, ◌∙◌, ap, arith}
 use Rattle.std.proofs.lemmas.List.Elements.{Contains-get_or}
+use Rattle.or_geom.specs.Least.{IsLeast}
 use Rattle.reference_graph.specs.Reaches.{IsAcyclic, IsLeastCyclic}
 use Rattle.reference_graph.specs.BottomUp.{IsOrder}
 use Rattle.reference_graph.specs.Height.{IsHeight, AreHeights}
 use Rattle.reference_graph.proofs.PathLaws.{reaches_start, reaches_within}
-use Rattle.cell_chains.specs.Chains.{IsMissing, IsCyclic, IsLeast}
+use Rattle.cell_chains.specs.Chains.{IsMissing, IsCyclic}
 use Rattle.cell_chains.specs.Numbering.{texts}
 use Rattle.cell_chains.specs.Listing.{IsLeastUnknown, AreKnown, AreListed}
 use Rattle.cell_chains.proofs.NameLaws.{texts_long}

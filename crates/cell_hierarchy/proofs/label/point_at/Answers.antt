@@ -1,7 +1,8 @@
 use Rattle.std.proofs.Common.{◌∙◌, sym, ap}
 use Rattle.or_geom.specs.declared.place.Orient.TheVariants.{R0}
 use Rattle.or_geom.specs.Place.{placed}
-use Rattle.cell_hierarchy.proofs.MovedLaws.{origin, origin_at}
+use Rattle.or_geom.proofs.PlaceLaws.{origin}
+use Rattle.cell_hierarchy.proofs.MovedLaws.{origin_at}
 use Rattle.cell_hierarchy.proofs.label.point_at.Goals as goal
 
 pub returns : goal.returns
