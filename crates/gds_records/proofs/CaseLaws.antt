@@ -1,6 +1,6 @@
 -- Parts that are told apart by their first record, and other forms of their values.
-use Rattle.std.proofs.Common.{◌≡◌, ◌⊎◌, inl, inr, ℕ, ◌≤◌, List, [], ◌∷◌, ◌++◌, length, Bool, true, false, eqb, Result, Ok, Err, refl, sym, ap, subst, ◌∙◌, cond}
-use Rattle.std.proofs.lemmas.Bool.{eqb-true, eq-eqb, eqb-false}
+use Rattle.std.proofs.Common.{◌≡◌, ◌⊎◌, inl, inr, ℕ, ◌≤◌, List, [], ◌∷◌, ◌++◌, length, Bool, true, false, eqb, Result, Ok, Err, refl, ap, subst, ◌∙◌, cond}
+use Rattle.std.proofs.lemmas.Bool.{eqb-true, eqb-false}
 use Rattle.gds_records.specs.Record.{Entry}
 use Rattle.gds_records.specs.Part.{through, Rest, Judge, Part}
 use Rattle.gds_records.specs.declared.stop.Fault.{Fault}
