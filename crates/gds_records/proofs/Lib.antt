@@ -10,3 +10,4 @@ pub mod SpellingLaws
 pub mod PointLists
 pub mod FileLaws
 pub mod StepLaws
+pub mod CompareLaws

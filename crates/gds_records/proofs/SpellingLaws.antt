@@ -127,7 +127,7 @@ even_rows code (row ∷ rows) all =
     let both = and_parts (is_even_form row.1) (list_all (λ (row : ℕ × Form). is_even_form row.1) rows) all in
     even_choice (eqb row.0 code) row.1 (form_in code rows) both.0 (even_rows code rows both.1)
 
-formed_even : (e : Entry) → is_formed e ≡ true → length e.content % 2 ≡ 0
+pub formed_even : (e : Entry) → is_formed e ≡ true → length e.content % 2 ≡ 0
 unfolding is_formed
 formed_even e is = even_has (form_of e.code) e.content (even_rows e.code record_table refl) (and_parts _ _ is).1
 

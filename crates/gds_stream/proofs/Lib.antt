@@ -16,3 +16,7 @@ pub mod RingLaws
 pub mod TurnLaws
 pub mod ContentLaws
 pub mod WritableLaws
+pub mod OneFaultOrder
+pub mod OneFaultGrammar
+pub mod OneFaultKinds
+pub mod OneFaultLaws

@@ -7,3 +7,4 @@ pub mod Names
 pub mod ReadLibrary
 pub mod FirstFault
 pub mod ReadFault
+pub mod OneFault

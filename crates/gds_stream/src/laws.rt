@@ -1,3 +1,4 @@
+ghost use Rattle.gds_stream.specs.OneFault.{FaultsAreUnique, FaultsExcludeLibraries};
 ghost use Rattle.gds_stream.specs.ReadLibrary.{LibrariesAreRead, LibrariesAreUnique};
 ghost use Rattle.gds_stream.specs.Writable.{LibrariesAreWritable};
 
@@ -14,4 +15,14 @@ pub fn libraries_are_read()
 /// What is spelled can be written: each of its values is one that a record can give.
 pub fn libraries_are_writable()
     ensures { LibrariesAreWritable }
+{}
+
+/// Bytes have at most one fault, want of memory aside.
+pub fn faults_are_unique()
+    ensures { FaultsAreUnique }
+{}
+
+/// Bytes that spell a library have no fault, want of memory aside.
+pub fn faults_exclude_libraries()
+    ensures { FaultsExcludeLibraries }
 {}

@@ -20,6 +20,9 @@ mod transform;
 mod values;
 
 pub use fault::GdsFault;
-pub use laws::{libraries_are_read, libraries_are_unique, libraries_are_writable};
+pub use laws::{
+    faults_are_unique, faults_exclude_libraries, libraries_are_read, libraries_are_unique,
+    libraries_are_writable,
+};
 pub use library::{Element, Library, Prop, Structure};
 pub use read::read_gds;
