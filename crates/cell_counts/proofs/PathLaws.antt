@@ -5,7 +5,6 @@ use Rattle.or_geom.specs.declared.shape.Point.{Point}
 use Rattle.or_geom.specs.declared.shape.Rect.{Rect}
 use Rattle.or_geom.proofs.PlaceLaws.{same_rect}
 use Rattle.rectilinear.specs.Ring.{side}
-use Rattle.rectilinear.specs.declared.ring.Side.{Side}
 use Rattle.rectilinear.specs.Simple.{AllStraight, IsStraight}
 use Rattle.gds_stream.specs.Values.{segments, segments_from}
 use Rattle.element_drawing.specs.Paths.{IsBox, IsRightward, IsUpward, IsSegmentBox, AreBoxesFrom, IsEnd, AreBoxes}

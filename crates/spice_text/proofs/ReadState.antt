@@ -1,5 +1,5 @@
 -- What a line of read words does to subcircuits that were read.
-use Rattle.std.proofs.Common.{◌≡◌, ℕ, List, [], ◌∷◌, ◌++◌, Bool, true, false, cond, map, Option, Some, None, Result, Ok, Err, refl, sym, ap, subst, ◌∙◌, append_assoc}
+use Rattle.std.proofs.Common.{◌≡◌, ℕ, List, [], ◌∷◌, ◌++◌, Bool, true, false, cond, map, Option, Some, None, Ok, refl, sym, ap, ◌∙◌, append_assoc}
 use Rattle.std.specs.List.{AllByRecursion}
 use Rattle.std.specs.Str.{bytes_eq}
 use Rattle.std.proofs.lemmas.List.{append-nil, map-append}
@@ -7,7 +7,6 @@ use Rattle.std.specs.Prelude.{codes}
 use Rattle.spice_text.proofs.PassLaws.{ok, passed, two_tests, one_pass, mapped_test}
 use Rattle.netlist.specs.declared.deck.Instance.{Instance}
 use Rattle.netlist.specs.declared.deck.Subckt.{Subckt}
-use Rattle.spice_text.specs.declared.fault.SpiceFault.{SpiceFault}
 use Rattle.spice_text.specs.declared.fault.SpiceFault.TheVariants as fault
 use Rattle.spice_text.specs.declared.statement.Keyword.{Keyword}
 use Rattle.spice_text.specs.declared.statement.Keyword.TheVariants as word
