@@ -1,5 +1,5 @@
 -- There is one least distance and one gap, and what the pairs of a list find is what the rule's definition says.
-use Rattle.std.proofs.Common.{not, Option, ◌≡◌, inl, inr, ℕ, zero, suc, ◌<◌, ℤ, ◌≤ℤ◌, ◌<ℤ◌, List, [], ◌∷◌, length, get_or, Some, None, refl, sym, ap, subst, ◌∙◌, arith, Bool, true, false, IsTrue, ◌↔◌}
+use Rattle.std.proofs.Common.{not, Option, ◌≡◌, inl, inr, ℕ, ℤ, ◌≤ℤ◌, ◌<ℤ◌, List, ◌∷◌, Some, None, refl, sym, ap, subst, ◌∙◌, arith, Bool, true, false, IsTrue, ◌↔◌}
 use Rattle.std.specs.Prelude.{Contains}
 use Rattle.std.specs.List.Sorted.{IsStrictlySortedBy}
 use Rattle.std.proofs.lemmas.Int.{ints, by_lt_z}

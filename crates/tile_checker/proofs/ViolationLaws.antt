@@ -1,11 +1,8 @@
 -- Violations that compare as equal are one.
-use Rattle.std.specs.Ordering.{is_eq, int_cmp}
 use Rattle.std.specs.Option.{option_eq}
-use Rattle.std.proofs.Common.{◌≡◌, Bool, true, ◌&&◌, eqb, Option, Some, None, refl, ap}
+use Rattle.std.proofs.Common.{◌≡◌, true, ◌&&◌, eqb, Option, Some, None, refl, ap}
 use Rattle.std.proofs.lemmas.Bool.{eqb-true, and_parts}
-use Rattle.or_geom.specs.declared.shape.Rect.{Rect}
 use Rattle.or_geom.specs.declared.shape.Shape.{Shape}
-use Rattle.or_geom.proofs.PlaceLaws.{same_box}
 use Rattle.ordered_set.proofs.ShapeOrderLaws.{shape_eq, same_shape}
 use Rattle.tile_checker.specs.declared.violation.Violation.{Violation}
 
