@@ -7,7 +7,7 @@ use Rattle.std.proofs.lemmas.List.Elements.{Contains-get_or}
 use Rattle.reference_graph.proofs.OrderLaws.{path_back}
 use Rattle.reference_graph.specs.Reaches as paths
 use Rattle.reference_graph.specs.Reaches.{RefersTo, IsPath}
-use Rattle.reference_graph.specs.BottomUp.{StandsBefore, IsBottomUp, IsOrder}
+use Rattle.reference_graph.specs.BottomUp.{IsBottomUp, IsOrder}
 use Rattle.reference_graph.specs.Height.{IsHeight, AreHeights}
 use Rattle.reference_graph.proofs.PathLaws.{reaches_start}
 use Rattle.gds_stream.specs.declared.library.Element.{Element}

@@ -1,10 +1,9 @@
 -- What a list contains, item by item, and what a sort and a dedup keep of it.
-use Rattle.std.proofs.Common.{◌≡◌, ◌⊎◌, inl, inr, ℕ, zero, suc, ◌<◌, Bool, true, List, [], ◌∷◌, map, length, get_or, refl, sym, ap, subst, ◌∙◌, arith}
+use Rattle.std.proofs.Common.{◌≡◌, inl, inr, ℕ, Bool, true, List, [], ◌∷◌, map, sym, subst}
 use Rattle.std.specs.Prelude.{Contains}
 use Rattle.std.specs.List.{Any, dedup}
 use Rattle.std.specs.List.Sorted.{IsPermutation}
 use Rattle.std.specs.Cmp.{IsEquivalence}
-use Rattle.std.proofs.lemmas.List.{length-map, get_or-map}
 use Rattle.std.proofs.lemmas.List.Kept.{Any-dedup}
 use Rattle.std.proofs.lemmas.List.Sorted.{Contains-permutation}
 use Rattle.or_geom.proofs.ListLaws.{contains_none, contains_cases, contains_first, contains_later, contains_map}

@@ -1,5 +1,5 @@
 -- The nodes to which elements refer, and the graph of them.
-use Rattle.std.proofs.Common.{◌≡◌, inl, inr, ℕ, ◌+◌, ◌<◌, Bool, true, false, cond, List, [], ◌∷◌, ◌++◌, map, length, get_or, Option, Some, None, refl, sym, ap, subst, ◌∙◌, arith, append_assoc, append-nil}
+use Rattle.std.proofs.Common.{◌≡◌, inl, inr, ℕ, ◌+◌, ◌<◌, Bool, true, false, cond, List, [], ◌∷◌, ◌++◌, map, length, get_or, Option, Some, refl, sym, ap, subst, ◌∙◌, arith, append_assoc}
 use Rattle.std.specs.Prelude.{Contains}
 use Rattle.std.specs.List.{cons_option}
 use Rattle.std.specs.Str.{bytes_eq}
@@ -11,7 +11,7 @@ use Rattle.gds_stream.specs.declared.library.Element.{Element}
 use Rattle.gds_stream.specs.declared.library.Structure.{Structure}
 use Rattle.cell_chains.specs.Chains.{elements_of}
 use Rattle.cell_chains.specs.Hierarchy.{referred_name}
-use Rattle.cell_chains.specs.Numbering.{name_at, referred_names, all_referred, IsNode, AreReferences, IsGraph}
+use Rattle.cell_chains.specs.Numbering.{name_at, referred_names, all_referred, IsNode, AreReferences}
 
 -- so far in a loop over the elements, of which `rest` are left
 pub record IsReading (names : List (List ℕ)) (elements rest : List Element) (nodes : List ℕ) : Type 0 where

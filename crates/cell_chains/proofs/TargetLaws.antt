@@ -1,7 +1,7 @@
 -- The loops that list the cells: one item more.
-use Rattle.std.proofs.Common.{◌≡◌, ◌≢◌, inl, inr, ℕ, ◌+◌, ◌<◌, ◌≤◌, List, [], ◌∷◌, ◌++◌, length, get_or, set, Option, Some, None, sym, ap, subst, ◌∙◌, arith, length-set, get_or-set_same, get_or-set_other}
-use Rattle.std.specs.Prelude.{Contains, All, slice_get}
-use Rattle.std.specs.List.{AllPairs, cons_option}
+use Rattle.std.proofs.Common.{◌≡◌, inl, inr, ℕ, ◌+◌, ◌<◌, List, [], ◌∷◌, ◌++◌, length, get_or, Option, Some, None, sym, ap, subst, ◌∙◌, arith}
+use Rattle.std.specs.Prelude.{Contains, slice_get}
+use Rattle.std.specs.List.{cons_option}
 use Rattle.std.proofs.lemmas.Bool.{cases_lt}
 use Rattle.std.proofs.lemmas.Option.{none-some, same_Some, slice_get_within, get_or_from_slice_get}
 use Rattle.std.proofs.lemmas.List.{length_push, get_or_append_left, get_or_push}
@@ -11,7 +11,7 @@ use Rattle.gds_stream.specs.declared.library.Structure.{Structure}
 use Rattle.cell_chains.specs.declared.cell.Cell.{Cell}
 use Rattle.cell_chains.specs.Hierarchy.{referred_name}
 use Rattle.cell_chains.specs.Numbering.{referred_names}
-use Rattle.cell_chains.specs.Listing.{ArePositions, LeadsTo, AreTargets, IsListed, AreListed}
+use Rattle.cell_chains.specs.Listing.{LeadsTo, AreTargets, IsListed}
 
 -- so far in a loop over the order
 pub record ArePlaced (order : List ℕ) (count done : ℕ) (positions : List ℕ) : Type 0 where

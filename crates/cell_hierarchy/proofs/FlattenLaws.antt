@@ -1,12 +1,9 @@
 -- The flat lists put together.
-use Rattle.std.proofs.Common.{◌≡◌, ◌⊎◌, inl, inr, ℕ, ◌-◌, ◌≤◌, true, ◌&&◌, eqb, List, length, get_or, Some, sym, ap, subst, ◌∙◌, ◌↔◌, arith, refl}
+use Rattle.std.proofs.Common.{◌≡◌, ◌⊎◌, inl, inr, ℕ, ◌-◌, ◌≤◌, List, length, get_or, Some, sym, ap, subst, ◌∙◌, ◌↔◌, arith, refl}
 use Rattle.std.specs.Prelude.{Contains, slice_get, IfOk, IfErr, Result, Ok, Err}
-use Rattle.std.specs.Ordering.{is_eq, int_cmp}
-use Rattle.std.proofs.lemmas.Bool.{and_parts, eqb-true}
 use Rattle.std.proofs.lemmas.Option.{same_Some, slice_get_read}
 use Rattle.or_geom.specs.declared.shape.Point.{Point}
 use Rattle.or_geom.specs.declared.shape.Shape.{Shape}
-use Rattle.or_geom.proofs.PlaceLaws.{same_box}
 use Rattle.gds_stream.specs.declared.library.Structure.{Structure}
 use Rattle.tech_rules.specs.declared.tech.Layer.{Layer}
 use Rattle.element_drawing.specs.declared.label.OwnLabel.{OwnLabel}

@@ -6,12 +6,10 @@ use Rattle.or_geom.specs.declared.place.Orient.{Orient}
 use Rattle.or_geom.specs.declared.place.Orient.TheVariants.{R0, R90, R180, R270, MX, MX90, MX180, MX270}
 use Rattle.or_geom.specs.declared.shape.Shape.{Shape}
 use Rattle.or_geom.specs.declared.place.Place.{Place}
-use Rattle.or_geom.specs.Distance.{IsReachable}
 use Rattle.or_geom.specs.Place.{IsNearPoint, turned, placed}
 use Rattle.or_geom.proofs.PlaceLaws.{image_once, same_point}
 use Rattle.ordered_set.specs.Adds.{Adds}
 use Rattle.ordered_set.specs.Gathering.{SomeGives}
-use Rattle.ordered_set.specs.Reachable.{AreReachable}
 use Rattle.element_drawing.specs.declared.label.OwnLabel.{OwnLabel}
 use Rattle.cell_hierarchy.specs.FlatSet.{IsMoved}
 use Rattle.cell_hierarchy.specs.Below.{IsLabelUnder, AreNearLabels}
