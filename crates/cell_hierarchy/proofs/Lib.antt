@@ -9,3 +9,5 @@ pub mod DrawnLaws
 mod FarLaws
 mod CountLaws
 mod FlattenLaws
+pub mod OneListsLaws
+pub mod OneFaultLaws

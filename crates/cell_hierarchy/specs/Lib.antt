@@ -5,3 +5,4 @@ pub mod Grid
 pub mod Drawings
 pub mod Far
 pub mod Settled
+pub mod OneAnswer

@@ -6,3 +6,4 @@ mod EncloseLaws
 mod ReportLaws
 mod ViolationLaws
 mod UnjoinedLaws
+pub mod OneReportLaws

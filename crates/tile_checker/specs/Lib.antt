@@ -5,3 +5,4 @@ pub mod RuleReport
 pub mod Frame
 pub mod Found
 pub mod Unjoined
+pub mod OneReport

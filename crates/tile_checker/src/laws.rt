@@ -1,7 +1,13 @@
+ghost use Rattle.tile_checker.specs.OneReport.{ReportsAreUnique};
 ghost use Rattle.tile_checker.specs.Unjoined.{WidthOfUnjoinedShapes};
 
 /// Where no shapes of one layer are joined, a shape breaks a width rule exactly where one of its own sides is below the
 /// minimum.
 pub fn width_of_unjoined_shapes()
     ensures { WidthOfUnjoinedShapes }
+{}
+
+/// A law for readers: rules and shapes have one report.
+pub fn reports_are_unique()
+    ensures { ReportsAreUnique }
 {}

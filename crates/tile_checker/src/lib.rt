@@ -11,6 +11,6 @@ mod violation;
 mod width;
 mod widths;
 
-pub use laws::width_of_unjoined_shapes;
+pub use laws::{reports_are_unique, width_of_unjoined_shapes};
 pub use report::{check_pairs, first_fault};
 pub use violation::Violation;

@@ -1,0 +1,6 @@
+-- Two pairs of lists in strict order that hold the same shapes and labels are one pair.
+use Rattle.cell_hierarchy.proofs.OneListsLaws.{one_pair}
+use Rattle.cell_hierarchy.proofs.laws.flat_lists_are_unique.Goals as goal
+
+pub returns : goal.returns
+returns c = one_pair
