@@ -6,4 +6,4 @@ pub mod TargetLaws
 pub mod ChainLaws
 pub mod FaultLaws
 pub mod CellLaws
-pub mod OneLeastLaws
+pub mod DepthLaws

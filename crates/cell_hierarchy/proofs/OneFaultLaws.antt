@@ -3,10 +3,11 @@ use Rattle.std.proofs.Common.{◌≡◌, ◌≢◌, inl, inr, ℕ, ◌^◌, ◌<
 use Rattle.std.specs.Ordering.{int_cmp}
 use Rattle.std.proofs.lemmas.Map.Lookups.{exact_signed, exact_pairs}
 use Rattle.or_geom.specs.declared.shape.Point.{Point}
+use Rattle.or_geom.proofs.LeastLaws.{neither_after, least_is_one}
 use Rattle.gds_stream.specs.declared.library.Structure.{Structure}
 use Rattle.tech_rules.specs.declared.tech.Layer.{Layer}
 use Rattle.cell_chains.specs.Chains.{IsMissing, IsCyclic, IsDepth, IsSound}
-use Rattle.cell_chains.proofs.OneLeastLaws.{neither_after, least_is_one, depth_is_one}
+use Rattle.cell_chains.proofs.DepthLaws.{depth_is_one}
 use Rattle.cell_counts.specs.Counts.{Total, AreFew, AreMany, IsTotalWithin}
 use Rattle.cell_counts.specs.OneTotal.{IsOneTotal}
 use Rattle.cell_hierarchy.specs.declared.fault.FlattenFault.{FlattenFault}

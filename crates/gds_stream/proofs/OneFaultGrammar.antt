@@ -3,6 +3,7 @@ use Rattle.std.proofs.Common.{◌≡◌, inl, inr, ℕ, ℤ, ◌+◌, ◌*◌, L
 use Rattle.std.proofs.lemmas.Option.{same_Some}
 use Rattle.or_geom.specs.declared.shape.Point.{Point}
 use Rattle.or_geom.specs.declared.place.Orient.{Orient}
+use Rattle.or_geom.proofs.ListLaws.{never_empty}
 use Rattle.gds_records.specs.declared.code.TheConstants.{HEADER, BGNLIB, LIBNAME, UNITS, ENDLIB, BGNSTR, STRNAME, ENDSTR, BOUNDARY, PATH, SREF, AREF, TEXT, LAYER, DATATYPE, WIDTH, XY, ENDEL, SNAME, COLROW, NODE, TEXTTYPE, PRESENTATION, STRING, STRANS, MAG, ANGLE, REFLIBS, FONTS, PATHTYPE, GENERATIONS, ATTRTABLE, ELFLAGS, NODETYPE, PROPATTR, PROPVALUE, BOX, BOXTYPE, PLEX, BGNEXTN, ENDEXTN}
 use Rattle.gds_records.specs.declared.stop.Demand.TheVariants as demand
 use Rattle.gds_records.specs.Record.{Entry}
@@ -134,15 +135,10 @@ library_closes lib =
     (until (maybe_rests REFLIBS None refl) (until (maybe_rests FONTS None refl) (until (maybe_rests ATTRTABLE None refl) (until (maybe_rests GENERATIONS None refl)
     (until (rests demand.Units UNITS (Means units_of) tt None refl) (until (each_turns structure None structure_turns lib.structs []) last_closes))))))))
 
--- a record stands there
-no_end : (done : List Entry) (e : Entry) (more : List Entry) → done ++ e ∷ more ≡ [] → ⊥
-no_end [] e more is = absurd cc
-no_end (d ∷ done) e more is = absurd cc
-
 -- a record of a library has the points that are wanted
 counted_at : (done : List Entry) (e : Entry) (more : List Entry) (now : Option ℕ) → IsOrderly now (done ++ e ∷ more) → IsCounted (points_wanted now done) e.code e.content
 counted_at [] e more now o = o.0
-counted_at (d ∷ done) e more now o = elim o.1 [ inl h ↦ absurd (no_end done e more h.1) | inr h ↦ counted_at done e more (wanted_after now d.code) h.1 ]
+counted_at (d ∷ done) e more now o = elim o.1 [ inl h ↦ absurd (never_empty done e more h.1) | inr h ↦ counted_at done e more (wanted_after now d.code) h.1 ]
 
 -- a record that some library has there has no wrong count
 pub right_count : (done : List Entry) (e : Entry) → IsBegun all_count (done ++ e ∷ []) → HasWrongCount done e → ⊥
@@ -154,7 +150,7 @@ right_count done e b h =
 nothing_after : (done : List Entry) (e : Entry) (more : List Entry) (now : Option ℕ) → IsOrderly now done → IsOrderly now (done ++ e ∷ more) → ⊥
 nothing_after [] e more now whole o = whole
 nothing_after (d ∷ done) e more now whole o = elim o.1 [
-  | inl h ↦ no_end done e more h.1
+  | inl h ↦ never_empty done e more h.1
   | inr h ↦ elim whole.1 [ inl w ↦ h.0 w.0 | inr w ↦ nothing_after done e more (wanted_after now d.code) w.1 h.1 ]
 ]
 

@@ -1,35 +1,26 @@
 -- What the faults of the layers below lead to: each is the answer, unless it is want of memory.
-use Rattle.std.proofs.Common.{◌≡◌, ◌≢◌, ◌↔◌, ℕ, List, Option, Some, None, IfSome, Result, Err, inl, inr, refl, ap, subst}
+use Rattle.std.proofs.Common.{◌≡◌, ◌≢◌, ℕ, List, Result, Err, inl, inr, refl, ap, subst}
 use Rattle.gds_stream.specs.declared.fault.GdsFault.{GdsFault}
 use Rattle.gds_stream.specs.declared.library.Library.{Library}
 use Rattle.gds_stream.specs.FirstFault.{IsFaultOf}
-use Rattle.tech_keys.specs.declared.fault.TechFault.{TechFault}
-use Rattle.tech_keys.specs.declared.fault.TechFault.TheVariants as tech_fault
-use Rattle.tech_rules.specs.Technology.{technology}
 use Rattle.tech_rules.specs.declared.tech.Tech.{Tech}
-use Rattle.cell_hierarchy.specs.declared.fault.FlattenFault.{FlattenFault}
 use Rattle.cell_hierarchy.specs.declared.flat.FlatLists.{FlatLists}
-use Rattle.cell_hierarchy.specs.FlatLists.{AreFlatLists, IsFault}
+use Rattle.cell_hierarchy.specs.FlatLists.{AreFlatLists}
 use Rattle.reply_lines.specs.declared.reply.Reply.{Reply}
-use Rattle.net_extractor.specs.declared.difference.NetDiff.{NetDiff}
-use Rattle.net_extractor.specs.declared.label.NetLabel.{NetLabel}
-use Rattle.net_extractor.specs.Difference.{AreAlike}
-use Rattle.net_extractor.specs.FirstDifference.{IsFirstDifference}
 use Rattle.netlist.specs.declared.deck.Deck.{Deck}
 use Rattle.netlist.specs.declared.rows.RowPin.{RowPin}
 use Rattle.spice_text.specs.declared.fault.SpiceFault.{SpiceFault}
 use Rattle.spice_text.specs.declared.fault.SpiceFault.TheVariants as spice_fault
-use Rattle.spice_text.specs.Deck.{deck}
 use Rattle.spice_text.specs.Faults as spice
 use Rattle.spice_netlist.specs.declared.fault.FlatFault.{FlatFault}
 use Rattle.spice_netlist.specs.Faults.{AreFlatRows, IsFlatFault}
 use Rattle.openram_cli.specs.declared.stop.Stop.{Stop}
 use Rattle.openram_cli.specs.declared.stop.Stop.TheVariants.{Refused, ReadFailed, Memory}
-use Rattle.openram_cli.specs.Answer.{leaves_of, IsDifference, OnTech, OnLibrary, OnDeck, OnFlat, OnRows}
+use Rattle.openram_cli.specs.Answer.{leaves_of, OnLibrary, OnFlat, OnRows}
 use Rattle.reply_lines.specs.Reply.{refusal_reply}
 use Rattle.openram_cli.specs.Steps.{AnswersBy, StopsBy}
 use Rattle.openram_cli.proofs.StepLaws.{answers_by}
-use Rattle.openram_cli.specs.Stops.{IsGdsStop, IsTechStop, IsFlattenStop, IsSpiceStop, IsRowsStop}
+use Rattle.openram_cli.specs.Stops.{IsGdsStop, IsRowsStop}
 
 pub gds_stops : (bytes : List ℕ) (next : Library → Reply → Type 0) (R : List ℕ → Type 0) (fault : GdsFault) (stop : Stop) → IsFaultOf fault bytes → IsGdsStop fault stop → StopsBy (OnLibrary bytes next) R stop
 gds_stops bytes next R fault (Refused refusal) of is = inl (fault, is.1, of, ap refusal_reply is.0)

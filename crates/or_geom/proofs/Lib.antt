@@ -1,6 +1,7 @@
 pub mod ListLaws
 pub mod CountLaws
 pub mod NameLaws
+pub mod LeastLaws
 mod JoinedLaws
 mod DistanceLaws
 mod GapLaws

@@ -48,6 +48,11 @@ contained_at xs k x is = (k, slice_get_within xs k x is, get_or_from_slice_get x
 pub one_at : {X : Type 0} (xs : List X) (k : ℕ) (x y : X) → slice_get xs k ≡ Some x → slice_get xs k ≡ Some y → x ≡ y
 one_at xs k x y a b = same_Some x y (sym a ∙ b)
 
+-- a list with an item in it isn't empty
+pub never_empty : {X : Type 0} (xs : List X) (y : X) (ys : List X) → xs ++ y ∷ ys ≡ [] → ⊥
+never_empty [] y ys e = cc
+never_empty (x ∷ xs) y ys e = cc
+
 -- the list from a place on
 pub rest_at : {X : Type 0} (xs : List X) (k : ℕ) (x : X) → k < length xs → x ≡ get_or xs k x → drop k xs ≡ x ∷ drop (k + 1) xs
 rest_at {X} xs k x lt is = at_drop_more (λ (l : List X). l) xs k x lt ∙ ap (λ (z : X). z ∷ drop (k + 1) xs) (sym is)

@@ -2,6 +2,7 @@
 use Rattle.std.proofs.Common.{◌≡◌, ◌⊎◌, inl, inr, ℕ, ◌+◌, List, [], ◌∷◌, ◌++◌, length, Bool, true, false, cond, filter, refl, sym, ap, subst, ◌∙◌, arith}
 use Rattle.std.specs.List.{AllByRecursion}
 use Rattle.std.proofs.lemmas.List.{append_assoc, length-append}
+use Rattle.or_geom.proofs.ListLaws.{never_empty}
 use borrow.Author.Tests.{eqb-true}
 use Rattle.spice_text.specs.Lines.{Line, is_lf, with_head, pieces, without_cr, numbered}
 use Rattle.spice_text.specs.LogicalLines.{counts, continues, joined, put_before, join}
@@ -76,13 +77,9 @@ pub record CutAt (bytes : List ℕ) (front others : List (List ℕ)) : Type 0 wh
   pub is : bytes ≡ ended front ++ rest
   pub pieces_of : pieces is_lf rest ≡ others
 
-nothing_left : (front : List (List ℕ)) (q : List ℕ) (qs : List (List ℕ)) → front ++ q ∷ qs ≡ [] → ⊥
-nothing_left [] q qs e = absurd cc
-nothing_left (p ∷ front) q qs e = absurd cc
-
 further : (p : List ℕ) (front : List (List ℕ)) (q : List ℕ) (qs : List (List ℕ)) (bytes : List ℕ) → IsAll bytes p (front ++ q ∷ qs) ⊎ Follows bytes p (front ++ q ∷ qs)
     → ((rest : List ℕ) → pieces is_lf rest ≡ front ++ q ∷ qs → CutAt rest front (q ∷ qs)) → CutAt bytes (p ∷ front) (q ∷ qs)
-further p front q qs bytes (inl h) next = absurd (nothing_left front q qs h.none)
+further p front q qs bytes (inl h) next = absurd (never_empty front q qs h.none)
 further p front q qs bytes (inr h) next =
     let c = next h.rest h.pieces_of in record { rest = c.rest; is = h.is ∙ ap (λ (l : List ℕ). p ++ 10 ∷ l) c.is ∙ sym (append_assoc p (10 ∷ ended front) c.rest); pieces_of = c.pieces_of }
 

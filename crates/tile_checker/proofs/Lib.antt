@@ -1,5 +1,4 @@
 mod FrameLaws
-mod LayerLaws
 mod SpaceLaws
 mod AloneLaws
 mod EncloseLaws

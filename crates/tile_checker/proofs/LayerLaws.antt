@@ -1,1 +1,0 @@
--- The rectangles of a layer, one shape after another.
