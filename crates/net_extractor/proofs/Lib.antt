@@ -8,3 +8,4 @@ mod PinLaws
 mod ConflictLaws
 mod PathLaws
 mod DifferenceLaws
+pub mod OneDifferenceLaws

@@ -1,5 +1,5 @@
 -- The nets of the pins, found one by one.
-use Rattle.std.proofs.Common.{◌≡◌, ◌⊎◌, inl, inr, ℕ, ◌+◌, ◌<◌, ◌≤◌, List, [], ◌∷◌, ◌++◌, length, get_or, sym, ap, subst, ◌∙◌, arith, refl}
+use Rattle.std.proofs.Common.{◌≡◌, ◌⊎◌, inl, inr, ℕ, ◌+◌, ◌<◌, List, [], ◌∷◌, ◌++◌, length, get_or, sym, ap, subst, ◌∙◌, arith, refl}
 use Rattle.std.specs.Prelude.{slice_get, Some}
 use Rattle.std.proofs.lemmas.Bool.{cases_lt}
 use Rattle.std.proofs.lemmas.List.{get_or_append_left, get_or_push, length_push}
@@ -11,7 +11,6 @@ use Rattle.net_extractor.specs.declared.pins.PinNet.{PinNet}
 use Rattle.net_extractor.specs.Difference.{IsLabelOf, IsLabelled}
 use Rattle.net_extractor.specs.FirstDifference.{IsUnlabelledAt, AreLabelled}
 use Rattle.net_extractor.specs.PinNets.{IsPinNet, ArePinNets}
-use Rattle.net_extractor.proofs.PlaceLaws.{at_contained}
 
 pub exists_at : {X : Type 0} (xs : List X) (i : ℕ) → i < length xs → (x : X) × (slice_get xs i ≡ Some x)
 exists_at xs i lt = elim (slice_get_cases xs i).1 [
