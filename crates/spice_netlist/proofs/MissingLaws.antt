@@ -4,7 +4,7 @@ use Rattle.std.specs.Prelude.{is_some}
 use Rattle.std.proofs.lemmas.List.{get_or_past}
 use Rattle.std.proofs.lemmas.Bool.{cases_lt}
 use Rattle.std.proofs.lemmas.List.Elements.{Contains-push, Contains-push_cases, Contains-append_left}
-use Rattle.or_geom.proofs.ListLaws.{contains_none, none_is}
+use Rattle.or_geom.proofs.ListLaws.{contains_none}
 use Rattle.reference_graph.specs.Reaches.{IsMarked, MarksReached, ReachesItself}
 use Rattle.spice_netlist.specs.declared.block.Block.{Block}
 use Rattle.spice_netlist.specs.declared.block.Part.{Part}
