@@ -9,3 +9,5 @@ mod ConflictLaws
 mod PathLaws
 mod DifferenceLaws
 pub mod OneDifferenceLaws
+pub mod OneBindingLaws
+pub mod OneNetLaws

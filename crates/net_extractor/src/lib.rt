@@ -18,4 +18,4 @@ pub use comparison::compare;
 pub use difference::{NetDiff, PinName};
 pub use extract::extract_pairs;
 pub use label::{NetLabel, Nets};
-pub use laws::{differences_are_unique, differences_exclude_alike};
+pub use laws::{differences_are_unique, differences_exclude_alike, nets_are_unique};
