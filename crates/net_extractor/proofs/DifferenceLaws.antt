@@ -47,7 +47,8 @@ alike labels pins paired right = (
   λ _. refl,
 )
 
-differs : (labels : List NetLabel) (pins : List RowPin) (d : NetDiff) → IsFirstDifference labels pins d → AreAlike labels pins → ⊥
+-- labels and rows that have a first difference are not alike
+pub differs : (labels : List NetLabel) (pins : List RowPin) (d : NetDiff) → IsFirstDifference labels pins d → AreAlike labels pins → ⊥
 differs labels pins (Unlabelled name) d a = d.lack.first.has (a.labelled d.lack.pin (contained_at pins d.place d.lack.pin d.lack.first.here))
 differs labels pins (Stranger name) d a = a.placed d.stranger.label (contained_at labels d.place d.stranger.label d.stranger.first.here) d.stranger.first.has
 differs labels pins (Open first second) (inl d) a =

@@ -8,3 +8,6 @@ mod PinLaws
 mod ConflictLaws
 mod PathLaws
 mod DifferenceLaws
+pub mod OneDifferenceLaws
+pub mod OneBindingLaws
+pub mod OneNetLaws

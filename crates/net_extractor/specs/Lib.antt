@@ -12,3 +12,4 @@ pub mod FirstDifference
 pub mod PinNets
 pub mod Strangers
 pub mod Conflicts
+pub mod OneAnswer

@@ -1,4 +1,5 @@
 pub mod ListLaws
+pub mod OneLaws
 pub mod CountLaws
 pub mod NameLaws
 pub mod LeastLaws

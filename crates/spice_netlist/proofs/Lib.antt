@@ -19,3 +19,5 @@ pub mod ResolvedLaws
 pub mod FlatLaws
 pub mod NetTextLaws
 pub mod WholeLaws
+pub mod OneRowLaws
+pub mod OneFaultLaws

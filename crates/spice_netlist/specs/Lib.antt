@@ -15,3 +15,4 @@ pub mod Faults
 pub mod Sizes
 pub mod NetText
 pub mod Whole
+pub mod OneAnswer

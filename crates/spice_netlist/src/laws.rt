@@ -1,4 +1,5 @@
 ghost use Rattle.spice_netlist.specs.NetText.{NetTextsAreFaithful};
+ghost use Rattle.spice_netlist.specs.OneAnswer.{FlatFaultsAreUnique, FlatFaultsExcludeRows, RowsAreUnique};
 ghost use Rattle.spice_netlist.specs.Whole.{WalksAreWhole};
 
 use reference_graph::paths_are_short;
@@ -15,3 +16,18 @@ pub fn walks_are_whole()
 {
     paths_are_short();
 }
+
+/// A law for readers: a subcircuit has one list of flat rows.
+pub fn rows_are_unique()
+    ensures { RowsAreUnique }
+{}
+
+/// A law for readers: a subcircuit has one refusal, want of memory aside.
+pub fn flat_faults_are_unique()
+    ensures { FlatFaultsAreUnique }
+{}
+
+/// A law for readers: a subcircuit that is refused, want of memory aside, has no flat rows.
+pub fn flat_faults_exclude_rows()
+    ensures { FlatFaultsExcludeRows }
+{}

@@ -25,6 +25,9 @@ mod way;
 
 pub use fault::FlatFault;
 pub use flat::flat_rows;
-pub use laws::{net_texts_are_faithful, walks_are_whole};
+pub use laws::{
+    flat_faults_are_unique, flat_faults_exclude_rows, net_texts_are_faithful, rows_are_unique,
+    walks_are_whole,
+};
 pub use netlist::{Deck, Instance, RowPin, Rows, Subckt};
 pub use spice_text::{SpiceFault, are_writable, read_spice, write_spice};
