@@ -7,7 +7,7 @@ mod EntryLaws
 mod PinLaws
 mod ConflictLaws
 mod PathLaws
-mod DifferenceLaws
+pub mod DifferenceLaws
 pub mod OneDifferenceLaws
 pub mod OneBindingLaws
 pub mod OneNetLaws

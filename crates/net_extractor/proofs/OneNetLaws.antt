@@ -4,7 +4,7 @@ use Rattle.std.specs.Prelude.{slice_get}
 use Rattle.std.proofs.lemmas.Bool.{cases_lt}
 use Rattle.or_geom.specs.declared.shape.Shape.{Shape}
 use Rattle.or_geom.proofs.ListLaws.{contained_at}
-use Rattle.or_geom.proofs.OneLaws.{one_by, Follows, one_number}
+use Rattle.or_geom.proofs.NumberingLaws.{one_by, Follows, one_number}
 use Rattle.element_drawing.specs.declared.label.OwnLabel.{OwnLabel}
 use Rattle.tech_rules.specs.declared.tech.Tech.{Tech}
 use Rattle.net_extractor.specs.declared.label.Anchor.{Anchor}

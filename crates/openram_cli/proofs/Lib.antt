@@ -3,3 +3,4 @@ mod EndLaws
 mod PrintLaws
 mod StepLaws
 mod NearLaws
+mod OneAnswer

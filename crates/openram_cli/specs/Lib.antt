@@ -8,3 +8,4 @@ pub mod Reads
 pub mod Run
 pub mod Finished
 pub mod Stops
+pub mod OneAnswer

@@ -1,8 +1,10 @@
 ghost use Rattle.std.specs.Prelude.{◌≡◌, ◌<◌, ◌⊎◌, ◌↔◌, [], true, None, map, string_bytes};
 ghost use Rattle.or_host.specs.Fault.{Rose};
+ghost use Rattle.or_host.specs.Files.{Files};
 ghost use Rattle.or_host.specs.Text.{Grows};
 ghost use Rattle.openram_cli.specs.Command.{command_of};
 ghost use Rattle.openram_cli.specs.Finished.{IsCut, IsStopped};
+ghost use Rattle.openram_cli.specs.OneAnswer.{HaveOneAnswer};
 ghost use Rattle.reply_lines.specs.Lines.{lines_text};
 ghost use Rattle.openram_cli.specs.Printed.{IsWhole};
 ghost use Rattle.reply_lines.specs.Reply.{refusal_reply};
@@ -54,6 +56,8 @@ pub fn run<R: Threads + Sync, S: Store, K: Sink>(
     ensures memory_clean { result ≡ 5 → K.faults out.new ≡ K.faults out.old }
     ensures silent { result ≡ 5 → (S.faults store.new ≡ S.faults store.old) ⊎ (Rose (S.faults store.old) (S.faults store.new) × Grows (λ text. text ≡ []) (K.written out.old) (K.written out.new)) }
     ensures files { S.files store.new ≡ S.files store.old }
+    // Whatever the files hold, the words have one answer, so that status and text are a function of them.
+    ensures one { (files : Files) → HaveOneAnswer (map string_bytes words.now) files }
 {
     match reply_to(alloc, words, store) {
         Ok(reply) => finish(&reply, out),

@@ -1,5 +1,5 @@
 pub mod ListLaws
-pub mod OneLaws
+pub mod NumberingLaws
 pub mod CountLaws
 pub mod NameLaws
 pub mod LeastLaws

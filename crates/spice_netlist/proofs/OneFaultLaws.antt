@@ -6,24 +6,17 @@ use Rattle.std.specs.declared.cmp.Ordering.{Ordering}
 use Rattle.std.specs.declared.cmp.Ordering.TheVariants.{Less, Equal, Greater}
 use Rattle.std.proofs.lemmas.Cmp.{nat_list_cmp_total}
 use Rattle.std.proofs.lemmas.Map.Lookups.{exact_bytes}
+use Rattle.or_geom.specs.Least.{IsLeast}
+use Rattle.or_geom.proofs.LeastLaws.{least_is_one}
+use Rattle.std.proofs.lemmas.Option.{same_Some, none-some}
 use Rattle.netlist.specs.declared.rows.RowPin.{RowPin}
 use Rattle.spice_netlist.specs.declared.block.Block.{Block}
 use Rattle.spice_netlist.specs.declared.fault.FlatFault.{FlatFault}
 use Rattle.spice_netlist.specs.declared.fault.FlatFault.TheVariants.{UnknownSubckt, Cycle, PortCount, TooMany, Memory}
 use Rattle.spice_netlist.specs.Faults.{IsUnknown, IsCyclic, IsHierarchy, IsTooMany, IsSmall, IsFaultAt, IsTopUnknown, IsFault, AreRowsAt, AreRows}
-use Rattle.spice_netlist.specs.Least.{IsLeast}
 use Rattle.spice_netlist.specs.Names.{lower, place_of}
 use Rattle.spice_netlist.specs.OneAnswer.{FlatFaultsAreUnique, FlatFaultsExcludeRows}
 use Rattle.spice_netlist.specs.Resolved.{names_of, blocks_of}
-
--- names of which neither is after the other are one
-neither_after : (a b : List ℕ) (o : Ordering) → slice_cmp nat_cmp a b ≡ o → o ≢ Greater → slice_cmp nat_cmp b a ≢ Greater → a ≡ b
-neither_after a b Less is not back = absurd (back (nat_list_cmp_total.antisymm b a ∙ ap ordering_reverse is))
-neither_after a b Equal is not back = exact_bytes a b is
-neither_after a b Greater is not back = absurd (not refl)
-
-one_least : (P : List ℕ → Type 0) (a b : List ℕ) → IsLeast P a → IsLeast P b → a ≡ b
-one_least P a b x y = neither_after a b (slice_cmp nat_cmp a b) refl (x.least b y.has) (y.least a x.has)
 
 -- where nothing reaches itself no name is that of a cycle
 no_cycle : (blocks : List Block) (top : ℕ) (name : List ℕ) → IsLeast (IsCyclic blocks top) name → IsHierarchy blocks top → ⊥
@@ -42,32 +35,26 @@ one_count blocks top m n a b = elim a.either [
 not_small : (blocks : List Block) (top count : ℕ) → IsTooMany blocks top count → IsSmall blocks top → ⊥
 not_small blocks top count a small = elim a.either [ inl x ↦ above _ _ x.0 small.leaves | inr x ↦ above _ _ x.1 small.pins ]
 
-one_path : (a b : List ℕ) → ◌≡◌ {A = Option (List ℕ)} (Some a) (Some b) → a ≡ b
-one_path a b e = cc
-
-no_path : (a : List ℕ) → ◌≡◌ {A = Option (List ℕ)} (Some a) None → ⊥
-no_path a e = cc
-
 -- a top that is there has one refusal
 one_fault_at : (blocks : List Block) (top : ℕ) (f g : FlatFault) → f ≢ Memory → g ≢ Memory → IsFaultAt blocks top f → IsFaultAt blocks top g → f ≡ g
-one_fault_at blocks top (UnknownSubckt a) (UnknownSubckt b) not_f not_g x y = ap UnknownSubckt (one_least (IsUnknown blocks top) a b x y)
+one_fault_at blocks top (UnknownSubckt a) (UnknownSubckt b) not_f not_g x y = ap UnknownSubckt (least_is_one (IsUnknown blocks top) a b x y)
 one_fault_at blocks top (UnknownSubckt a) (Cycle b) not_f not_g x y = absurd (y.0 a x.has)
 one_fault_at blocks top (UnknownSubckt a) (PortCount b) not_f not_g x y = absurd (y.0.there a x.has)
 one_fault_at blocks top (UnknownSubckt a) (TooMany n) not_f not_g x y = absurd (y.0.there a x.has)
 one_fault_at blocks top (UnknownSubckt a) Memory not_f not_g x y = absurd (not_g refl)
 one_fault_at blocks top (Cycle a) (UnknownSubckt b) not_f not_g x y = absurd (x.0 b y.has)
-one_fault_at blocks top (Cycle a) (Cycle b) not_f not_g x y = ap Cycle (one_least (IsCyclic blocks top) a b x.1 y.1)
+one_fault_at blocks top (Cycle a) (Cycle b) not_f not_g x y = ap Cycle (least_is_one (IsCyclic blocks top) a b x.1 y.1)
 one_fault_at blocks top (Cycle a) (PortCount b) not_f not_g x y = absurd (no_cycle blocks top a x.1 y.0)
 one_fault_at blocks top (Cycle a) (TooMany n) not_f not_g x y = absurd (no_cycle blocks top a x.1 y.0)
 one_fault_at blocks top (Cycle a) Memory not_f not_g x y = absurd (not_g refl)
 one_fault_at blocks top (PortCount a) (UnknownSubckt b) not_f not_g x y = absurd (x.0.there b y.has)
 one_fault_at blocks top (PortCount a) (Cycle b) not_f not_g x y = absurd (no_cycle blocks top b y.1 x.0)
-one_fault_at blocks top (PortCount a) (PortCount b) not_f not_g x y = ap PortCount (one_path a b (sym x.1 ∙ y.1))
-one_fault_at blocks top (PortCount a) (TooMany n) not_f not_g x y = absurd (no_path a (sym x.1 ∙ y.1))
+one_fault_at blocks top (PortCount a) (PortCount b) not_f not_g x y = ap PortCount (same_Some a b (sym x.1 ∙ y.1))
+one_fault_at blocks top (PortCount a) (TooMany n) not_f not_g x y = absurd (none-some a (sym y.1 ∙ x.1))
 one_fault_at blocks top (PortCount a) Memory not_f not_g x y = absurd (not_g refl)
 one_fault_at blocks top (TooMany m) (UnknownSubckt b) not_f not_g x y = absurd (x.0.there b y.has)
 one_fault_at blocks top (TooMany m) (Cycle b) not_f not_g x y = absurd (no_cycle blocks top b y.1 x.0)
-one_fault_at blocks top (TooMany m) (PortCount b) not_f not_g x y = absurd (no_path b (sym y.1 ∙ x.1))
+one_fault_at blocks top (TooMany m) (PortCount b) not_f not_g x y = absurd (none-some b (sym x.1 ∙ y.1))
 one_fault_at blocks top (TooMany m) (TooMany n) not_f not_g x y = ap TooMany (one_count blocks top m n x.2 y.2)
 one_fault_at blocks top (TooMany m) Memory not_f not_g x y = absurd (not_g refl)
 one_fault_at blocks top Memory g not_f not_g x y = absurd (not_f refl)
@@ -95,7 +82,7 @@ one_flat_fault subckts top leaves f g not_f not_g x y = one_fault (blocks_of sub
 no_rows_at : (blocks : List Block) (top : ℕ) (f : FlatFault) (rows : List RowPin) → f ≢ Memory → IsFaultAt blocks top f → AreRowsAt blocks top rows → ⊥
 no_rows_at blocks top (UnknownSubckt a) rows not_f x r = r.hierarchy.there a x.has
 no_rows_at blocks top (Cycle a) rows not_f x r = no_cycle blocks top a x.1 r.hierarchy
-no_rows_at blocks top (PortCount a) rows not_f x r = no_path a (sym x.1 ∙ r.good)
+no_rows_at blocks top (PortCount a) rows not_f x r = none-some a (sym r.good ∙ x.1)
 no_rows_at blocks top (TooMany n) rows not_f x r = not_small blocks top n x.2 r.small
 no_rows_at blocks top Memory rows not_f x r = not_f refl
 

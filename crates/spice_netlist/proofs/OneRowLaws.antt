@@ -3,7 +3,7 @@ use Rattle.std.proofs.Common.{◌≡◌, ℕ, ◌<◌, List, length, Option, Non
 use Rattle.std.specs.Prelude.{slice_get}
 use Rattle.std.proofs.lemmas.List.{get_or-map, length-map}
 use Rattle.std.proofs.lemmas.Option.{slice_get_within, get_or_from_slice_get}
-use Rattle.or_geom.proofs.OneLaws.{one_by, Follows, one_number}
+use Rattle.or_geom.proofs.NumberingLaws.{one_by, Follows, one_number}
 use Rattle.netlist.specs.declared.rows.RowPin.{RowPin}
 use Rattle.spice_netlist.specs.declared.block.Block.{Block}
 use Rattle.spice_netlist.specs.Faults.{AreRows}

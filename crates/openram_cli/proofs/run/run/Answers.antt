@@ -2,6 +2,7 @@ use Rattle.std.proofs.Common.{map, refl}
 use Rattle.std.specs.Prelude.{string_bytes}
 use Rattle.reply_lines.specs.Reply.{refusal_reply}
 use Rattle.openram_cli.proofs.EndLaws.{cut_end, memory_cut_end, stopped_end, memory_end, silent_end}
+use Rattle.openram_cli.proofs.OneAnswer.{one_answer}
 use Rattle.openram_cli.proofs.run.run.Goals as goal
 
 pub returns-in-Ok-clause-cut : goal.returns-in-Ok-clause-cut
@@ -38,3 +39,15 @@ pub returns-in-Err-Memory-clause-memory : goal.returns-in-Err-Memory-clause-memo
 returns-in-Err-Memory-clause-memory g c five =
     let stops = rw c.in-Err-Memory.field-0-is at c.in-Err-Memory.ensures in
     memory_end (g.S.Store.files c.args.store.now) (map string_bytes c.args.words.now) _ _ (g.K.Sink.written c.args.out.now) (g.K.Sink.written c.no_memory.new.out) (stops.cause.kept refl) (c.no_memory.ensures.printed five)
+
+pub returns-in-Ok-clause-one : goal.returns-in-Ok-clause-one
+returns-in-Ok-clause-one g c = one_answer (map string_bytes c.args.words.now)
+
+pub returns-in-Err-Refused-clause-one : goal.returns-in-Err-Refused-clause-one
+returns-in-Err-Refused-clause-one g c = one_answer (map string_bytes c.args.words.now)
+
+pub returns-in-Err-ReadFailed-clause-one : goal.returns-in-Err-ReadFailed-clause-one
+returns-in-Err-ReadFailed-clause-one g c = one_answer (map string_bytes c.args.words.now)
+
+pub returns-in-Err-Memory-clause-one : goal.returns-in-Err-Memory-clause-one
+returns-in-Err-Memory-clause-one g c = one_answer (map string_bytes c.args.words.now)
