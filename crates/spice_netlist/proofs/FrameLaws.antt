@@ -1,6 +1,5 @@
 -- Frames of the walk: what they see while the way changes behind the bytes that lead to them.
-use Rattle.std.proofs.Common.{◌≡◌, ℕ, zero, suc, ◌<◌, ◌≤◌, List, [], ◌∷◌, ◌++◌, length, map, get_or, take, reverse, refl, sym, ap, subst, ◌∙◌, arith}
-use Rattle.std.proofs.lemmas.List.{reverse-append}
+use Rattle.std.proofs.Common.{◌≡◌, ℕ, zero, suc, ◌<◌, ◌≤◌, List, [], ◌∷◌, ◌++◌, length, map, get_or, take, refl, sym, ap, subst, ◌∙◌, arith}
 use Rattle.spice_netlist.specs.declared.frame.Frame.{Frame}
 use Rattle.spice_netlist.specs.declared.frame.Net.{Net}
 use Rattle.spice_netlist.specs.Found.{found}

@@ -5,7 +5,7 @@ use Rattle.std.proofs.lemmas.Bool.{cases_lt}
 use Rattle.std.proofs.lemmas.List.{get_or_default, get_or-map, length-map}
 use Rattle.spice_netlist.specs.declared.block.Block.{Block}
 use Rattle.spice_netlist.specs.declared.block.Part.{Part}
-use Rattle.spice_netlist.specs.Resolved.{name_at, ports_at, leaf_at, parts_at, places, graph}
+use Rattle.spice_netlist.specs.Resolved.{name_at, parts_at, places, graph}
 use Rattle.spice_netlist.specs.Walk.{Visit, visits_by, walk_at}
 use Rattle.spice_netlist.specs.Tables.{IsKnown, AreKnown, IsTable, IsUpward}
 use Rattle.spice_netlist.proofs.WalkLaws.{refers_places, walk_opens, walk_longer}

@@ -3,7 +3,7 @@ use Rattle.std.proofs.Common.{◌≡◌, ℕ, zero, suc, ◌<◌, List, [], ◌�
 use Rattle.std.specs.Prelude.{Contains}
 use Rattle.reference_graph.specs.Reaches.{RefersTo, AreWithin, IsPath, Reaches, IsAcyclic}
 use Rattle.reference_graph.specs.BottomUp.{AcyclicPathsAreShort}
-use Rattle.reference_graph.proofs.PathLaws.{reaches_on, reaches_within, reaches_over}
+use Rattle.reference_graph.proofs.PathLaws.{reaches_within, reaches_over}
 use Rattle.spice_netlist.specs.declared.block.Block.{Block}
 use Rattle.spice_netlist.specs.Resolved.{parts_at, graph}
 use Rattle.spice_netlist.specs.Walk.{visits_by, visits, walk_at, first_bad}

@@ -1,8 +1,7 @@
 -- The least of names, where there is one, and names that are missing.
-use Rattle.std.specs.Prelude.{◌≡◌, ◌≢◌, ℕ, List, Option, None, Some, MatchOption, Contains, if◌then◌else◌}
+use Rattle.std.specs.Prelude.{◌≡◌, ℕ, List, Option, None, Some, MatchOption, Contains, if◌then◌else◌}
 use Rattle.std.specs.Ordering.{nat_cmp, is_gt}
 use Rattle.std.specs.Cmp.Lexicographic.{slice_cmp}
-use Rattle.std.specs.declared.cmp.Ordering.TheVariants.{Greater}
 use Rattle.or_geom.specs.Least.{IsLeast}
 use Rattle.spice_netlist.specs.declared.block.Part.{Part}
 
