@@ -32,8 +32,7 @@ fn height_at(heights: &[u32], node: usize) -> u32
 /// Refused is, in this order: a reached name that no structure has (`UnknownStruct`), a reached structure that reaches
 /// itself (`Cycle`), a chain of more than 32 references (`TooDeep`).
 ///
-/// Its time is in proportion to the number of references, but for the logarithm of the number of names; to find the name
-/// of a cycle may take the names times the references.
+/// Its time is in proportion to the number of references, but for the logarithm of the number of names.
 pub fn cells_below(
     alloc: Global,
     structs: &[Structure],

@@ -1,5 +1,5 @@
 -- The nodes found so far, whose references are marked up to a place.
-use Rattle.std.proofs.Common.{◌≡◌, inl, inr, ℕ, zero, suc, ◌+◌, ◌<◌, ◌≤◌, Bool, true, false, List, [], ◌∷◌, ◌++◌, length, set, get_or, replicate, sym, ap, subst, ◌∙◌, arith, get_or-set_same, length-set}
+use Rattle.std.proofs.Common.{◌≡◌, inl, inr, ℕ, ◌+◌, ◌<◌, ◌≤◌, Bool, true, false, List, [], ◌∷◌, ◌++◌, length, set, get_or, replicate, sym, ap, subst, ◌∙◌, arith, get_or-set_same, length-set}
 use Rattle.std.specs.Prelude.{Contains}
 use Rattle.std.proofs.lemmas.List.{get_or_append_left, length-replicate, get_or_default}
 use Rattle.std.proofs.lemmas.List.Elements.{Contains-append_left, Contains-append_right, Contains-append_cases, Contains-push_cases}
@@ -7,6 +7,7 @@ use Rattle.std.proofs.lemmas.Bool.{cases_lt}
 use Rattle.reference_graph.specs.Reaches.{RefersTo, IsPath, Reaches, IsMarked, MarksReached}
 use Rattle.reference_graph.specs.Spread.{Spreads}
 use Rattle.reference_graph.proofs.PathLaws.{reaches_on, reaches_start}
+use Rattle.reference_graph.proofs.SetLaws.{at_all}
 use Rattle.reference_graph.proofs.MarkLaws.{set_cases}
 
 -- what is marked has been found and is reached, and what the nodes found before the place refer to is marked
@@ -17,10 +18,8 @@ pub record IsSpread (graph : List (List ℕ)) (start : ℕ) (marks : List Bool) 
   pub sound : (node : ℕ) → Contains found node → Reaches graph start node
   pub done : (earlier to : ℕ) → earlier < place → earlier < length found → RefersTo graph (get_or found earlier 0) to → IsMarked marks to
 
-no_mark : (n k : ℕ) → IsMarked (replicate n false) k → ⊥
-no_mark zero k m = let no_way : false ≡ true = m in absurd cc
-no_mark (suc n) zero m = let no_way : false ≡ true = m in absurd cc
-no_mark (suc n) (suc k) m = no_mark n k m
+pub no_mark : (n k : ℕ) → IsMarked (replicate n false) k → ⊥
+no_mark n k m = let no_way : true ≡ false = at_all n k false true m in absurd cc
 
 pub spread_begins : (graph : List (List ℕ)) (start : ℕ) (marks : List Bool) → start < length graph → marks ≡ replicate (length graph) false → IsSpread graph start (set marks start true) (start ∷ []) 0
 spread_begins graph start marks lt e =

@@ -1,5 +1,5 @@
 -- A search in depth: what is placed, what is open, and how it goes on.
-use Rattle.std.proofs.Common.{◌≡◌, ◌≢◌, ◌⊎◌, inl, inr, ℕ, zero, suc, ◌+◌, ◌<◌, List, [], ◌∷◌, ◌++◌, length, set, get_or, replicate, refl, sym, ap, subst, ◌∙◌, arith, get_or-set_same, length-set}
+use Rattle.std.proofs.Common.{◌≡◌, ◌≢◌, ◌⊎◌, inl, inr, ℕ, ◌+◌, ◌<◌, List, [], ◌∷◌, ◌++◌, length, set, get_or, replicate, refl, sym, ap, subst, ◌∙◌, arith, get_or-set_same, length-set}
 use Rattle.std.specs.Prelude.{Contains, sum_by}
 use Rattle.std.proofs.lemmas.List.{get_or_default, get_or_append_left, get_or_push, length_push, length-replicate}
 use Rattle.std.proofs.lemmas.List.Sums.{sum_by-set}
@@ -14,7 +14,8 @@ use Rattle.reference_graph.specs.BottomUp.{StandsBefore, IsBottomUp, IsOrder}
 use Rattle.reference_graph.specs.Search.{IsPlaced, ArePlaced, IsNext}
 use Rattle.reference_graph.proofs.PathLaws.{reaches_on, reaches_start, reaches_within, itself_from, all_within}
 use Rattle.reference_graph.proofs.OrderLaws.{order_closed}
-use Rattle.reference_graph.proofs.StageLaws.{IsOpen, weight, unseen_from, not_both, set_keeps, set_cases}
+use Rattle.reference_graph.proofs.SetLaws.{at_set, at_all}
+use Rattle.reference_graph.proofs.StageLaws.{IsOpen, weight, unseen_from, not_both, set_keeps}
 use Rattle.reference_graph.proofs.TrailLaws.{IsOnTrail, IsTrail, bottom, trail_open, trail_reaches, bottom_reaches, trail_kept}
 
 -- the order has the placed nodes, which are reached, each after all that it refers to
@@ -65,7 +66,7 @@ keeps_placed graph stages to k n h = set_keeps stages to Open k Placed (λ e. n.
 
 enter_placing : (graph : List (List ℕ)) (start : ℕ) (stages : List Stage) (order : List ℕ) (to : ℕ) → IsEntered graph stages to → IsPlacing graph start stages order → IsPlacing graph start (set stages to Open) order
 enter_placing graph start stages order to n p = record {
-  listed = λ k h. elim (set_cases stages to Open k Placed n.within h) [
+  listed = λ k h. elim (at_set stages to Open k Placed Unseen n.within h) [
     | inl b ↦ let no_way : Open ≡ Placed = b.1 in absurd cc
     | inr old ↦ p.listed k old
   ];
@@ -96,7 +97,7 @@ search_enters graph start stages visit vs order place to i n refers before = rec
     trail_kept graph stages (set stages to Open) visit.node vs (λ k on h. keeps_open graph stages to k n h) (λ k h. keeps_placed graph stages to k n h) i.trail,
   );
   begins = i.begins;
-  listed = λ k h. elim (set_cases stages to Open k Open n.within h) [
+  listed = λ k h. elim (at_set stages to Open k Open Unseen n.within h) [
     | inl b ↦ inl b.0
     | inr old ↦ inr (i.listed k old)
   ];
@@ -134,7 +135,7 @@ leave_placing : (graph : List (List ℕ)) (start : ℕ) (stages : List Stage) (o
 leave_placing graph start stages order node p lt sized o reached below =
     let within : node < length stages = omega arith in
     record {
-      listed = λ k h. elim (set_cases stages node Placed k Placed within h) [
+      listed = λ k h. elim (at_set stages node Placed k Placed Unseen within h) [
         | inl b ↦ subst (Contains (order ++ node ∷ [])) (sym b.0) (Contains-push order node)
         | inr old ↦ Contains-append_left order (node ∷ []) k (p.listed k old)
       ];
@@ -173,7 +174,7 @@ search_leaves graph start stages visit below vs order within inside i done =
       apart = i.trail.1;
       trail = trail_kept graph stages (set stages visit.node Placed) below.node vs (λ k on h. opens k (inr on) h) places i.trail.2;
       begins = i.begins;
-      listed = λ k h. elim (set_cases stages visit.node Placed k Open small h) [
+      listed = λ k h. elim (at_set stages visit.node Placed k Open Unseen small h) [
         | inl b ↦ let no_way : Placed ≡ Open = b.1 in absurd cc
         | inr old ↦ elim (i.listed k old) [
           | inl e ↦ let was : IsPlaced (set stages visit.node Placed) k = subst (IsPlaced (set stages visit.node Placed)) (sym e) (get_or-set_same stages visit.node Placed Unseen small) in absurd (not_both (set stages visit.node Placed) k h was)
@@ -198,17 +199,12 @@ search_ends graph start stages visit order within inside i done =
       bottom_up = p.bottom_up;
     }
 
-none_placed : (n k : ℕ) (s : Stage) → get_or (replicate n Unseen) k Unseen ≡ s → s ≡ Unseen
-none_placed zero k s h = sym h
-none_placed (suc n) zero s h = sym h
-none_placed (suc n) (suc k) s h = none_placed n k s h
-
 pub search_begins : (graph : List (List ℕ)) (start : ℕ) (stages : List Stage) → start < length graph → stages ≡ replicate (length graph) Unseen
     → IsSearch graph start (set stages start Open) (record { node = start; place = 0 }) [] []
 search_begins graph start stages inside e =
     let sized : length stages ≡ length graph = ap length e ∙ length-replicate (length graph) Unseen in
     let within : start < length stages = omega arith in
-    let unseen : (k : ℕ) (s : Stage) → get_or stages k Unseen ≡ s → s ≡ Unseen = λ k s h. none_placed (length graph) k s (subst (λ (xs : List Stage). get_or xs k Unseen ≡ s) e h) in
+    let unseen : (k : ℕ) (s : Stage) → get_or stages k Unseen ≡ s → s ≡ Unseen = λ k s h. at_all (length graph) k Unseen s (subst (λ (xs : List Stage). get_or xs k Unseen ≡ s) e h) in
     record {
       sized = length-set stages start Open ∙ sized;
       here = get_or-set_same stages start Open Unseen within;
@@ -216,12 +212,12 @@ search_begins graph start stages inside e =
       apart = λ on. on;
       trail = tt;
       begins = refl;
-      listed = λ k h. elim (set_cases stages start Open k Open within h) [
+      listed = λ k h. elim (at_set stages start Open k Open Unseen within h) [
         | inl b ↦ inl b.0
         | inr old ↦ let no_way : Open ≡ Unseen = unseen k Open old in absurd cc
       ];
       placing = record {
-        listed = λ k h. elim (set_cases stages start Open k Placed within h) [
+        listed = λ k h. elim (at_set stages start Open k Placed Unseen within h) [
           | inl b ↦ let no_way : Open ≡ Placed = b.1 in absurd cc
           | inr old ↦ let no_way : Placed ≡ Unseen = unseen k Placed old in absurd cc
         ];

@@ -1,6 +1,5 @@
 -- The stages of nodes, before and after one is set.
-use Rattle.std.proofs.Common.{◌≡◌, ◌⊎◌, inl, inr, ℕ, ◌<◌, List, length, set, get_or, refl, sym, subst, ◌∙◌, get_or-set_same, get_or-set_other}
-use Rattle.std.proofs.lemmas.Bool.{cases_eq}
+use Rattle.std.proofs.Common.{◌≡◌, ℕ, List, set, get_or, refl, sym, ◌∙◌, get_or-set_other}
 use Rattle.reference_graph.specs.declared.search.Stage.{Stage}
 use Rattle.reference_graph.specs.declared.search.Stage.TheVariants.{Unseen, Open, Placed}
 use Rattle.reference_graph.specs.Search.{IsPlaced}
@@ -21,13 +20,6 @@ not_both stages node o placed = let no_way : Open ≡ Placed = sym o ∙ placed 
 -- a node keeps its stage if it is not the one that is set
 pub set_keeps : (stages : List Stage) (node : ℕ) (s : Stage) (k : ℕ) (t : Stage) → (k ≡ node → ⊥) → get_or stages k Unseen ≡ t → get_or (set stages node s) k Unseen ≡ t
 set_keeps stages node s k t ne h = get_or-set_other stages node k s Unseen ne ∙ h
-
--- a stage after one is set is the new one at that node, or an old one
-pub set_cases : (stages : List Stage) (node : ℕ) (s : Stage) (k : ℕ) (t : Stage) → node < length stages → get_or (set stages node s) k Unseen ≡ t → ((k ≡ node) × (s ≡ t)) ⊎ (get_or stages k Unseen ≡ t)
-set_cases stages node s k t lt h = elim (cases_eq k node) [
-  | inl e ↦ inl (e, sym (get_or-set_same stages node s Unseen lt) ∙ subst (λ (n : ℕ). get_or (set stages node s) n Unseen ≡ t) e h)
-  | inr ne ↦ inr (sym (get_or-set_other stages node k s Unseen ne) ∙ h)
-]
 
 pub unseen_from : (s : Stage) → (s ≡ Open → ⊥) → (s ≡ Placed → ⊥) → s ≡ Unseen
 unseen_from Unseen o p = refl

@@ -3,3 +3,4 @@ pub mod BottomUp
 pub mod Height
 pub mod Spread
 pub mod Search
+pub mod Waits

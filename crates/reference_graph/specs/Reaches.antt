@@ -50,8 +50,7 @@ pub record IsLeastCyclic (graph : List (List ℕ)) (start node : ℕ) : Type 0 w
   pub itself : ReachesItself graph node
   pub least : (other : ℕ) → other < node → Reaches graph start other → ReachesItself graph other → ⊥
 
--- a marked node refers to the node
-pub record IsReferredTo (graph : List (List ℕ)) (marks : List Bool) (node : ℕ) : Type 0 where
-  pub from : ℕ
-  pub marked : IsMarked marks from
-  pub refers : RefersTo graph from node
+-- a mark for each node, set exactly where the start reaches the node and it reaches itself
+pub record CyclesMarked (graph : List (List ℕ)) (start : ℕ) (marks : List Bool) : Type 0 where
+  pub sized : length marks ≡ length graph
+  pub exact : (node : ℕ) → IsMarked marks node ↔ (Reaches graph start node × ReachesItself graph node)

@@ -8,7 +8,7 @@ mod nodes;
 mod reach;
 mod search;
 
-pub use cycle::{least_cyclic, reaches_itself};
+pub use cycle::{cyclic_nodes, least_cyclic};
 pub use height::heights;
 pub use laws::paths_are_short;
 pub use reach::reached;

@@ -6,7 +6,7 @@ use Rattle.std.proofs.lemmas.Bool.{cases_lt}
 use Rattle.std.proofs.lemmas.List.Elements.{Contains-push, Contains-push_cases, Contains-append_left}
 use Rattle.or_geom.proofs.ListLaws.{contains_none}
 use Rattle.or_geom.specs.Least.{IsLeast}
-use Rattle.reference_graph.specs.Reaches.{IsMarked, MarksReached, ReachesItself}
+use Rattle.reference_graph.specs.Reaches.{IsMarked, MarksReached, CyclesMarked}
 use Rattle.spice_netlist.specs.declared.block.Block.{Block}
 use Rattle.spice_netlist.specs.declared.block.Part.{Part}
 use Rattle.spice_netlist.specs.Least.{IsLeastOf, IsMissingIn, lesser_of}
@@ -54,18 +54,17 @@ unknown_all blocks top marks found m sized inside =
     (λ name u. let marked = (m.exact u.place).1 u.reached in record { place = u.place; before = omega (arith, inside u.place marked, m.sized); has = record { marked = marked; missing = u.missing } })
     found
 
--- the marked subcircuit at a place reaches itself
-pub record IsCyclicAt (blocks : List Block) (marks : List Bool) (place : ℕ) (name : List ℕ) : Type 0 where
+-- the subcircuit at a place is marked, and has the name
+pub record IsMarkedAt (blocks : List Block) (marks : List Bool) (place : ℕ) (name : List ℕ) : Type 0 where
   pub marked : IsMarked marks place
-  pub itself : ReachesItself (graph blocks) place
   pub is : name_at blocks place ≡ name
 
-pub cyclic_all : (blocks : List Block) (top : ℕ) (marks : List Bool) (found : Option (List ℕ)) → MarksReached (graph blocks) top marks → length (graph blocks) ≡ length blocks → ((place : ℕ) → IsMarked marks place → place < length marks)
-    → IsLeastOf (IsBelow (IsCyclicAt blocks marks) (length blocks)) found → IsLeastOf (IsCyclic blocks top) found
+pub cyclic_all : (blocks : List Block) (top : ℕ) (marks : List Bool) (found : Option (List ℕ)) → CyclesMarked (graph blocks) top marks → length (graph blocks) ≡ length blocks → ((place : ℕ) → IsMarked marks place → place < length marks)
+    → IsLeastOf (IsBelow (IsMarkedAt blocks marks) (length blocks)) found → IsLeastOf (IsCyclic blocks top) found
 cyclic_all blocks top marks found m sized inside =
-    least_of_as (IsBelow (IsCyclicAt blocks marks) (length blocks)) (IsCyclic blocks top)
-    (λ name b. record { place = b.place; reached = (m.exact b.place).0 b.has.marked; itself = b.has.itself; is = b.has.is })
-    (λ name u. let marked = (m.exact u.place).1 u.reached in record { place = u.place; before = omega (arith, inside u.place marked, m.sized); has = record { marked = marked; itself = u.itself; is = u.is } })
+    least_of_as (IsBelow (IsMarkedAt blocks marks) (length blocks)) (IsCyclic blocks top)
+    (λ name b. let r = (m.exact b.place).0 b.has.marked in record { place = b.place; reached = r.0; itself = r.1; is = b.has.is })
+    (λ name u. let marked = (m.exact u.place).1 (u.reached, u.itself) in record { place = u.place; before = omega (arith, inside u.place marked, m.sized); has = record { marked = marked; is = u.is } })
     found
 
 -- a mark is one of those that there are
@@ -94,8 +93,8 @@ missing_at_least blocks marks place parts found name is l some marked =
       least = λ other m. least.least other (subst (λ (ps : List Part). IsMissingIn ps other) (sym is) m.missing);
     }
 
-pub cyclic_at_least : (blocks : List Block) (marks : List Bool) (place : ℕ) (name : List ℕ) → name ≡ name_at blocks place → IsMarked marks place → ReachesItself (graph blocks) place → IsLeast (IsCyclicAt blocks marks place) name
-cyclic_at_least blocks marks place name is marked itself = record {
-  has = record { marked = marked; itself = itself; is = sym is };
+pub marked_at_least : (blocks : List Block) (marks : List Bool) (place : ℕ) (name : List ℕ) → name ≡ name_at blocks place → IsMarked marks place → IsLeast (IsMarkedAt blocks marks place) name
+marked_at_least blocks marks place name is marked = record {
+  has = record { marked = marked; is = sym is };
   least = λ other m. self_least name other (is ∙ m.is);
 }

@@ -1,5 +1,5 @@
 ghost use Rattle.std.specs.Prelude.{◌≡◌, ◌<◌, ◌≤◌, ◌+◌, None, IfOk, IfErr, MatchResult, length, ◌^◌};
-ghost use Rattle.reference_graph.specs.Reaches.{AreWithin, MarksReached};
+ghost use Rattle.reference_graph.specs.Reaches.{AreWithin};
 ghost use Rattle.reference_graph.specs.BottomUp.{IsOrder};
 ghost use Rattle.spice_netlist.specs.Resolved.{graph};
 ghost use Rattle.spice_netlist.specs.Walk.{walk_at, first_bad};
@@ -26,23 +26,23 @@ use or_geom::{Items, Memory, Name};
 use reference_graph::{order, paths_are_short, reached};
 use std::alloc::Global;
 
-/// Marks what the top reaches. Err where a name that is referred to from there isn't there.
-fn reached_blocks(
+/// Err where a name isn't there that is referred to from what the top reaches.
+fn check_names(
     alloc: Global,
     blocks: &[Block],
     references: &[Items<usize>],
     top: usize,
-) -> Result<Vec<bool>, FlatFault>
+) -> Result<(), FlatFault>
     requires graph { references.now ≡ graph blocks.now }
     requires within { AreWithin references.now }
     requires inside { top < length references.now }
-    ensures { MatchResult result (λ marks. AreAllThere blocks.now top × MarksReached references.now top marks.items) (IsFaultAt blocks.now top) }
+    ensures { MatchResult result (λ _. AreAllThere blocks.now top) (IsFaultAt blocks.now top) }
 {
     let marks = reached(alloc, references, top)?;
     if let Some(name) = least_unknown(alloc, blocks, top, &marks)? {
         return Err(FlatFault::UnknownSubckt { name });
     }
-    Ok(marks)
+    Ok(())
 }
 
 /// What the top reaches, each after all that it refers to. Err where one of them reaches itself.
@@ -57,11 +57,11 @@ fn order_of(
     requires inside { top < length references.now }
     ensures { MatchResult result (λ order. IsHierarchy blocks.now top × IsOrder references.now top order.items) (IsFaultAt blocks.now top) }
 {
-    let marks = reached_blocks(alloc, blocks, references, top)?;
+    check_names(alloc, blocks, references, top)?;
     if let Some(order) = order(alloc, references, top)? {
         return Ok(order);
     }
-    match least_cyclic(alloc, blocks, references, top, &marks)? {
+    match least_cyclic(alloc, blocks, references, top)? {
         Some(name) => Err(FlatFault::Cycle { name }),
         None => unreachable!(),
     }

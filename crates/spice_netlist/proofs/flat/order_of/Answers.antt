@@ -8,7 +8,7 @@ pub returns-in-Some : goal.returns-in-Some
 returns-in-Some c =
     let ordered = rw c.in-Some.is at c.in_ok-order.ensures.order in
     let acyclic = rw c.in-Some.is at c.in_ok-order.ensures.acyclic in
-    (record { there = c.in_ok-marks.ensures.0; acyclic = subst (λ (g : List (List ℕ)). IsAcyclic g c.args.top) c.requires.graph acyclic }, ordered)
+    (record { there = c.in_ok-check_names.ensures; acyclic = subst (λ (g : List (List ℕ)). IsAcyclic g c.args.top) c.requires.graph acyclic }, ordered)
 
 pub unreachable-requires : goal.unreachable-requires
 unreachable-requires c =
