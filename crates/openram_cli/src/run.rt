@@ -56,7 +56,7 @@ pub fn run<R: Threads + Sync, S: Store, K: Sink>(
     ensures memory_clean { result ≡ 5 → K.faults out.new ≡ K.faults out.old }
     ensures silent { result ≡ 5 → (S.faults store.new ≡ S.faults store.old) ⊎ (Rose (S.faults store.old) (S.faults store.new) × Grows (λ text. text ≡ []) (K.written out.old) (K.written out.new)) }
     ensures files { S.files store.new ≡ S.files store.old }
-    // Whatever the files hold, the words have one answer, so that status and text are a function of them.
+    // Over files of bytes the words have one answer at most, so status and text are a function of them.
     ensures one { (files : Files) → HaveOneAnswer (map string_bytes words.now) files }
 {
     match reply_to(alloc, words, store) {
