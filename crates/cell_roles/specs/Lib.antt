@@ -1,0 +1,3 @@
+pub mod Roles
+pub mod Acts
+pub mod Tables

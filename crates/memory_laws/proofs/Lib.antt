@@ -1,0 +1,16 @@
+pub mod Values
+pub mod Circuits
+pub mod Direct
+pub mod Decode
+pub mod Groups
+pub mod Exists
+pub mod Drivers
+pub mod PhaseLaws
+pub mod Unique
+pub mod Commands
+pub mod Runs
+pub mod Facts
+pub mod Plans
+pub mod NumberArrayLaws
+pub mod ExampleLaws
+pub mod NumberLaws

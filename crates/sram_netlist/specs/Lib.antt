@@ -1,0 +1,9 @@
+pub mod Organization
+pub mod Numbers
+pub mod Nets
+pub mod Instances
+pub mod Netlist
+pub mod InstanceList
+pub mod Membership
+pub mod Names
+pub mod Laws
