@@ -8,3 +8,7 @@ mod DistanceLaws
 mod GapLaws
 pub mod CoverLaws
 pub mod PlaceLaws
+pub mod AddsLaws
+pub mod OneListLaws
+pub mod GatheringLaws
+pub mod ShapeOrderLaws

@@ -8,3 +8,8 @@ pub mod Texts
 pub mod Row
 pub mod Place
 pub mod Least
+pub mod Adds
+pub mod OneList
+pub mod Gathering
+pub mod ShapeOrder
+pub mod Reachable

@@ -3,6 +3,7 @@ ghost use Rattle.std.specs.Prelude.{◌≡◌, ◌++◌, ◌∷◌, [], OnOk, On
 use crate::memory::Memory;
 use std::alloc::Global;
 use std::marker::Model;
+use std::ops::DerefSlice;
 
 /// A list. Contracts see it as the list of its items, wherever they lie in memory.
 #[derive(Debug, Drop)]
@@ -53,8 +54,21 @@ impl<T> Items<T> {
     }
 }
 
+/// A list is used as the slice of its items: `len`, `iter`, an index, a range.
+impl<T> DerefSlice for Items<T> {
+    type Elem = T;
+
+    ghost deref_gives = { λ list slice. slice ≡ list };
+
+    fn deref(&self) -> &[T]
+        ensures { result.now ≡ self.now }
+    {
+        &self.items
+    }
+}
+
 impl<T: Drop> Items<T> {
-    /// Adds an item at the end. Where memory is wanting nothing is added.
+    /// Adds an item at the end. Where that is out of memory nothing is added.
     pub fn push(&mut self, item: T) -> Result<(), Memory>
         ensures ok { OnOk result (self.new ≡ self.old ++ item ∷ []) }
         ensures err { OnErr result (self.new ≡ self.old) }

@@ -2,7 +2,7 @@ use std::alloc::{AllocError, AllocFailed};
 use std::error::Error;
 use std::fmt;
 
-/// Want of memory. Any call that allocates may answer it, and no contract says when.
+/// Out of memory. Any call that allocates may answer it, and no contract says when.
 #[derive(Clone, Copy, Debug, PartialEq, Eq)]
 pub struct Memory;
 

@@ -4,6 +4,7 @@ use crate::memory::Memory;
 use std::alloc::Global;
 use std::fmt;
 use std::marker::Model;
+use std::ops::DerefSlice;
 
 /// A name, which is a text of bytes: of a file, a structure, a layer, a pin, an instance.
 /// Contracts see it as the list of its bytes.
@@ -30,6 +31,19 @@ impl fmt::Display for Name {
     }
 }
 
+/// A name is used as the slice of its bytes.
+impl DerefSlice for Name {
+    type Elem = u8;
+
+    ghost deref_gives = { λ name bytes. bytes ≡ name };
+
+    fn deref(&self) -> &[u8]
+        ensures { result.now ≡ self.now }
+    {
+        &self.bytes
+    }
+}
+
 impl Name {
     /// The name that these bytes spell. Any bytes will do.
     pub fn from_bytes(alloc: Global, bytes: &[u8]) -> Result<Name, Memory>
@@ -38,6 +52,13 @@ impl Name {
         Ok(Name {
             bytes: Vec::from_slice(alloc, bytes)?,
         })
+    }
+
+    /// The name that a vector of bytes spells, which is not copied.
+    pub fn from_vec(bytes: Vec<u8>) -> Name
+        ensures { result ≡ bytes.items }
+    {
+        Name { bytes }
     }
 
     /// The bytes of the name.

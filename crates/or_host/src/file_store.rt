@@ -16,7 +16,10 @@ pub struct FileStore<R: Runtime + AllocGlobal> {
 }
 
 impl<R: Runtime + AllocGlobal> FileStore<R> {
-    pub fn new(rt: R) -> Self {
+    /// No call has failed yet. The allocator is that of the runtime.
+    pub fn new(rt: R) -> Self
+        ensures { result.faults ≡ 0 }
+    {
         FileStore { rt, faults: 0 }
     }
 }

@@ -8,7 +8,7 @@ use std::alloc::AllocError;
 /// Why bytes were not printed.
 #[derive(Clone, Copy, Debug, PartialEq, Eq)]
 pub enum PutFail {
-    /// The sink failed, and its count of faults rose. A front of the bytes may be printed.
+    /// The sink failed, and its count of faults rose. A prefix of the bytes may be printed.
     Failed,
     /// There was no memory, and nothing was printed.
     Memory,

@@ -29,7 +29,7 @@ impl From<AllocError> for ReadFail {
 /// Why a write was not done.
 #[derive(Clone, Copy, Debug, PartialEq, Eq)]
 pub enum WriteFail {
-    /// The store failed, and its count of faults rose. The file may hold a front of the bytes.
+    /// The store failed, and its count of faults rose. The file may hold a prefix of the bytes.
     Failed,
     /// There was no memory, and nothing changed.
     Memory,

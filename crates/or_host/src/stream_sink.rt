@@ -13,7 +13,10 @@ pub struct StreamSink<R: Runtime> {
 }
 
 impl<R: Runtime> StreamSink<R> {
-    pub fn new(rt: R) -> Self {
+    /// No call has failed yet. The allocator is that of the runtime.
+    pub fn new(rt: R) -> Self
+        ensures { result.faults ≡ 0 }
+    {
         StreamSink { rt, faults: 0 }
     }
 }

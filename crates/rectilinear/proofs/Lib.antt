@@ -1,2 +1,13 @@
 pub mod SimpleLaws
 pub mod SimpleTest
+pub mod MemberLaws
+pub mod RingLaws
+pub mod RowLaws
+pub mod ToggleLaws
+pub mod LoopLaws
+pub mod BandLaws
+pub mod FillLaws
+pub mod NearLaws
+pub mod ChangeLaws
+pub mod SweepLaws
+pub mod HullLaws

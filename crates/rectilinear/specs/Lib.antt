@@ -2,3 +2,8 @@ pub mod Ring
 pub mod Corners
 pub mod Simple
 pub mod Extents
+pub mod Slabs
+pub mod Rows
+pub mod Heights
+pub mod Laws
+pub mod Changes

@@ -28,6 +28,11 @@ abbrev pub AllMeet : Side → List Side → Type 0
 AllMeet s [] = Unit {0}
 AllMeet s (t ∷ ts) = MeetAsNeighbours s t × AllMeet s ts
 
+-- each of some sides and each of others
+abbrev pub MeetAcross : List Side → List Side → Type 0
+MeetAcross [] ts = Unit {0}
+MeetAcross (s ∷ ss) ts = AllMeet s ts × MeetAcross ss ts
+
 -- of each two sides
 abbrev pub PairsMeet : List Side → Type 0
 PairsMeet [] = Unit {0}

@@ -1,6 +1,6 @@
-ghost use Rattle.std.specs.Prelude.{◌≡◌, ◌↔◌, ◌≤ℤ◌, IsTrue, IfOk};
-ghost use Rattle.rectilinear.specs.Simple.{IsOn, IsStraight, MeetAtMostThere, MeetAsNeighbours, AllMeet, AllStraight, PairsMeet, IsSimple};
-ghost use Rattle.rectilinear.specs.Extents.{IsExtentOf, IsCommon, IsAtMostPoint};
+ghost use Rattle.std.specs.Prelude.{◌≡◌, ◌∷◌, ◌↔◌, ◌≤ℤ◌, IsTrue, IfOk};
+ghost use Rattle.rectilinear.specs.Simple.{IsOn, IsStraight, MeetAtMostThere, MeetAsNeighbours, MeetAcross, AllStraight, PairsMeet, IsSimple};
+ghost use Rattle.rectilinear.specs.Extents.{IsExtentOf, IsCommon, IsAround, IsEmpty, HoldsSides, IsAtMostPoint};
 
 use crate::ring::{Side, sides};
 use or_geom::{Memory, Point};
@@ -110,30 +110,73 @@ fn all_straight(sides: &[Side]) -> bool
     true
 }
 
-fn all_meet(side: Side, sides: &[Side]) -> bool
-    ensures { IsTrue result ↔ AllMeet side sides.now }
+/// The box round both.
+fn around(e: Extent, f: Extent) -> Extent
+    ensures { IsAround e f result }
 {
-    let mut rest = sides;
-    while let Some((other, others)) = rest.split_first() {
-        if !meet_as_neighbours(side, *other) {
-            return false;
-        }
-        rest = others;
+    Extent {
+        low: Point {
+            x: e.low.x.min(f.low.x),
+            y: e.low.y.min(f.low.y),
+        },
+        high: Point {
+            x: e.high.x.max(f.high.x),
+            y: e.high.y.max(f.high.y),
+        },
     }
-    true
 }
 
+/// The box round some sides.
+fn hull_of(first: Side, others: &[Side]) -> Extent
+    ensures { HoldsSides result (first ∷ others.now) }
+{
+    let mut hull = extent_of(first);
+    for side in others {
+        hull = around(hull, extent_of(*side));
+    }
+    hull
+}
+
+fn is_empty(extent: Extent) -> bool
+    ensures { IsTrue result → IsEmpty extent }
+{
+    extent.high.x < extent.low.x || extent.high.y < extent.low.y
+}
+
+/// Whether each of some sides meets each of others only as a neighbour. Sides whose boxes are apart don't meet; else the
+/// longer list is halved. Of a ring in its order most halves are soon apart.
+fn meet_across(sides: &[Side], others: &[Side]) -> bool
+    ensures { IsTrue result ↔ MeetAcross sides.now others.now }
+{
+    let Some((side, after)) = sides.split_first() else {
+        return true;
+    };
+    let Some((other, behind)) = others.split_first() else {
+        return true;
+    };
+    if is_empty(common(hull_of(*side, after), hull_of(*other, behind))) {
+        return true;
+    }
+    if after.is_empty() && behind.is_empty() {
+        return meet_as_neighbours(*side, *other);
+    }
+    if sides.len() < others.len() {
+        let (front, back) = others.split_at(others.len() / 2);
+        return meet_across(sides, front) && meet_across(sides, back);
+    }
+    let (front, back) = sides.split_at(sides.len() / 2);
+    meet_across(front, others) && meet_across(back, others)
+}
+
+/// Whether each two sides meet only as neighbours.
 fn pairs_meet(sides: &[Side]) -> bool
     ensures { IsTrue result ↔ PairsMeet sides.now }
 {
-    let mut rest = sides;
-    while let Some((side, others)) = rest.split_first() {
-        if !all_meet(*side, others) {
-            return false;
-        }
-        rest = others;
+    if sides.len() < 2 {
+        return true;
     }
-    true
+    let (front, back) = sides.split_at(sides.len() / 2);
+    pairs_meet(front) && pairs_meet(back) && meet_across(front, back)
 }
 
 /// Whether the ring's sides are parallel to the axes and meet only as neighbours.

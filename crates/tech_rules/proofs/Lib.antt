@@ -1,6 +1,9 @@
 pub mod NameLaws
 pub mod LayerFacts
-pub mod PlaceFacts
+pub mod IndexFacts
 pub mod RuleFacts
 pub mod WireFacts
 pub mod TechFacts
+pub mod SpacingLaws
+pub mod DrawingLaws
+pub mod WireLaws

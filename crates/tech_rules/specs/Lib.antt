@@ -1,3 +1,4 @@
+pub mod Fault
 pub mod Layers
 pub mod Names
 pub mod Rules
@@ -7,3 +8,7 @@ pub mod WireRules
 pub mod Roles
 pub mod Facts
 pub mod Technology
+pub mod Drawing
+pub mod Spacing
+pub mod Touch
+pub mod Net

@@ -1,11 +1,14 @@
 -- The technology that a file is, or its first fault.
 use Rattle.std.specs.Prelude.{ℕ, List, option_map, unwrap_or, Result, Ok, Err, codes}
 use Rattle.std.specs.Option.{ok_or}
-use Rattle.tech_keys.specs.declared.fault.TechFault.{TechFault}
-use Rattle.tech_keys.specs.declared.fault.TechFault.TheVariants.{NotToml, BadWire}
+use Rattle.tech_rules.specs.declared.fault.TechFault.{TechFault}
+use Rattle.tech_rules.specs.declared.fault.TechFault.TheVariants.{NotToml, BadWire}
 use Rattle.tech_rules.specs.declared.tech.Tech.{Tech}
-use Rattle.tech_keys.specs.Document.{document}
-use Rattle.tech_keys.specs.Keys.{◌>>=◌, Section, whole}
+use Rattle.toml.specs.Data.{table}
+use Rattle.tech_rules.specs.Fault.{tech_faults}
+use Rattle.toml_keys.specs.Document.{document}
+use Rattle.toml_keys.specs.Fault.{◌>>=◌}
+use Rattle.toml_keys.specs.Keys.{Section, whole}
 use Rattle.tech_rules.specs.Layers.{layers_under, layer_under}
 use Rattle.tech_rules.specs.Rules.{rules_under}
 use Rattle.tech_rules.specs.Connects.{connects_under}
@@ -18,7 +21,7 @@ abbrev pub with_good_wires : Tech → Result Tech TechFault
 with_good_wires tech = unwrap_or (option_map (λ layer. Err (BadWire layer.name)) (bad_layer tech)) (Ok tech)
 
 -- the technology that a document's keys describe, key by key
-unfoldable pub tech_in : Section → Result Tech TechFault
+unfoldable pub tech_in : Section TechFault → Result Tech TechFault
 tech_in s =
     layers_under s >>= λ layers.
     layer_under layers s (codes "outline") >>= λ outline.
@@ -31,4 +34,4 @@ tech_in s =
 
 -- the technology of a file
 abbrev pub technology : List ℕ → Result Tech TechFault
-technology bytes = ok_or (document bytes) NotToml >>= λ ms. tech_in (whole ms)
+technology bytes = ok_or (document bytes) NotToml >>= λ ms. tech_in (whole tech_faults (table ms))

@@ -25,15 +25,15 @@ margin wire = int_div (wire.width -ℤ wire.cut) (pos 2)
 
 -- a width rule of the layer above the width, or a space rule of the layer with itself above the space
 abbrev pub forbids : ℕ → Sizes → Rule → Bool
-forbids place sizes (Width layer min) = (layer == place) && is_lt (int_cmp sizes.width min)
-forbids place sizes (Space layer other min) = ((layer == place) && (other == place)) && is_lt (int_cmp sizes.space min)
-forbids place sizes (Enclose layer by min) = false
+forbids index sizes (Width layer min) = (layer == index) && is_lt (int_cmp sizes.width min)
+forbids index sizes (Space layer other min) = ((layer == index) && (other == index)) && is_lt (int_cmp sizes.space min)
+forbids index sizes (Enclose layer by min) = false
 
 -- an enclose rule of the layer above the margin
 abbrev pub encloses_beyond : ℕ → Wire → Rule → Bool
-encloses_beyond place wire (Width layer min) = false
-encloses_beyond place wire (Space layer other min) = false
-encloses_beyond place wire (Enclose layer by min) = (layer == place) && is_lt (int_cmp (margin wire) min)
+encloses_beyond index wire (Width layer min) = false
+encloses_beyond index wire (Space layer other min) = false
+encloses_beyond index wire (Enclose layer by min) = (layer == index) && is_lt (int_cmp (margin wire) min)
 
 -- a connection by this cut to both metals
 abbrev pub joins : ℕ → ℕ → ℕ → Connect → Bool
@@ -43,9 +43,9 @@ joins cut low high connect = (connect.cut == cut) && (list_any (λ to. to == low
 abbrev pub has_numbers : ℤ → ℤ → Layer → Bool
 has_numbers number datatype layer = int_eq layer.number number && int_eq layer.datatype datatype
 
--- an earlier layer has the numbers of the layer at this place
+-- an earlier layer has the numbers of the layer at this index
 abbrev pub is_hidden : List Layer → ℕ → Bool
-is_hidden layers place = unwrap_or (option_map (λ layer. list_any (has_numbers layer.number layer.datatype) (take place layers)) (slice_get layers place)) false
+is_hidden layers index = unwrap_or (option_map (λ layer. list_any (has_numbers layer.number layer.datatype) (take index layers)) (slice_get layers index)) false
 
 -- the rules don't allow the wires on a metal
 abbrev pub is_bad_metal : Tech → Wire → ℕ → Bool
@@ -66,8 +66,8 @@ first_bad_cut tech wire (cut ∷ cuts) (low ∷ high ∷ metals) =
 first_bad_cut tech wire _ _ = None
 
 -- the first layer of the wires, from the lowest metal and then from the lowest cut, on which they aren't allowed
-abbrev pub first_bad_place : Tech → Wire → Option ℕ
-first_bad_place tech wire = option_or (find (is_bad_metal tech wire) wire.metals) (first_bad_cut tech wire wire.cuts wire.metals)
+abbrev pub first_bad_index : Tech → Wire → Option ℕ
+first_bad_index tech wire = option_or (find (is_bad_metal tech wire) wire.metals) (first_bad_cut tech wire wire.cuts wire.metals)
 
 abbrev pub bad_layer : Tech → Option Layer
-bad_layer tech = option_and_then (slice_get tech.layers) (option_and_then (first_bad_place tech) tech.wire)
+bad_layer tech = option_and_then (slice_get tech.layers) (option_and_then (first_bad_index tech) tech.wire)

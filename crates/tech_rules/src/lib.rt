@@ -2,15 +2,18 @@
 #![tactic(auto)]
 
 mod connects;
+mod fault;
 mod layers;
 mod names;
 mod read;
 mod roles;
+mod route;
 mod rules;
 mod tech;
 mod wire_rules;
 mod wires;
 
+pub use fault::TechFault;
 pub use read::read_tech;
+pub use route::{RouteFault, Tap, first_close, via};
 pub use tech::{Connect, Layer, RoleName, RoleRows, Rule, Tech, Wire};
-pub use tech_keys::TechFault;

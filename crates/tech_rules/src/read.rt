@@ -1,13 +1,17 @@
+ghost use Rattle.tech_rules.specs.Fault.{tech_faults};
+ghost use Rattle.tech_rules.specs.declared.fault.TechFault.TheVariants.{Memory};
 ghost use Rattle.std.specs.Prelude.{◌≡◌, ◌≢◌, [], IfOk, IfErr};
 ghost use Rattle.toml.specs.View.{view};
 ghost use Rattle.std.specs.Option.{ForSome};
 ghost use Rattle.tech_rules.specs.Facts.{AreSizes, IsTech};
-ghost use Rattle.tech_keys.specs.Keys.{Gives};
+ghost use Rattle.toml_keys.specs.Fault.{MatchesUnless};
 ghost use Rattle.tech_rules.specs.Technology.{with_good_wires, tech_in, technology};
-ghost use Rattle.tech_keys.specs.Section.{section_of};
-ghost use Rattle.tech_keys.specs.declared.fault.TechFault.TheVariants as tech_fault;
+ghost use Rattle.toml_keys.specs.Keys.{whole};
+ghost use Rattle.toml_keys.specs.Section.{section_of};
+ghost use Rattle.tech_rules.specs.declared.fault.TechFault.TheVariants as tech_fault;
 
 use crate::connects::connects_from;
+use crate::fault::TechFault;
 use crate::layers::{layer_at, layers_from};
 use crate::roles::{roles_from, rows_from};
 use crate::rules::rules_from;
@@ -16,8 +20,8 @@ use crate::wire_rules::bad_layer;
 use crate::wires::wire_from;
 use or_geom::Name;
 use std::alloc::Global;
-use tech_keys::{Block, TechFault, document_from};
 use toml::Value;
+use toml_keys::{KeyTable, document_from};
 
 /// Reads a technology file, which is a TOML document. Its keys are looked at in a fixed order, and the first that isn't as
 /// it has to be is the fault: one that is missing, then one of another kind, then one that isn't allowed, then one that
@@ -36,15 +40,15 @@ pub fn read_tech(alloc: Global, bytes: &[u8]) -> Result<Tech, TechFault>
 
 /// The technology that a document's keys describe, which are looked at in a fixed order.
 fn tech_from(alloc: Global, document: &Value) -> Result<Tech, TechFault>
-    ensures given { Gives (λ t. t) result (tech_in (record { path = []; table = view document.now })) }
+    ensures given { MatchesUnless Memory result (tech_in (whole tech_faults (view document.now))) }
     ensures good { IfOk result IsTech }
 {
-    tech_in_block(&Block::whole(alloc, document))
+    tech_in(&KeyTable::whole(alloc, document))
 }
 
 #[tactic(auto, unfolding(crate::specs::Technology::tech_in))]
-fn tech_in_block(document: &Block) -> Result<Tech, TechFault>
-    ensures { Gives (λ t. t) result (tech_in (section_of document.now)) }
+fn tech_in(document: &KeyTable<TechFault>) -> Result<Tech, TechFault>
+    ensures { MatchesUnless Memory result (tech_in (section_of tech_faults document.now)) }
 {
     let layers = layers_from(document)?;
     let outline = layer_at(document, "outline", layers.as_slice())?;
@@ -62,13 +66,13 @@ fn tech_in_block(document: &Block) -> Result<Tech, TechFault>
         roles,
         tables,
     };
-    with_good_wires(document.alloc, tech)
+    with_good_wires(document.alloc(), tech)
 }
 
 /// The technology, unless its rules and connections don't allow its wires.
 fn with_good_wires(alloc: Global, tech: Tech) -> Result<Tech, TechFault>
     requires { ForSome tech.wire AreSizes }
-    ensures { Gives (λ t. t) result (with_good_wires tech) }
+    ensures { MatchesUnless Memory result (with_good_wires tech) }
 {
     if let Some(layer) = bad_layer(&tech) {
         let layer = Name::from_bytes(alloc, layer.name.as_bytes())?;

@@ -1,32 +1,50 @@
+ghost use Rattle.tech_rules.specs.Fault.{tech_faults};
+ghost use Rattle.tech_rules.specs.declared.fault.TechFault.TheVariants.{Memory};
 ghost use Rattle.std.specs.Prelude.{◌≤◌, [], map, codes, length};
 ghost use Rattle.toml.specs.View.{view};
-ghost use Rattle.tech_keys.specs.Keys.{Gives, each};
+ghost use Rattle.toml_keys.specs.Fault.{MatchesUnless, in_turn};
 ghost use Rattle.tech_rules.specs.Rules.{minimum_under, layers_named, width_rule, space_rule, enclose_rule, rule_in, rule_of, rules_under};
-ghost use Rattle.tech_keys.specs.Section.{section_of};
+ghost use Rattle.toml_keys.specs.Section.{section_of};
 
-use crate::layers::{layer_at, places_at};
+use crate::fault::TechFault;
+use crate::layers::{indices_at, layer_at};
 use crate::tech::{Layer, Rule};
 use or_geom::Items;
-use std::alloc::Global;
-use tech_keys::{Block, TechFault};
 use toml::Value;
+use toml_keys::KeyTable;
+
+/// The greatest number of rules.
+const MAX_RULES: usize = 256;
+
+/// The greatest number of layers that a rule of enclosure names.
+const MAX_ENCLOSING: usize = 8;
+
+/// The greatest minimum of a rule, in nanometres.
+const MAX_MINIMUM: i64 = 1_048_576;
 
 /// The design rules of the document.
-pub fn rules_from(document: &Block, layers: &[Layer]) -> Result<Items<Rule>, TechFault>
+pub fn rules_from(
+    document: &KeyTable<TechFault>,
+    layers: &[Layer],
+) -> Result<Items<Rule>, TechFault>
     requires { length layers.now ≤ 64 }
-    ensures { Gives (λ r. r) result (rules_under layers.now (section_of document.now)) }
+    ensures { MatchesUnless Memory result (rules_under layers.now (section_of tech_faults document.now)) }
 {
-    let tables = document.optional_tables("rule", 256)?;
-    rules_in(document.alloc, layers, tables)
+    let tables = document.optional_tables("rule", MAX_RULES)?;
+    rules_in(document, layers, tables)
 }
 
-fn rules_in(alloc: Global, layers: &[Layer], tables: &[Value]) -> Result<Items<Rule>, TechFault>
+fn rules_in(
+    document: &KeyTable<TechFault>,
+    layers: &[Layer],
+    tables: &[Value],
+) -> Result<Items<Rule>, TechFault>
     requires { length layers.now ≤ 64 }
-    ensures { Gives (λ r. r) result (each (rule_of layers.now) [] (map view tables.now)) }
+    ensures { MatchesUnless Memory result (in_turn (rule_of layers.now (section_of tech_faults document.now)) [] (map view tables.now)) }
 {
-    let mut rules = Items::new(alloc);
+    let mut rules = Items::new(document.alloc());
     for table in tables {
-        let rule = rule_after(alloc, layers, rules.as_slice(), table)?;
+        let rule = rule_after(document, layers, rules.as_slice(), table)?;
         rules.push(rule)?;
     }
     Ok(rules)
@@ -34,84 +52,84 @@ fn rules_in(alloc: Global, layers: &[Layer], tables: &[Value]) -> Result<Items<R
 
 /// One rule, after those before it.
 fn rule_after(
-    alloc: Global,
+    document: &KeyTable<TechFault>,
     layers: &[Layer],
     before: &[Rule],
     table: &Value,
 ) -> Result<Rule, TechFault>
     requires { length layers.now ≤ 64 }
-    ensures { Gives (λ r. r) result (rule_of layers.now before.now (view table.now)) }
+    ensures { MatchesUnless Memory result (rule_of layers.now (section_of tech_faults document.now) before.now (view table.now)) }
 {
-    let block = Block::item(alloc, "rule", before.len(), table)?;
-    rule_from(&block, layers)
+    let keys = document.item("rule", before.len(), table)?;
+    rule_from(&keys, layers)
 }
 
 #[tactic(auto, unfolding(crate::specs::Rules::rule_in))]
-fn rule_from(block: &Block, layers: &[Layer]) -> Result<Rule, TechFault>
+fn rule_from(keys: &KeyTable<TechFault>, layers: &[Layer]) -> Result<Rule, TechFault>
     requires { length layers.now ≤ 64 }
-    ensures { Gives (λ r. r) result (rule_in layers.now (section_of block.now)) }
+    ensures { MatchesUnless Memory result (rule_in layers.now (section_of tech_faults keys.now)) }
 {
-    let kind = block.text("kind")?;
+    let kind = keys.text("kind")?;
     if kind == "width" {
-        return width_from(block, layers);
+        return width_from(keys, layers);
     }
     if kind == "space" {
-        return space_from(block, layers);
+        return space_from(keys, layers);
     }
     if kind == "enclose" {
-        return enclose_from(block, layers);
+        return enclose_from(keys, layers);
     }
-    Err(block.out_of_range("kind"))
+    Err(keys.out_of_range("kind"))
 }
 
 #[tactic(auto, unfolding(crate::specs::Rules::width_rule))]
-fn width_from(block: &Block, layers: &[Layer]) -> Result<Rule, TechFault>
+fn width_from(keys: &KeyTable<TechFault>, layers: &[Layer]) -> Result<Rule, TechFault>
     requires { length layers.now ≤ 64 }
-    ensures { Gives (λ r. r) result (width_rule layers.now (section_of block.now)) }
+    ensures { MatchesUnless Memory result (width_rule layers.now (section_of tech_faults keys.now)) }
 {
-    let layer = layer_at(block, "layer", layers)?;
-    let min = minimum(block)?;
+    let layer = layer_at(keys, "layer", layers)?;
+    let min = minimum(keys)?;
     Ok(Rule::Width { layer, min })
 }
 
 #[tactic(auto, unfolding(crate::specs::Rules::space_rule))]
-fn space_from(block: &Block, layers: &[Layer]) -> Result<Rule, TechFault>
+fn space_from(keys: &KeyTable<TechFault>, layers: &[Layer]) -> Result<Rule, TechFault>
     requires { length layers.now ≤ 64 }
-    ensures { Gives (λ r. r) result (space_rule layers.now (section_of block.now)) }
+    ensures { MatchesUnless Memory result (space_rule layers.now (section_of tech_faults keys.now)) }
 {
-    let layer = layer_at(block, "layer", layers)?;
-    let other = layer_at(block, "other", layers)?;
-    let min = minimum(block)?;
+    let layer = layer_at(keys, "layer", layers)?;
+    let other = layer_at(keys, "other", layers)?;
+    let min = minimum(keys)?;
     Ok(Rule::Space { layer, other, min })
 }
 
 #[tactic(auto, unfolding(crate::specs::Rules::enclose_rule))]
-fn enclose_from(block: &Block, layers: &[Layer]) -> Result<Rule, TechFault>
+fn enclose_from(keys: &KeyTable<TechFault>, layers: &[Layer]) -> Result<Rule, TechFault>
     requires { length layers.now ≤ 64 }
-    ensures { Gives (λ r. r) result (enclose_rule layers.now (section_of block.now)) }
+    ensures { MatchesUnless Memory result (enclose_rule layers.now (section_of tech_faults keys.now)) }
 {
-    let layer = layer_at(block, "layer", layers)?;
-    let by = enclosing(block, layers)?;
-    let min = minimum(block)?;
+    let layer = layer_at(keys, "layer", layers)?;
+    let by = enclosing(keys, layers)?;
+    let min = minimum(keys)?;
     Ok(Rule::Enclose { layer, by, min })
 }
 
 /// The layers of which one has to enclose another.
-fn enclosing(block: &Block, layers: &[Layer]) -> Result<Items<u16>, TechFault>
+fn enclosing(keys: &KeyTable<TechFault>, layers: &[Layer]) -> Result<Items<u16>, TechFault>
     requires { length layers.now ≤ 64 }
-    ensures { Gives (λ p. p) result (layers_named 1 8 layers.now (section_of block.now) (codes "by")) }
+    ensures { MatchesUnless Memory result (layers_named 1 8 layers.now (section_of tech_faults keys.now) (codes "by")) }
 {
-    let names = block.names("by")?;
+    let names = keys.texts("by")?;
     let names = names.as_slice();
-    if names.is_empty() || 8 < names.len() {
-        return Err(block.out_of_range("by"));
+    if names.is_empty() || MAX_ENCLOSING < names.len() {
+        return Err(keys.out_of_range("by"));
     }
-    places_at(block, "by", layers, names)
+    indices_at(keys, "by", layers, names)
 }
 
 /// The least number of nanometres that a rule asks for.
-fn minimum(block: &Block) -> Result<i64, TechFault>
-    ensures { Gives (λ z. z) result (minimum_under (section_of block.now)) }
+fn minimum(keys: &KeyTable<TechFault>) -> Result<i64, TechFault>
+    ensures { MatchesUnless Memory result (minimum_under (section_of tech_faults keys.now)) }
 {
-    block.number("min", 1, 1_048_576)
+    keys.number("min", 1, MAX_MINIMUM)
 }

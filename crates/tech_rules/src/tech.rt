@@ -1,7 +1,7 @@
 use or_geom::{Items, Name};
 
 /// A layer: its name, the numbers that its shapes have in a GDSII file (LAYER and DATATYPE), and those that its labels
-/// have (LAYER and TEXTTYPE). Other parts of a technology name it by its place, from 0, in the list of layers.
+/// have (LAYER and TEXTTYPE). Other parts of a technology name it by its index in the list of layers, from 0.
 #[derive(Debug, Drop)]
 pub struct Layer {
     pub name: Name,

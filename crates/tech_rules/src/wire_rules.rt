@@ -2,7 +2,7 @@ ghost use Rattle.std.specs.Prelude.{◌≡◌, ◌==◌, take, find, slice_get, 
 ghost use Rattle.std.specs.List.{list_any};
 ghost use Rattle.std.specs.Option.{ForSome};
 ghost use Rattle.tech_rules.specs.Facts.{AreSizes};
-ghost use Rattle.tech_rules.specs.WireRules.{cut_sizes, margin, forbids, encloses_beyond, joins, has_numbers, is_hidden, is_bad_metal, breaks_cut_rules, is_bad_cut, first_bad_cut, first_bad_place, bad_layer};
+ghost use Rattle.tech_rules.specs.WireRules.{cut_sizes, margin, forbids, encloses_beyond, joins, has_numbers, is_hidden, is_bad_metal, breaks_cut_rules, is_bad_cut, first_bad_cut, first_bad_index, bad_layer};
 
 use crate::tech::{Connect, Layer, Rule, Tech, Wire};
 
@@ -22,19 +22,19 @@ pub fn bad_layer(tech: &Tech) -> Option<&Layer>
     let Some(wire) = &tech.wire else {
         return None;
     };
-    let place = first_bad_place(tech, wire)?;
-    layer_at(tech, place)
+    let index = first_bad_index(tech, wire)?;
+    layer_at(tech, index)
 }
 
-fn layer_at(tech: &Tech, place: u16) -> Option<&Layer>
-    ensures { option_map (λ l. l.now) result ≡ slice_get tech.now.layers place }
+fn layer_at(tech: &Tech, index: u16) -> Option<&Layer>
+    ensures { option_map (λ l. l.now) result ≡ slice_get tech.now.layers index }
 {
-    tech.layers.as_slice().get(usize::from(place))
+    tech.layers.as_slice().get(usize::from(index))
 }
 
-fn first_bad_place(tech: &Tech, wire: &Wire) -> Option<u16>
+fn first_bad_index(tech: &Tech, wire: &Wire) -> Option<u16>
     requires { AreSizes wire.now }
-    ensures { result ≡ first_bad_place tech.now wire.now }
+    ensures { result ≡ first_bad_index tech.now wire.now }
 {
     match bad_metal(tech, wire) {
         Some(metal) => Some(metal),
@@ -62,19 +62,19 @@ fn is_bad_metal(tech: &Tech, wire: &Wire, metal: u16) -> bool
 }
 
 /// Whether a rule doesn't allow shapes of this width and space on a layer.
-fn are_forbidden(rules: &[Rule], place: u16, sizes: Sizes) -> bool
-    ensures { result ≡ list_any (forbids place sizes) rules.now }
+fn are_forbidden(rules: &[Rule], index: u16, sizes: Sizes) -> bool
+    ensures { result ≡ list_any (forbids index sizes) rules.now }
 {
-    rules.iter().any(|rule| forbids(rule, place, sizes))
+    rules.iter().any(|rule| forbids(rule, index, sizes))
 }
 
-fn forbids(rule: &Rule, place: u16, sizes: Sizes) -> bool
-    ensures { result ≡ forbids place sizes rule.now }
+fn forbids(rule: &Rule, index: u16, sizes: Sizes) -> bool
+    ensures { result ≡ forbids index sizes rule.now }
 {
     match rule {
-        Rule::Width { layer, min } => *layer == place && sizes.width < *min,
-        Rule::Space { layer, other, min } => *layer == place
-            && *other == place
+        Rule::Width { layer, min } => *layer == index && sizes.width < *min,
+        Rule::Space { layer, other, min } => *layer == index
+            && *other == index
             && sizes.space < *min,
         Rule::Enclose { .. } => false,
     }
@@ -103,13 +103,9 @@ fn is_bad_cut(tech: &Tech, wire: &Wire, cut: u16, low: u16, high: u16) -> bool
     requires { AreSizes wire.now }
     ensures { result ≡ is_bad_cut tech.now wire.now cut low high }
 {
-    if is_hidden(tech.layers.as_slice(), cut) {
-        return true;
-    }
-    if breaks_cut_rules(tech, wire, cut) {
-        return true;
-    }
-    !are_joined(tech.connects.as_slice(), cut, low, high)
+    is_hidden(tech.layers.as_slice(), cut)
+        || breaks_cut_rules(tech, wire, cut)
+        || !are_joined(tech.connects.as_slice(), cut, low, high)
 }
 
 /// Whether a rule on a cut's layer asks for more than wires give.
@@ -117,10 +113,8 @@ fn breaks_cut_rules(tech: &Tech, wire: &Wire, cut: u16) -> bool
     requires { AreSizes wire.now }
     ensures { result ≡ breaks_cut_rules tech.now wire.now cut }
 {
-    if are_forbidden(tech.rules.as_slice(), cut, cut_sizes(wire)) {
-        return true;
-    }
-    are_enclosed_beyond(tech.rules.as_slice(), cut, wire)
+    are_forbidden(tech.rules.as_slice(), cut, cut_sizes(wire))
+        || are_enclosed_beyond(tech.rules.as_slice(), cut, wire)
 }
 
 /// The side of a cut, and the space to that of a neighbouring wire. Cuts stand as far apart as the wires, and further by
@@ -136,7 +130,7 @@ fn cut_sizes(wire: &Wire) -> Sizes
 }
 
 /// How far a wire goes beyond its cuts on each side.
-fn margin(wire: &Wire) -> i64
+pub fn margin(wire: &Wire) -> i64
     requires { AreSizes wire.now }
     ensures { result ≡ margin wire.now }
 {
@@ -177,19 +171,19 @@ fn joins(connect: &Connect, cut: u16, low: u16, high: u16) -> bool
         && leads_to(connect.to.as_slice(), high)
 }
 
-fn leads_to(places: &[u16], place: u16) -> bool
-    ensures { result ≡ list_any (λ to. to == place) places.now }
+fn leads_to(indices: &[u16], index: u16) -> bool
+    ensures { result ≡ list_any (λ to. to == index) indices.now }
 {
-    places.iter().any(|to| *to == place)
+    indices.iter().any(|to| *to == index)
 }
 
-/// Whether an earlier layer has the numbers of the layer at this place, so that the place's own shapes count as that layer's.
-fn is_hidden(layers: &[Layer], place: u16) -> bool
-    ensures { result ≡ is_hidden layers.now place }
+/// Whether an earlier layer has the numbers of the layer at this index, so that this layer's own shapes count as those of the earlier.
+fn is_hidden(layers: &[Layer], index: u16) -> bool
+    ensures { result ≡ is_hidden layers.now index }
 {
-    let place = usize::from(place);
-    match layers.get(place) {
-        Some(layer) => is_among(&layers[..place], layer),
+    let index = usize::from(index);
+    match layers.get(index) {
+        Some(layer) => is_among(&layers[..index], layer),
         None => false,
     }
 }

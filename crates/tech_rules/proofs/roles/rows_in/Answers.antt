@@ -1,6 +1,6 @@
 use Rattle.std.proofs.Common.{refl, sym, ◌∙◌}
 use Rattle.std.proofs.lemmas.Result.{err_from_is_err_and}
-use Rattle.tech_keys.proofs.EachLaws.{picks, picked_fails, all_picked}
+use Rattle.toml_keys.proofs.TurnLaws.{picks, picked_fails, all_picked}
 use Rattle.tech_rules.proofs.roles.rows_in.Goals as goal
 
 pub returns-in_err-rows : goal.returns-in_err-rows

@@ -1,11 +1,12 @@
-use Rattle.std.proofs.Common.{◌≡◌, [], drop, map, filter, is_some}
-use Rattle.toml.specs.Data.{get}
-use Rattle.tech_keys.specs.Keys.{each}
-use Rattle.tech_keys.specs.Section.{section_of}
+use Rattle.std.proofs.Common.{◌≡◌, [], drop, map, filter}
+use Rattle.toml_keys.specs.Fault.{in_turn}
+use Rattle.toml_keys.specs.Keys.{has_key}
+use Rattle.toml_keys.specs.Section.{section_of}
 use Rattle.tech_rules.specs.Roles.{role_rows}
+use Rattle.tech_rules.specs.Fault.{tech_faults}
 use Rattle.tech_rules.proofs.roles.rows_in.Given as goal
 
 abbrev pub invariant-loop-role : goal.invariant-loop-role
 invariant-loop-role l =
-    each (λ _ role. role_rows (section_of l.section) role) l.tables (filter (λ role. is_some (get role (section_of l.section).table)) (map (λ t. t.now) (drop l.role-index l.names)))
-    ≡ each (λ _ role. role_rows (section_of l.section) role) [] (filter (λ role. is_some (get role (section_of l.section).table)) (map (λ t. t.now) l.names))
+    in_turn (λ _ role. role_rows (section_of tech_faults l.section) role) l.tables (filter (λ role. has_key (section_of tech_faults l.section) role) (map (λ t. t.now) (drop l.role-index l.names)))
+    ≡ in_turn (λ _ role. role_rows (section_of tech_faults l.section) role) [] (filter (λ role. has_key (section_of tech_faults l.section) role) (map (λ t. t.now) l.names))

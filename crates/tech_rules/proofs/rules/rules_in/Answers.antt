@@ -1,18 +1,17 @@
 use Rattle.std.proofs.lemmas.Result.{err_from_is_err_and}
 use Rattle.toml.specs.View.{view}
-use Rattle.tech_rules.specs.Rules.{rule_of}
-use Rattle.tech_keys.proofs.EachLaws.{goes_on, stops, is_over}
+use Rattle.toml_keys.proofs.TurnLaws.{goes_on, stops, is_over}
 use Rattle.tech_rules.proofs.rules.rules_in.Goals as goal
 
 pub returns-in_err-rule : goal.returns-in_err-rule
 returns-in_err-rule c =
     let p = err_from_is_err_and c.from_residual.result c.from_residual.ensures.1 in
-    rw (p.1, p.2) (stops view (rule_of c.args.layers.now) _ c.args.tables.now c.loop-table.table-index c.table-item.result _ _ _ c.loop-table-test.true c.table-item.is (rw c.as_slice.ensures at c.in_err-rule.ensures) c.loop-table.invariant)
+    rw (p.1, p.2) (stops view _ _ c.args.tables.now c.loop-table.table-index c.table-item.result _ _ _ c.loop-table-test.true c.table-item.is (rw c.as_slice.ensures at c.in_err-rule.ensures) c.loop-table.invariant)
 
 pub loop-table-preserved : goal.loop-table-preserved
 loop-table-preserved c =
     rw c.in_ok-push.ensures.ok
-    (goes_on view (rule_of c.args.layers.now) _ c.args.tables.now c.loop-table.table-index c.table-item.result _ _ _ c.loop-table-test.true c.table-item.is (rw c.as_slice.ensures at c.in_ok-rule.ensures) c.loop-table.invariant)
+    (goes_on view _ _ c.args.tables.now c.loop-table.table-index c.table-item.result _ _ _ c.loop-table-test.true c.table-item.is (rw c.as_slice.ensures at c.in_ok-rule.ensures) c.loop-table.invariant)
 
 pub returns : goal.returns
-returns c = is_over view (rule_of c.args.layers.now) _ c.args.tables.now c.loop-table.table-index _ c.loop-table-test.false c.loop-table.invariant
+returns c = is_over view _ _ c.args.tables.now c.loop-table.table-index _ c.loop-table-test.false c.loop-table.invariant

@@ -1,8 +1,10 @@
 use Rattle.std.proofs.Common.{◌≡◌, [], drop, map}
 use Rattle.toml.specs.View.{view}
-use Rattle.tech_keys.specs.Keys.{each}
+use Rattle.toml_keys.specs.Fault.{in_turn}
+use Rattle.toml_keys.specs.Section.{section_of}
 use Rattle.tech_rules.specs.Rules.{rule_of}
+use Rattle.tech_rules.specs.Fault.{tech_faults}
 use Rattle.tech_rules.proofs.rules.rules_in.Given as goal
 
 abbrev pub invariant-loop-table : goal.invariant-loop-table
-invariant-loop-table l = each (rule_of l.layers) l.rules (map view (drop l.table-index l.tables)) ≡ each (rule_of l.layers) [] (map view l.tables)
+invariant-loop-table l = in_turn (rule_of l.layers (section_of tech_faults l.document)) l.rules (map view (drop l.table-index l.tables)) ≡ in_turn (rule_of l.layers (section_of tech_faults l.document)) [] (map view l.tables)

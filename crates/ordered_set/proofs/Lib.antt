@@ -1,4 +1,0 @@
-pub mod AddsLaws
-pub mod OneListLaws
-pub mod GatheringLaws
-pub mod ShapeOrderLaws

@@ -1,6 +1,0 @@
-ghost use Rattle.ordered_set.specs.OneList.{AreOneList};
-
-/// Two lists in strict order that hold the same things are one list, whatever the order is.
-pub fn sets_are_one_list()
-    ensures { AreOneList }
-{}

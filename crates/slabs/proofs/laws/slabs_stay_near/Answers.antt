@@ -1,5 +1,0 @@
-use Rattle.slabs.proofs.NearLaws.{slabs_stay_near}
-use Rattle.slabs.proofs.laws.slabs_stay_near.Goals as goal
-
-pub returns : goal.returns
-returns c = slabs_stay_near

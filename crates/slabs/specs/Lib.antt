@@ -1,4 +1,0 @@
-pub mod Slabs
-pub mod Rows
-pub mod Heights
-pub mod Laws

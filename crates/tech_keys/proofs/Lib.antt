@@ -1,3 +1,0 @@
-pub mod DocumentLaws
-pub mod EachLaws
-pub mod StepLaws

@@ -1,0 +1,4 @@
+pub mod DocumentLaws
+pub mod StepLaws
+pub mod TurnLaws
+pub mod UnknownLaws
