@@ -4,3 +4,4 @@ pub mod Values
 pub mod Part
 pub mod Reading
 pub mod Spelling
+pub mod Writing

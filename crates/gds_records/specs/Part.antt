@@ -1,12 +1,12 @@
 -- Parts of a list of records, each before what stands after it.
 use Rattle.std.specs.Prelude.{◌≡◌, ◌⊎◌, ℕ, List, [], ◌∷◌, ◌++◌, Bool, true, false}
-use Rattle.gds_records.specs.Record.{Entry, is_formed}
-use Rattle.gds_records.specs.declared.stop.Demand.{Demand}
-use Rattle.gds_records.specs.declared.stop.Demand.TheVariants.{Plain}
+use Rattle.gds_records.specs.Record.{StreamRecord, is_formed}
+use Rattle.gds_records.specs.declared.error.Demand.{Demand}
+use Rattle.gds_records.specs.declared.error.Demand.TheVariants.{Plain}
 
 -- what may stand from some place on
 abbrev pub Rest : Type 1
-Rest = List Entry → Type 0
+Rest = List StreamRecord → Type 0
 
 -- which demands count: all of them in a spelling, none for the order alone
 abbrev pub Judge : Type 0
@@ -28,7 +28,8 @@ IsRight {X} demand V x judge content = V x content ⊎ ((judge demand ≡ false)
 -- a record of this code, whose data means x
 abbrev pub value : {X : Type 0} → Demand → ℕ → (X → List ℕ → Type 0) → X → Part
 value demand code V x judge K [] = ⊥
-value demand code V x judge K (e ∷ rs) = (is_formed e ≡ true) × (e.code ≡ code) × IsRight demand V x judge e.content × K rs
+value demand code V x judge K (e ∷ rs) = (is_formed e ≡ true) × (e.code ≡ code) × IsRight demand V x judge e.content
+    × K rs
 
 -- a record of this code, whose data is dropped
 abbrev pub any : ℕ → Part
@@ -48,12 +49,12 @@ abbrev pub nothing : Type 0 → Part
 nothing D judge K rs = D × K rs
 
 -- a part for each item in turn, which may look at the items before it
-abbrev pub each_after : {X : Type 0} → (List X → X → Part) → List X → List X → Part
-each_after P before [] judge K = K
-each_after P before (x ∷ xs) judge K = P before x judge (each_after P (before ++ x ∷ []) xs judge K)
+abbrev pub repeated_after : {X : Type 0} → (List X → X → Part) → List X → List X → Part
+repeated_after P before [] judge K = K
+repeated_after P before (x ∷ xs) judge K = P before x judge (repeated_after P (before ++ x ∷ []) xs judge K)
 
-abbrev pub each : {X : Type 0} → (X → Part) → List X → Part
-each P xs = each_after (λ before. P) [] xs
+abbrev pub repeated : {X : Type 0} → (X → Part) → List X → Part
+repeated P xs = repeated_after (λ before. P) [] xs
 
 -- a record of this code, which no data makes right
 abbrev pub refused : Demand → ℕ → Part

@@ -1,15 +1,15 @@
 -- Reading the parts of a list of records, one record after the other.
 use Rattle.std.specs.Prelude.{ℕ, zero, suc, List, [], ◌∷◌, ◌++◌, Bool, true, false, ◌==◌, if◌then◌else◌, Option, Some, None, Result, Ok, Err}
-use Rattle.gds_records.specs.Record.{Entry, is_formed}
+use Rattle.gds_records.specs.Record.{StreamRecord, is_formed}
 use Rattle.gds_records.specs.Bytes.{byte_length}
-use Rattle.gds_records.specs.declared.stop.Demand.{Demand}
+use Rattle.gds_records.specs.declared.error.Demand.{Demand}
 use Rattle.gds_records.specs.declared.code.TheConstants.{ELFLAGS, PLEX}
-use Rattle.gds_records.specs.declared.stop.Fault.TheVariants.{BadRecord, NotInPlace, Unmet}
-use Rattle.gds_records.specs.declared.stop.Stop.{Stop}
-use Rattle.gds_records.specs.declared.stop.Stop.TheVariants.{Short, At}
+use Rattle.gds_records.specs.declared.error.Fault.TheVariants.{BadRecord, NotInPlace, Unmet}
+use Rattle.gds_records.specs.declared.error.RecordError.{RecordError}
+use Rattle.gds_records.specs.declared.error.RecordError.TheVariants.{Short, At}
 
 abbrev pub Reader : Type 0 → Type 0
-Reader X = List Entry → Result (X × List Entry) Stop
+Reader X = List StreamRecord → Result (X × List StreamRecord) RecordError
 
 -- a record that was taken, which begins so many bytes before the end
 pub record Taking : Type 0 where
@@ -20,11 +20,13 @@ pub record Taking : Type 0 where
 abbrev pub taking : ℕ → ℕ → List ℕ → Taking
 taking left code content = record { left = left; code = code; content = content }
 
-abbrev pub with_value : {X Y : Type 0} → X → Result (Y × List Entry) Stop → Result ((X × Y) × List Entry) Stop
+abbrev pub with_value : {X Y : Type 0} → X → Result (Y × List StreamRecord) RecordError
+    → Result ((X × Y) × List StreamRecord) RecordError
 with_value x (Ok r) = Ok ((x, r.0), r.1)
 with_value x (Err s) = Err s
 
-abbrev pub on_value : {X Y : Type 0} → Demand → Entry → List Entry → (X → Reader Y) → Option X → Result ((X × Y) × List Entry) Stop
+abbrev pub on_value : {X Y : Type 0} → Demand → StreamRecord → List StreamRecord → (X → Reader Y) → Option X
+    → Result ((X × Y) × List StreamRecord) RecordError
 on_value demand e rs q None = Err (At (byte_length (e ∷ rs)) e.code (Unmet demand))
 on_value demand e rs q (Some x) = with_value x (q x rs)
 
@@ -37,14 +39,17 @@ choose true true a b c = c
 unfoldable pub next_at : ℕ → Reader Taking
 next_at code [] = Err Short
 next_at code (e ∷ rs) =
-    choose (is_formed e) (e.code == code) (Err (At (byte_length (e ∷ rs)) e.code BadRecord)) (Err (At (byte_length (e ∷ rs)) e.code NotInPlace))
+    choose (is_formed e) (e.code == code) (Err (At (byte_length (e ∷ rs)) e.code BadRecord))
+    (Err (At (byte_length (e ∷ rs)) e.code NotInPlace))
     (Ok (taking (byte_length (e ∷ rs)) e.code e.content, rs))
 
-abbrev pub meant : {X : Type 0} → Demand → Taking → List Entry → Option X → Result (X × List Entry) Stop
+abbrev pub meant : {X : Type 0} → Demand → Taking → List StreamRecord → Option X
+    → Result (X × List StreamRecord) RecordError
 meant demand t rs None = Err (At t.left t.code (Unmet demand))
 meant demand t rs (Some x) = Ok (x, rs)
 
-abbrev pub meant_at : {X : Type 0} → Demand → (List ℕ → Option X) → Result (Taking × List Entry) Stop → Result (X × List Entry) Stop
+abbrev pub meant_at : {X : Type 0} → Demand → (List ℕ → Option X) → Result (Taking × List StreamRecord) RecordError
+    → Result (X × List StreamRecord) RecordError
 meant_at demand f (Err s) = Err s
 meant_at demand f (Ok r) = meant demand r.0 r.1 (f r.0.content)
 
@@ -52,7 +57,8 @@ meant_at demand f (Ok r) = meant demand r.0 r.1 (f r.0.content)
 unfoldable pub taken_at : {X : Type 0} → Demand → ℕ → (List ℕ → Option X) → Reader X
 taken_at demand code f rs = meant_at demand f (next_at code rs)
 
-abbrev pub then_at : {X Y : Type 0} → Result (X × List Entry) Stop → (X → Reader Y) → Result ((X × Y) × List Entry) Stop
+abbrev pub then_at : {X Y : Type 0} → Result (X × List StreamRecord) RecordError → (X → Reader Y)
+    → Result ((X × Y) × List StreamRecord) RecordError
 then_at (Err s) q = Err s
 then_at (Ok r) q = with_value r.0 (q r.0 r.1)
 
@@ -60,11 +66,12 @@ then_at (Ok r) q = with_value r.0 (q r.0 r.1)
 unfoldable pub value_at : {X Y : Type 0} → Demand → ℕ → (List ℕ → Option X) → (X → Reader Y) → Reader (X × Y)
 value_at demand code f q rs = then_at (taken_at demand code f rs) q
 
-abbrev pub as_value : {X Z : Type 0} → (X → Z) → Result (X × List Entry) Stop → Result (Z × List Entry) Stop
+abbrev pub as_value : {X Z : Type 0} → (X → Z) → Result (X × List StreamRecord) RecordError
+    → Result (Z × List StreamRecord) RecordError
 as_value f (Ok r) = Ok (f r.0, r.1)
 as_value f (Err s) = Err s
 
-abbrev pub has_next : ℕ → List Entry → Bool
+abbrev pub has_next : ℕ → List StreamRecord → Bool
 has_next code [] = false
 has_next code (e ∷ rs) = e.code == code
 
@@ -73,7 +80,8 @@ unfoldable pub skip_at : ℕ → Reader (Unit {0})
 skip_at code rs = if has_next code rs then as_value (λ e. tt) (next_at code rs) else Ok (tt, rs)
 
 -- what follows, whatever was read
-abbrev pub past : {X Y : Type 0} → Result (X × List Entry) Stop → Reader Y → Result (Y × List Entry) Stop
+abbrev pub past : {X Y : Type 0} → Result (X × List StreamRecord) RecordError → Reader Y
+    → Result (Y × List StreamRecord) RecordError
 past (Err s) q = Err s
 past (Ok r) q = q r.1
 
@@ -100,14 +108,15 @@ until_at p code (suc n) before (e ∷ rs) =
     if e.code == code then as_value (λ u. []) (any_at code done_at (e ∷ rs))
     else as_value (λ z. z.0 ∷ z.1) (then_at (p before (e ∷ rs)) (λ x. until_at p code n (before ++ x ∷ [])))
 
-abbrev pub same : {X : Type 0} → X → X
-same x = x
+abbrev pub identity : {X : Type 0} → X → X
+identity x = x
 
 -- a value that may be left out, and is d then
 abbrev pub value_or : {X Y : Type 0} → Demand → ℕ → (List ℕ → Option X) → X → Reader Y → Reader Y → Reader (X × Y)
-value_or demand code f d q r = fork_at code same (λ y. (d, y)) (value_at demand code f (λ x. q)) r
+value_or demand code f d q r = fork_at code identity (λ y. (d, y)) (value_at demand code f (λ x. q)) r
 
-abbrev pub refusal : {X : Type 0} → Demand → Result (Taking × List Entry) Stop → Result (X × List Entry) Stop
+abbrev pub refusal : {X : Type 0} → Demand → Result (Taking × List StreamRecord) RecordError
+    → Result (X × List StreamRecord) RecordError
 refusal demand (Err s) = Err s
 refusal demand (Ok r) = Err (At r.0.left r.0.code (Unmet demand))
 

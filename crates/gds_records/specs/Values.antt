@@ -13,8 +13,8 @@ abbrev pub int16_of : List ℕ → Option ℤ
 int16_of (a ∷ b ∷ []) = Some (cast_signed w16 (from_be_bytes w16 (a ∷ b ∷ [])))
 int16_of content = None
 
-abbrev pub text_of : List ℕ → Option (List ℕ)
-text_of content = Some (unpadded content)
+abbrev pub string_of : List ℕ → Option (List ℕ)
+string_of content = Some (unpadded content)
 
 abbrev pub int32_of : ℕ → ℕ → ℕ → ℕ → ℤ
 int32_of a b c d = cast_signed w32 (from_be_bytes w32 (a ∷ b ∷ c ∷ d ∷ []))
@@ -28,13 +28,15 @@ with_point p (Some ps) = Some (p ∷ ps)
 with_point p None = None
 
 -- eight bytes a point
-unfoldable pub points_of : List ℕ → Option (List Point)
-points_of [] = Some []
-points_of (a ∷ b ∷ c ∷ d ∷ e ∷ f ∷ g ∷ h ∷ rest) = with_point (record { x = int32_of a b c d; y = int32_of e f g h }) (points_of rest)
-points_of content = None
+unfoldable pub points_from : List ℕ → Option (List Point)
+points_from [] = Some []
+points_from (a ∷ b ∷ c ∷ d ∷ e ∷ f ∷ g ∷ h ∷ rest) =
+    with_point (record { x = int32_of a b c d; y = int32_of e f g h }) (points_from rest)
+points_from content = None
 
 unfoldable pub first_point_of : List ℕ → Option (Point × List ℕ)
-first_point_of (a ∷ b ∷ c ∷ d ∷ e ∷ f ∷ g ∷ h ∷ rest) = Some (record { x = int32_of a b c d; y = int32_of e f g h }, rest)
+first_point_of (a ∷ b ∷ c ∷ d ∷ e ∷ f ∷ g ∷ h ∷ rest) =
+    Some (record { x = int32_of a b c d; y = int32_of e f g h }, rest)
 first_point_of content = None
 
 -- both coordinates fit 32 bits

@@ -1,8 +1,9 @@
 ghost use Rattle.std.specs.List.{list_all};
 ghost use Rattle.std.specs.Prelude.{◌≡◌};
-ghost use Rattle.gds_records.specs.Record.{form_of, has_form, is_text, is_printable, unpadded};
+ghost use Rattle.gds_records.specs.Record.{form_of, has_form, is_record_text, is_printable, unpadded};
 
 use crate::code::*;
+use crate::limits::{GREATEST_CHARACTER, LEAST_CHARACTER, MOST_CHARACTERS};
 
 /// What the data of a record may be.
 #[derive(Clone, Copy)]
@@ -54,13 +55,14 @@ pub fn text_in(content: &[u8]) -> &[u8]
 fn printable(text: &[u8]) -> bool
     ensures { result ≡ list_all is_printable text.now }
 {
-    text.iter().all(|b| 32 <= *b && *b <= 126)
+    text.iter()
+        .all(|b| LEAST_CHARACTER <= *b && *b <= GREATEST_CHARACTER)
 }
 
 fn is_short_text(text: &[u8]) -> bool
-    ensures { result ≡ is_text text.now }
+    ensures { result ≡ is_record_text text.now }
 {
-    1 <= text.len() && text.len() <= 512 && printable(text)
+    1 <= text.len() && text.len() <= MOST_CHARACTERS && printable(text)
 }
 
 /// Whether data has a form.

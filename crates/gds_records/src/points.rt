@@ -1,6 +1,6 @@
 ghost use Rattle.std.specs.Option.{option_map};
 ghost use Rattle.std.specs.Prelude.{◌≡◌, IfOk, IfSome};
-ghost use Rattle.gds_records.specs.Values.{first_point_of, point_of, points_of, IsShort};
+ghost use Rattle.gds_records.specs.Values.{first_point_of, point_of, points_from, IsShort};
 
 use or_geom::{Memory, Point};
 use std::alloc::Global;
@@ -21,7 +21,7 @@ pub fn first_point(content: &[u8]) -> Option<(Point, &[u8])>
 
 /// The points that some data holds, of eight bytes each.
 pub fn points_in(alloc: Global, content: &[u8]) -> Result<Option<Vec<Point>>, Memory>
-    ensures { IfOk result (λ points. option_map (λ v. v.items) points ≡ points_of content.now) }
+    ensures { IfOk result (λ points. option_map (λ v. v.items) points ≡ points_from content.now) }
 {
     let mut points = Vec::with_capacity(alloc, content.len() / 8)?;
     let mut rest = content;

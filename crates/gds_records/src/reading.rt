@@ -1,15 +1,15 @@
 ghost use Rattle.std.specs.Prelude.{◌≡◌};
-ghost use Rattle.gds_records.specs.Bytes.{entries_of, Gives};
+ghost use Rattle.gds_records.specs.Bytes.{records_of, MatchesReader};
 ghost use Rattle.gds_records.specs.Reading.{next_at, taken_at, skip_at, has_next, taking, begin_at, bar_at};
-ghost use Rattle.gds_records.specs.Values.{int16_of, text_of};
-ghost use Rattle.gds_records.specs.declared.stop.Stop.TheVariants as stop;
-ghost use Rattle.gds_records.specs.declared.stop.Fault.TheVariants as fault;
-ghost use Rattle.gds_records.specs.declared.stop.Demand.TheVariants as demand;
+ghost use Rattle.gds_records.specs.Values.{int16_of, string_of};
+ghost use Rattle.gds_records.specs.declared.error.RecordError.TheVariants as error;
+ghost use Rattle.gds_records.specs.declared.error.Fault.TheVariants as fault;
+ghost use Rattle.gds_records.specs.declared.error.Demand.TheVariants as demand;
 
 use crate::code::{ELFLAGS, PLEX};
+use crate::error::{Demand, Fault, RecordError};
 use crate::form::text_in;
 use crate::record::{cut_record, formed};
-use crate::stop::{Demand, Fault, Stop};
 use or_geom::Name;
 use std::alloc::Global;
 
@@ -22,10 +22,10 @@ pub struct Taken<'a> {
 }
 
 /// Where reading stops at a record whose data doesn't meet a demand.
-pub fn unmet(taken: Taken<'_>, demand: Demand) -> Stop
-    ensures { result ≡ stop.At taken.entry.left taken.entry.code (fault.Unmet demand) }
+pub fn unmet(taken: Taken<'_>, demand: Demand) -> RecordError
+    ensures { result ≡ error.At taken.entry.left taken.entry.code (fault.Unmet demand) }
 {
-    Stop::At {
+    RecordError::At {
         left: taken.left,
         code: taken.code,
         fault: Fault::Unmet(demand),
@@ -34,22 +34,23 @@ pub fn unmet(taken: Taken<'_>, demand: Demand) -> Stop
 
 /// The next record, which has to have this code.
 #[tactic(auto, using(crate::proofs::BytesLaws::none_left, crate::proofs::BytesLaws::one_more, crate::proofs::BytesLaws::all_left), unfolding(crate::specs::Reading::next_at))]
-pub fn next(code: u16, bytes: &[u8]) -> Result<(Taken<'_>, &[u8]), Stop>
-    ensures { Gives (λ p. (taking p.0.left p.0.code p.0.content.now, p.1.now)) (λ e. e) result (next_at code (entries_of bytes.now)) }
+pub fn next(code: u16, bytes: &[u8]) -> Result<(Taken<'_>, &[u8]), RecordError>
+    ensures { MatchesReader (λ p. (taking p.0.left p.0.code p.0.content.now, p.1.now)) (λ e. e) result
+        (next_at code (records_of bytes.now)) }
 {
     let left = bytes.len();
     let Some((record, rest)) = cut_record(bytes) else {
-        return Err(Stop::Short);
+        return Err(RecordError::Short);
     };
     if !formed(record) {
-        return Err(Stop::At {
+        return Err(RecordError::At {
             left,
             code: record.code,
             fault: Fault::BadRecord,
         });
     }
     if record.code != code {
-        return Err(Stop::At {
+        return Err(RecordError::At {
             left,
             code: record.code,
             fault: Fault::NotInPlace,
@@ -68,7 +69,7 @@ pub fn next(code: u16, bytes: &[u8]) -> Result<(Taken<'_>, &[u8]), Stop>
 /// Whether the next record has this code.
 #[tactic(auto, using(crate::proofs::BytesLaws::none_left, crate::proofs::BytesLaws::one_more))]
 pub fn has_code(code: u16, bytes: &[u8]) -> bool
-    ensures { result ≡ has_next code (entries_of bytes.now) }
+    ensures { result ≡ has_next code (records_of bytes.now) }
 {
     match cut_record(bytes) {
         Some((record, _)) => record.code == code,
@@ -78,8 +79,8 @@ pub fn has_code(code: u16, bytes: &[u8]) -> bool
 
 /// Past a record that may be left out.
 #[tactic(auto, unfolding(crate::specs::Reading::skip_at))]
-pub fn skipped(code: u16, bytes: &[u8]) -> Result<&[u8], Stop>
-    ensures { Gives (λ p. (tt, p.now)) (λ z. z) result (skip_at code (entries_of bytes.now)) }
+pub fn skipped(code: u16, bytes: &[u8]) -> Result<&[u8], RecordError>
+    ensures { MatchesReader (λ p. (tt, p.now)) (λ z. z) result (skip_at code (records_of bytes.now)) }
 {
     if has_code(code, bytes) {
         let (_, rest) = next(code, bytes)?;
@@ -91,8 +92,9 @@ pub fn skipped(code: u16, bytes: &[u8]) -> Result<&[u8], Stop>
 
 /// A record of one number of two bytes.
 #[tactic(auto, unfolding(crate::specs::Reading::taken_at))]
-pub fn int16_from(code: u16, bytes: &[u8]) -> Result<(i16, &[u8]), Stop>
-    ensures { Gives (λ p. (p.0, p.1.now)) (λ z. z) result (taken_at demand.Plain code int16_of (entries_of bytes.now)) }
+pub fn int16_from(code: u16, bytes: &[u8]) -> Result<(i16, &[u8]), RecordError>
+    ensures { MatchesReader (λ p. (p.0, p.1.now)) (λ z. z) result
+        (taken_at demand.Plain code int16_of (records_of bytes.now)) }
 {
     let (taken, rest) = next(code, bytes)?;
     match taken.content {
@@ -103,8 +105,9 @@ pub fn int16_from(code: u16, bytes: &[u8]) -> Result<(i16, &[u8]), Stop>
 
 /// A record of one text.
 #[tactic(auto, unfolding(crate::specs::Reading::taken_at))]
-pub fn text_from(alloc: Global, code: u16, bytes: &[u8]) -> Result<(Name, &[u8]), Stop>
-    ensures { Gives (λ p. (p.0, p.1.now)) (λ t. t) result (taken_at demand.Plain code text_of (entries_of bytes.now)) }
+pub fn text_from(alloc: Global, code: u16, bytes: &[u8]) -> Result<(Name, &[u8]), RecordError>
+    ensures { MatchesReader (λ p. (p.0, p.1.now)) (λ t. t) result
+        (taken_at demand.Plain code string_of (records_of bytes.now)) }
 {
     let (taken, rest) = next(code, bytes)?;
     let text = Name::from_bytes(alloc, text_in(taken.content))?;
@@ -113,8 +116,8 @@ pub fn text_from(alloc: Global, code: u16, bytes: &[u8]) -> Result<(Name, &[u8])
 
 /// The record that begins an element, and its flags, which are dropped.
 #[tactic(auto, unfolding(crate::specs::Reading::begin_at))]
-pub fn begun(code: u16, bytes: &[u8]) -> Result<&[u8], Stop>
-    ensures { Gives (λ p. (tt, p.now)) (λ z. z) result (begin_at code (entries_of bytes.now)) }
+pub fn begun(code: u16, bytes: &[u8]) -> Result<&[u8], RecordError>
+    ensures { MatchesReader (λ p. (tt, p.now)) (λ z. z) result (begin_at code (records_of bytes.now)) }
 {
     let (_, rest) = next(code, bytes)?;
     let rest = skipped(ELFLAGS, rest)?;
@@ -123,8 +126,8 @@ pub fn begun(code: u16, bytes: &[u8]) -> Result<&[u8], Stop>
 
 /// Refuses a record that could stand here and that no data makes right.
 #[tactic(auto, unfolding(crate::specs::Reading::bar_at))]
-pub fn barred(demand: Demand, code: u16, bytes: &[u8]) -> Result<(), Stop>
-    ensures { Gives (λ p. (tt, bytes.now)) (λ z. z) result (bar_at demand code (entries_of bytes.now)) }
+pub fn barred(demand: Demand, code: u16, bytes: &[u8]) -> Result<(), RecordError>
+    ensures { MatchesReader (λ p. (tt, bytes.now)) (λ z. z) result (bar_at demand code (records_of bytes.now)) }
 {
     if has_code(code, bytes) {
         let (taken, _) = next(code, bytes)?;

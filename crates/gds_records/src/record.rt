@@ -1,7 +1,7 @@
 ghost use Rattle.std.specs.Option.{option_map};
 ghost use Rattle.std.specs.Prelude.{◌≡◌};
-ghost use Rattle.gds_records.specs.Bytes.{cut, broken_entry};
-ghost use Rattle.gds_records.specs.Record.{is_formed, entry_of};
+ghost use Rattle.gds_records.specs.Bytes.{cut, broken_record};
+ghost use Rattle.gds_records.specs.Record.{is_formed, record_of};
 
 use crate::form::{form_of_code, suits};
 
@@ -16,7 +16,7 @@ pub struct Record<'a> {
 
 /// What can't be cut into records.
 fn broken(bytes: &[u8]) -> Record<'_>
-    ensures { entry_of result.whole result.code result.content.now ≡ broken_entry bytes.now }
+    ensures { record_of result.whole result.code result.content.now ≡ broken_record bytes.now }
 {
     let code = match bytes {
         [_, _, c, d, ..] => 256 * u16::from(*c) + u16::from(*d),
@@ -32,7 +32,7 @@ fn broken(bytes: &[u8]) -> Record<'_>
 /// The first record, and the bytes after it.
 #[tactic(auto, unfolding(crate::specs::Bytes::cut))]
 pub fn cut_record(bytes: &[u8]) -> Option<(Record<'_>, &[u8])>
-    ensures { option_map (λ p. (entry_of p.0.whole p.0.code p.0.content.now, p.1.now)) result ≡ cut bytes.now }
+    ensures { option_map (λ p. (record_of p.0.whole p.0.code p.0.content.now, p.1.now)) result ≡ cut bytes.now }
 {
     if bytes.is_empty() {
         return None;
@@ -60,7 +60,7 @@ pub fn cut_record(bytes: &[u8]) -> Option<(Record<'_>, &[u8])>
 /// Whether the record is one of the table, with data of its form.
 #[tactic(auto, unfolding(crate::specs::Record::is_formed))]
 pub fn formed(found: Record<'_>) -> bool
-    ensures { result ≡ is_formed (entry_of found.entry.whole found.entry.code found.entry.content.now) }
+    ensures { result ≡ is_formed (record_of found.entry.whole found.entry.code found.entry.content.now) }
 {
     found.whole && suits(form_of_code(found.code), found.content)
 }

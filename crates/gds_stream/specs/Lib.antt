@@ -1,10 +1,3 @@
-pub mod Values
-pub mod Writable
-pub mod Grammar
-pub mod ReadElements
-pub mod Arrays
-pub mod Names
-pub mod ReadLibrary
-pub mod FirstFault
-pub mod ReadFault
-pub mod OneFault
+pub mod Turned
+pub mod Canonical
+pub mod Written

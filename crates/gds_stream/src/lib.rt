@@ -1,28 +1,14 @@
 //! Reads and writes GDSII stream files.
 #![tactic(auto)]
 
-mod array;
-mod boundary;
-mod fault;
-mod file;
-mod item;
-mod label;
-mod lattice;
-mod laws;
-mod library;
-mod names;
-mod path;
-mod property;
-mod read;
-mod reference;
-mod structure;
-mod transform;
-mod values;
+mod copy;
+mod limits;
+mod turning;
+mod write;
 
-pub use fault::GdsFault;
-pub use laws::{
-    faults_are_unique, faults_exclude_libraries, libraries_are_read, libraries_are_unique,
-    libraries_are_writable,
+pub use copy::{structure_copy, structures_copy};
+pub use gds_library::{
+    Element, GdsFault, Library, Prop, Structure, faults_are_unique, faults_exclude_libraries,
+    libraries_are_unique, libraries_are_writable, read_gds,
 };
-pub use library::{Element, Library, Prop, Structure};
-pub use read::read_gds;
+pub use write::write_gds;

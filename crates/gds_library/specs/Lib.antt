@@ -1,0 +1,10 @@
+pub mod Values
+pub mod Writable
+pub mod Grammar
+pub mod ReadElements
+pub mod Arrays
+pub mod StructureNames
+pub mod ReadLibrary
+pub mod FirstFault
+pub mod ReadFault
+pub mod OneFault

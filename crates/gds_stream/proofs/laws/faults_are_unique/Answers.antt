@@ -1,5 +1,0 @@
-use Rattle.gds_stream.proofs.OneFaultLaws.{faults_are_unique}
-use Rattle.gds_stream.proofs.laws.faults_are_unique.Goals as goal
-
-pub returns : goal.returns
-returns c = faults_are_unique

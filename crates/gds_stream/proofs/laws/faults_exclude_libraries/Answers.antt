@@ -1,5 +1,0 @@
-use Rattle.gds_stream.proofs.OneFaultLaws.{faults_exclude_libraries}
-use Rattle.gds_stream.proofs.laws.faults_exclude_libraries.Goals as goal
-
-pub returns : goal.returns
-returns c = faults_exclude_libraries

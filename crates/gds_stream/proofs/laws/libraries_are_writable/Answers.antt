@@ -1,5 +1,0 @@
-use Rattle.gds_stream.proofs.WritableLaws.{libraries_are_writable}
-use Rattle.gds_stream.proofs.laws.libraries_are_writable.Goals as goal
-
-pub returns : goal.returns
-returns c = libraries_are_writable

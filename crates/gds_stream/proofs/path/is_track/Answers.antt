@@ -1,6 +1,0 @@
-use Rattle.rectilinear.proofs.SimpleTest.{same_straight_test}
-use Rattle.gds_stream.specs.Values.{segments}
-use Rattle.gds_stream.proofs.path.is_track.Goals as goal
-
-pub returns : goal.returns
-returns c = same_straight_test (segments c.args.points.now) c.are_straight.result c.are_straight.ensures.0 c.are_straight.ensures.1
