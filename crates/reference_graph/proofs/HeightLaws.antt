@@ -38,7 +38,7 @@ above_push front heights height node a =
 pub above_more : (references heights : List ℕ) (i height : ℕ) → i < length references → IsAboveAll (take i references) heights height → IsAboveAll (take (i + 1) references) heights (max height (height_above heights (get_or references i 0)))
 above_more references heights i height lt a = rw (take_more references i 0 lt) (above_push (take i references) heights height (get_or references i 0) a)
 
--- the front of a path is a path
+-- a prefix of a path is a path
 pub record HasFront (graph : List (List ℕ)) (from : ℕ) (path : List ℕ) (n : ℕ) : Type 0 where
   pub end : ℕ
   pub leads : IsPath graph from (take n path) end

@@ -81,20 +81,20 @@ least_both P Q R found name best l to also from =
     least_as (λ n. P n ⊎ Q n) R (λ n h. elim h [ inl p ↦ to n p | inr q ↦ also n q ]) from (lesser_of found name)
     (least_more P Q name l.has l.least found best)
 
--- a place before this one has it
+-- an index before this one has it
 pub record IsBelow (Q : ℕ → List ℕ → Type 0) (end : ℕ) (name : List ℕ) : Type 0 where
-  pub place : ℕ
-  pub before : place < end
-  pub has : Q place name
+  pub index : ℕ
+  pub before : index < end
+  pub has : Q index name
 
 below_cases : (Q : ℕ → List ℕ → Type 0) (i : ℕ) (name : List ℕ) → IsBelow Q (i + 1) name → IsBelow Q i name ⊎ Q i name
-below_cases Q i name b = elim (cases_lt b.place i) [
-  | inl lt ↦ inl (record { place = b.place; before = lt; has = b.has })
-  | inr ge ↦ let e : b.place ≡ i = omega (arith, b.before) in inr (subst (λ (k : ℕ). Q k name) e b.has)
+below_cases Q i name b = elim (cases_lt b.index i) [
+  | inl lt ↦ inl (record { index = b.index; before = lt; has = b.has })
+  | inr ge ↦ let e : b.index ≡ i = omega (arith, b.before) in inr (subst (λ (k : ℕ). Q k name) e b.has)
 ]
 
 below_old : (Q : ℕ → List ℕ → Type 0) (i : ℕ) (name : List ℕ) → IsBelow Q i name → IsBelow Q (i + 1) name
-below_old Q i name b = record { place = b.place; before = omega (arith, b.before); has = b.has }
+below_old Q i name b = record { index = b.index; before = omega (arith, b.before); has = b.has }
 
 pub below_none : (Q : ℕ → List ℕ → Type 0) → IsLeastOf (IsBelow Q 0) None
 below_none Q = λ name b. let lt = b.before in absurd (omega arith)
@@ -104,4 +104,4 @@ below_skip Q i found none = least_of_as (IsBelow Q i) (IsBelow Q (i + 1)) (below
 
 pub below_least : (Q : ℕ → List ℕ → Type 0) (i : ℕ) (found : Option (List ℕ)) (name : List ℕ) → IsLeast (Q i) name → IsLeastOf (IsBelow Q i) found → IsLeast (IsBelow Q (i + 1)) (lesser_of found name)
 below_least Q i found name l best =
-    least_both (IsBelow Q i) (Q i) (IsBelow Q (i + 1)) found name best l (below_old Q i) (λ n q. record { place = i; before = omega arith; has = q }) (below_cases Q i)
+    least_both (IsBelow Q i) (Q i) (IsBelow Q (i + 1)) found name best l (below_old Q i) (λ n q. record { index = i; before = omega arith; has = q }) (below_cases Q i)

@@ -1,8 +1,8 @@
 pub mod ListLaws
 pub mod WalkLaws
 pub mod PinLaws
-pub mod PlaceLaws
-pub mod PartLaws
+pub mod NameIndexLaws
+pub mod ReferenceLaws
 pub mod LeastLaws
 pub mod MissingLaws
 pub mod TableLaws
@@ -12,12 +12,14 @@ pub mod NumberLaws
 pub mod RowLaws
 pub mod LeafLaws
 pub mod ViewLaws
-pub mod FrameLaws
+pub mod LevelLaws
+pub mod KeyedLaws
 pub mod DescentLaws
 pub mod PortTableLaws
 pub mod ResolvedLaws
 pub mod FlatLaws
-pub mod NetTextLaws
+pub mod NetKeyLaws
+pub mod LowLaws
 pub mod WholeLaws
 pub mod OneRowLaws
 pub mod OneFaultLaws

@@ -8,9 +8,9 @@ use Rattle.std.proofs.lemmas.List.{get_or-map, get_or_append_left, map-append, l
 use Rattle.std.proofs.lemmas.List.Sums.{position_or_len_is}
 use Rattle.std.proofs.lemmas.List.Quantifiers.{position-Some}
 use Rattle.indexmap.specs.IndexSet.{insert_key}
-use Rattle.spice_netlist.specs.Names.{same}
-use Rattle.spice_netlist.specs.Numbers.{HasBefore, IsNumberOf, IsNumbering}
-use Rattle.spice_netlist.proofs.PlaceLaws.{same_self}
+use Rattle.spice_netlist.specs.Names.{same_name}
+use Rattle.spice_netlist.specs.Numbers.{HasBefore, IsNumberOf, IsTableNumbering}
+use Rattle.spice_netlist.proofs.NameIndexLaws.{same_self}
 
 pub get_or_push : {X : Type 0} (xs : List X) (x d : X) → get_or (xs ++ x ∷ []) (length xs) d ≡ x
 get_or_push [] x d = refl
@@ -25,32 +25,32 @@ tail_false true b neither = absurd cc
 tail_false false b neither = neither
 
 module _ {K : Type 0} (text : K → List ℕ) (net : List ℕ) where
-  -- a net that is there keeps its place
-  pub found_number : (ks : List K) (n : ℕ) → position (λ k. same net (text k)) ks ≡ Some n → IsNumberOf (map text ks) net n (map text ks)
+  -- a net that is there keeps its index
+  pub found_number : (ks : List K) (n : ℕ) → position (λ k. same_name net (text k)) ks ≡ Some n → IsNumberOf (map text ks) net n (map text ks)
   found_number [] n is = absurd cc
   found_number (x ∷ xs) n is =
-      let at = position-Some (λ k. same net (text k)) (x ∷ xs) n x is in
+      let at = position-Some (λ k. same_name net (text k)) (x ∷ xs) n x is in
       record {
         either = inl refl;
         within = subst (λ (m : ℕ). n < m) (sym (length-map (x ∷ xs) text)) at.0;
         is = get_or-map text (x ∷ xs) n x [] at.0 ∙ sym (same_text net (text (get_or (x ∷ xs) n x)) (sym at.1));
       }
 
-  none_passes : (ks : List K) → list_any (λ k. same net (text k)) ks ≡ false → (i : ℕ) (d : K) → i < length ks → same net (text (get_or ks i d)) ≡ false
+  none_passes : (ks : List K) → list_any (λ k. same_name net (text k)) ks ≡ false → (i : ℕ) (d : K) → i < length ks → same_name net (text (get_or ks i d)) ≡ false
   none_passes [] none i d lt = absurd (omega arith)
-  none_passes (x ∷ xs) none zero d lt = head_false (same net (text x)) (list_any (λ k. same net (text k)) xs) none
-  none_passes (x ∷ xs) none (suc i) d lt = none_passes xs (tail_false (same net (text x)) (list_any (λ k. same net (text k)) xs) none) i d (omega arith)
+  none_passes (x ∷ xs) none zero d lt = head_false (same_name net (text x)) (list_any (λ k. same_name net (text k)) xs) none
+  none_passes (x ∷ xs) none (suc i) d lt = none_passes xs (tail_false (same_name net (text x)) (list_any (λ k. same_name net (text k)) xs) none) i d (omega arith)
 
-  new_place : (ks : List K) (v : K) (n : ℕ) → text v ≡ net → list_any (λ k. same net (text k)) ks ≡ false → n ≡ position_or_len (λ k. same (text v) (text k)) ks → n ≡ length ks
+  new_place : (ks : List K) (v : K) (n : ℕ) → text v ≡ net → list_any (λ k. same_name net (text k)) ks ≡ false → n ≡ position_or_len (λ k. same_name (text v) (text k)) ks → n ≡ length ks
   new_place ks v n e none is =
-      is ∙ ap (λ (t : List ℕ). position_or_len (λ k. same t (text k)) ks) e
-      ∙ position_or_len_is (λ k. same net (text k)) ks (length ks) v (omega arith) (λ k lt. none_passes ks none k v lt) (λ lt. absurd (omega arith))
+      is ∙ ap (λ (t : List ℕ). position_or_len (λ k. same_name t (text k)) ks) e
+      ∙ position_or_len_is (λ k. same_name net (text k)) ks (length ks) v (omega arith) (λ k lt. none_passes ks none k v lt) (λ lt. absurd (omega arith))
 
   -- another net goes behind the others
-  pub new_number : (ks ks' : List K) (v : K) (n : ℕ) → text v ≡ net → list_any (λ k. same net (text k)) ks ≡ false → ks' ≡ insert_key (λ a b. same (text a) (text b)) ks v → n ≡ position_or_len (λ k. same (text v) (text k)) ks
+  pub new_number : (ks ks' : List K) (v : K) (n : ℕ) → text v ≡ net → list_any (λ k. same_name net (text k)) ks ≡ false → ks' ≡ insert_key (λ a b. same_name (text a) (text b)) ks v → n ≡ position_or_len (λ k. same_name (text v) (text k)) ks
       → IsNumberOf (map text ks) net n (map text ks')
   new_number ks ks' v n e none put is =
-      let own : list_any (λ k. same (text v) (text k)) ks ≡ false = subst (λ (t : List ℕ). list_any (λ k. same t (text k)) ks ≡ false) (sym e) none in
+      let own : list_any (λ k. same_name (text v) (text k)) ks ≡ false = subst (λ (t : List ℕ). list_any (λ k. same_name t (text k)) ks ≡ false) (sym e) none in
       let grown : ks' ≡ ks ++ v ∷ [] = put ∙ ap (λ b. cond b ks (ks ++ v ∷ [])) own in
       let nets : map text ks' ≡ map text ks ++ net ∷ [] = ap (λ (l : List K). map text l) grown ∙ map-append text ks (v ∷ []) ∙ ap (λ (t : List ℕ). map text ks ++ t ∷ []) e in
       let at : n ≡ length (map text ks) = new_place ks v n e none is ∙ sym (length-map ks text) in
@@ -62,7 +62,7 @@ module _ {K : Type 0} (text : K → List ℕ) (net : List ℕ) where
           λ h.
               let lt : h.0 < length ks = subst (λ (m : ℕ). h.0 < m) (length-map ks text) h.1 in
               let here : text (get_or ks h.0 v) ≡ net = sym (get_or-map text ks h.0 v net lt) ∙ h.2 in
-              let hit : same net (text (get_or ks h.0 v)) ≡ true = ap (λ (t : List ℕ). same net t) here ∙ same_self net in
+              let hit : same_name net (text (get_or ks h.0 v)) ≡ true = ap (λ (t : List ℕ). same_name net t) here ∙ same_self net in
               let no_way : true ≡ false = sym hit ∙ none_passes ks none h.0 v lt in
               absurd cc,
         );
@@ -71,7 +71,7 @@ module _ {K : Type 0} (text : K → List ℕ) (net : List ℕ) where
       }
 
 -- nothing is numbered
-pub numbers_none : IsNumbering [] [] []
+pub numbers_none : IsTableNumbering [] [] []
 numbers_none = record {
   sized = refl;
   few = omega arith;
@@ -90,7 +90,7 @@ kept table table' net number n i lt = elim n.either [
       (omega (arith, long), ap (λ (t : List (List ℕ)). get_or t i []) new.0 ∙ get_or_append_left table (net ∷ []) [] i lt)
 ]
 
-module _ (nets : List (List ℕ)) (numbers : List ℕ) (table table' : List (List ℕ)) (net : List ℕ) (number : ℕ) (old : IsNumbering nets numbers table) (new : IsNumberOf table net number table') where
+module _ (nets : List (List ℕ)) (numbers : List ℕ) (table table' : List (List ℕ)) (net : List ℕ) (number : ℕ) (old : IsTableNumbering nets numbers table) (new : IsNumberOf table net number table') where
   at_old : (k : ℕ) → k < length nets → get_or (numbers ++ number ∷ []) k 0 ≡ get_or numbers k 0
   at_old k lt = get_or_append_left numbers (number ∷ []) 0 k (omega (arith, old.sized))
 
@@ -103,8 +103,8 @@ module _ (nets : List (List ℕ)) (numbers : List ℕ) (table table' : List (Lis
   long_nets : length (nets ++ net ∷ []) ≡ length nets + 1
   long_nets = length-append nets (net ∷ [])
 
-  has_old : (place other : ℕ) → place ≤ length nets → HasBefore numbers place other → HasBefore (numbers ++ number ∷ []) place other
-  has_old place other le h = record { earlier = h.earlier; before = h.before; is = at_old h.earlier (omega (arith, h.before)) ∙ h.is }
+  has_old : (index other : ℕ) → index ≤ length nets → HasBefore numbers index other → HasBefore (numbers ++ number ∷ []) index other
+  has_old index other le h = record { earlier = h.earlier; before = h.before; is = at_old h.earlier (omega (arith, h.before)) ∙ h.is }
 
   each_more : (k : ℕ) → k < length (nets ++ net ∷ []) → (get_or (numbers ++ number ∷ []) k 0 < length table') × (get_or table' (get_or (numbers ++ number ∷ []) k 0) [] ≡ get_or (nets ++ net ∷ []) k [])
   each_more k lt = elim (cases_lt k (length nets)) [
@@ -176,7 +176,7 @@ module _ (nets : List (List ℕ)) (numbers : List ℕ) (table table' : List (Lis
   ]
 
   -- one net more
-  pub numbers_more : IsNumbering (nets ++ net ∷ []) (numbers ++ number ∷ []) table'
+  pub numbers_more : IsTableNumbering (nets ++ net ∷ []) (numbers ++ number ∷ []) table'
   numbers_more = record {
     sized = length-append numbers (number ∷ []) ∙ ap (λ (n : ℕ). n + 1) old.sized ∙ sym long_nets;
     few = few_more;

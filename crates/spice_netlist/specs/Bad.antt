@@ -1,36 +1,36 @@
 -- Where the first bad instance is: the first whose nodes aren't as many as its subcircuit's ports.
 use Rattle.std.specs.Prelude.{◌≡◌, ℕ, Bool, is_some, IsSome, option_map, List, ◌∷◌, ◌++◌, Option, Some, Contains}
-use Rattle.spice_netlist.specs.declared.block.Block.{Block}
-use Rattle.spice_netlist.specs.declared.block.Part.{Part}
-use Rattle.spice_netlist.specs.declared.ports.BadPart.{BadPart}
-use Rattle.spice_netlist.specs.declared.ports.BadPart.TheVariants.{Itself, Inside}
-use Rattle.spice_netlist.specs.Resolved.{places}
+use Rattle.spice_netlist.specs.declared.resolved.ResolvedSubckt.{ResolvedSubckt}
+use Rattle.spice_netlist.specs.declared.resolved.ResolvedInstance.{ResolvedInstance}
+use Rattle.spice_netlist.specs.declared.ports.BadInstance.{BadInstance}
+use Rattle.spice_netlist.specs.declared.ports.BadInstance.TheVariants.{Itself, Inside}
+use Rattle.spice_netlist.specs.Resolved.{subckt_references}
 use Rattle.spice_netlist.specs.Walk.{visits_by, walk_at, first_bad}
 
--- the path of the first bad instance below the subcircuit at a place
-abbrev pub bad_at : List Block → ℕ → Option (List ℕ)
-bad_at blocks place = first_bad blocks (walk_at blocks place)
+-- the path of the first bad instance below the subcircuit at an index
+abbrev pub bad_at : List ResolvedSubckt → ℕ → Option (List ℕ)
+bad_at subckts index = first_bad subckts (walk_at subckts index)
 
--- the path of the first bad instance of the parts and all below them
-abbrev pub bad_in : List Block → List Part → Option (List ℕ)
-bad_in blocks parts = first_bad blocks (visits_by blocks (walk_at blocks) parts)
+-- the path of the first bad instance of the instances and all below them
+abbrev pub bad_in : List ResolvedSubckt → List ResolvedInstance → Option (List ℕ)
+bad_in subckts instances = first_bad subckts (visits_by subckts (walk_at subckts) instances)
 
--- whether there is a bad instance below the subcircuit at a place
-abbrev pub has_bad : List Block → ℕ → Bool
-has_bad blocks place = is_some (bad_at blocks place)
+-- whether there is a bad instance below the subcircuit at an index
+abbrev pub has_bad : List ResolvedSubckt → ℕ → Bool
+has_bad subckts index = is_some (bad_at subckts index)
 
--- the path by way of the part, where `inside` has the paths from inside the subcircuits
-abbrev pub path_by : (ℕ → Option (List ℕ)) → BadPart → Option (List ℕ)
+-- the path by the instance, where `inside` has the paths from inside the subcircuits
+abbrev pub path_by : (ℕ → Option (List ℕ)) → BadInstance → Option (List ℕ)
 path_by inside (Itself name) = Some name.now
-path_by inside (Inside name place) = option_map (λ path. name.now ++ 47 ∷ path) (inside place)
+path_by inside (Inside name index) = option_map (λ path. name.now ++ 47 ∷ path) (inside index)
 
--- the place, where there is one, is that of one of the parts
-abbrev pub IsOfOne : List Part → BadPart → Type 0
-IsOfOne parts (Itself name) = Unit {0}
-IsOfOne parts (Inside name place) = Contains (places parts) place
+-- the index, where there is one, is that of one of the instances
+abbrev pub IsOfOne : List ResolvedInstance → BadInstance → Type 0
+IsOfOne instances (Itself name) = Unit {0}
+IsOfOne instances (Inside name index) = Contains (subckt_references instances) index
 
--- there is a bad instance among the parts and all below them, and the path of the first is by way of this part
-pub record IsBadPart (blocks : List Block) (parts : List Part) (part : BadPart) : Type 0 where
-  pub some : IsSome (bad_in blocks parts)
-  pub refers : IsOfOne parts part
-  pub path : bad_in blocks parts ≡ path_by (bad_at blocks) part
+-- there is a bad instance among the instances and all below them, and the path of the first is by this instance
+pub record IsBadInstance (subckts : List ResolvedSubckt) (instances : List ResolvedInstance) (instance : BadInstance) : Type 0 where
+  pub some : IsSome (bad_in subckts instances)
+  pub refers : IsOfOne instances instance
+  pub path : bad_in subckts instances ≡ path_by (bad_at subckts) instance

@@ -3,5 +3,5 @@ use Rattle.std.specs.Prelude.{ℕ, List, map}
 use Rattle.spice_netlist.specs.declared.number.NetTable.{NetTable}
 
 -- the nets, in the order in which they came
-abbrev pub nets_of : NetTable → List (List ℕ)
-nets_of t = map (λ key. key.items) t.nets.keys
+abbrev pub table_nets : NetTable → List (List ℕ)
+table_nets t = map (λ key. key.items) t.nets.keys

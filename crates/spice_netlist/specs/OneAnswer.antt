@@ -8,12 +8,15 @@ use Rattle.spice_netlist.specs.Faults.{AreFlatRows, IsFlatFault}
 
 -- a subcircuit has one list of flat rows
 abbrev pub RowsAreUnique : Type 0
-RowsAreUnique = (subckts : List Subckt) (top : List ℕ) (leaves : List (List ℕ)) (a b : List RowPin) → AreFlatRows subckts top leaves a → AreFlatRows subckts top leaves b → a ≡ b
+RowsAreUnique = (subckts : List Subckt) (top : List ℕ) (leaves : List (List ℕ)) (a b : List RowPin)
+    → AreFlatRows subckts top leaves a → AreFlatRows subckts top leaves b → a ≡ b
 
--- and one refusal, want of memory aside
+-- and one refusal, out of memory aside
 abbrev pub FlatFaultsAreUnique : Type 0
-FlatFaultsAreUnique = (subckts : List Subckt) (top : List ℕ) (leaves : List (List ℕ)) (f g : FlatFault) → f ≢ Memory → g ≢ Memory → IsFlatFault subckts top leaves f → IsFlatFault subckts top leaves g → f ≡ g
+FlatFaultsAreUnique = (subckts : List Subckt) (top : List ℕ) (leaves : List (List ℕ)) (f g : FlatFault)
+    → f ≢ Memory → g ≢ Memory → IsFlatFault subckts top leaves f → IsFlatFault subckts top leaves g → f ≡ g
 
 -- and not both
 abbrev pub FlatFaultsExcludeRows : Type 0
-FlatFaultsExcludeRows = (subckts : List Subckt) (top : List ℕ) (leaves : List (List ℕ)) (f : FlatFault) (rows : List RowPin) → f ≢ Memory → IsFlatFault subckts top leaves f → AreFlatRows subckts top leaves rows → ⊥
+FlatFaultsExcludeRows = (subckts : List Subckt) (top : List ℕ) (leaves : List (List ℕ)) (f : FlatFault) (rows : List RowPin)
+    → f ≢ Memory → IsFlatFault subckts top leaves f → AreFlatRows subckts top leaves rows → ⊥

@@ -1,51 +1,63 @@
 -- The pins of the leaf instances of a walk, and the named rows of a top.
 use Rattle.std.specs.Prelude.{ℕ, ◌+◌, List, [], ◌∷◌, ◌++◌, map, if◌then◌else◌, slice_index_or}
 use Rattle.std.specs.List.{flat_map}
-use Rattle.spice_netlist.specs.declared.block.Block.{Block}
-use Rattle.spice_netlist.specs.Resolved.{name_at, ports_at, leaf_at}
-use Rattle.spice_netlist.specs.declared.block.Part.{Part}
-use Rattle.spice_netlist.specs.Walk.{Visit, net_above, path_above, walk_at}
+use Rattle.spice_netlist.specs.declared.resolved.ResolvedSubckt.{ResolvedSubckt}
+use Rattle.spice_netlist.specs.Resolved.{subckt_name_at, ports_at, leaf_at}
+use Rattle.spice_netlist.specs.declared.resolved.ResolvedInstance.{ResolvedInstance}
+use Rattle.spice_netlist.specs.Walk.{FlatNet, local, FlatInstance, net_above, path_above, walk_at}
 
--- a pin of a leaf instance: the names of the instances down to the leaf, separated by /, the place of the leaf, its place
+-- a pin of a leaf instance: the names of the instances down to the leaf, separated by /, the index of the leaf, its own
 -- among the leaf's ports, and its net
-pub record Pin : Type 0 where
+pub record LeafPin : Type 0 where
   pub path : List ℕ
   pub of : ℕ
   pub port : ℕ
-  pub net : List ℕ
+  pub net : FlatNet
 
 -- pins from this port on, which are on the nets in their order
-abbrev pub pins_from : List ℕ → ℕ → ℕ → List (List ℕ) → List Pin
+abbrev pub pins_from : List ℕ → ℕ → ℕ → List FlatNet → List LeafPin
 pins_from path of port [] = []
-pins_from path of port (net ∷ nets) = record { path = path; of = of; port = port; net = net } ∷ pins_from path of (port + 1) nets
+pins_from path of port (net ∷ nets) =
+    record { path = path; of = of; port = port; net = net } ∷ pins_from path of (port + 1) nets
 
--- a pin inside the part, seen from outside
-abbrev pub pin_above : Part → List (List ℕ) → Pin → Pin
-pin_above part ports p = record { path = path_above part p.path; of = p.of; port = p.port; net = net_above part ports p.net }
+-- a pin inside the instance, seen from outside
+abbrev pub pin_above : ResolvedInstance → List (List ℕ) → LeafPin → LeafPin
+pin_above instance ports p = record {
+  path = path_above instance p.path;
+  of = p.of;
+  port = p.port;
+  net = net_above instance ports p.net;
+}
 
 -- the pins of the instance, where it is one of a leaf
-abbrev pub pins_in : List Block → Visit → List Pin
-pins_in blocks v = if leaf_at blocks v.of then pins_from v.path v.of 0 v.nets else []
+abbrev pub pins_in : List ResolvedSubckt → FlatInstance → List LeafPin
+pins_in subckts v = if leaf_at subckts v.of then pins_from v.path v.of 0 v.nets else []
 
 -- the pins of the leaf instances
-abbrev pub pins_of : List Block → List Visit → List Pin
-pins_of blocks visits = flat_map (pins_in blocks) visits
+abbrev pub pins_of : List ResolvedSubckt → List FlatInstance → List LeafPin
+pins_of subckts visits = flat_map (pins_in subckts) visits
 
 -- a row before nets are numbered
 pub record NamedPin : Type 0 where
   pub path : List ℕ
   pub leaf : List ℕ
   pub pin : List ℕ
-  pub net : List ℕ
+  pub net : FlatNet
 
 -- a port of the top
 abbrev pub port_row : List ℕ → NamedPin
-port_row port = record { path = []; leaf = []; pin = port; net = port }
+port_row port = record { path = []; leaf = []; pin = port; net = local port }
 
 -- a pin of a leaf instance
-abbrev pub pin_row : List Block → Pin → NamedPin
-pin_row blocks p = record { path = p.path; leaf = name_at blocks p.of; pin = slice_index_or (ports_at blocks p.of) p.port []; net = p.net }
+abbrev pub pin_row : List ResolvedSubckt → LeafPin → NamedPin
+pin_row subckts p = record {
+  path = p.path;
+  leaf = subckt_name_at subckts p.of;
+  pin = slice_index_or (ports_at subckts p.of) p.port [];
+  net = p.net;
+}
 
 -- the top's ports, and then the pins of the leaf instances
-abbrev pub named_rows : List Block → ℕ → List NamedPin
-named_rows blocks top = map port_row (ports_at blocks top) ++ map (pin_row blocks) (pins_of blocks (walk_at blocks top))
+abbrev pub named_rows : List ResolvedSubckt → ℕ → List NamedPin
+named_rows subckts top =
+    map port_row (ports_at subckts top) ++ map (pin_row subckts) (pins_of subckts (walk_at subckts top))

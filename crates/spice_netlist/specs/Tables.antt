@@ -2,25 +2,26 @@
 use Rattle.std.specs.Prelude.{◌≡◌, ℕ, ◌<◌, ◌≤◌, List, length, slice_index_or, Contains}
 use Rattle.reference_graph.specs.Reaches.{AreWithin}
 use Rattle.reference_graph.specs.BottomUp.{IsBottomUp}
-use Rattle.spice_netlist.specs.declared.block.Block.{Block}
-use Rattle.spice_netlist.specs.declared.block.Part.{Part}
-use Rattle.spice_netlist.specs.Resolved.{places, graph}
+use Rattle.spice_netlist.specs.declared.resolved.ResolvedSubckt.{ResolvedSubckt}
+use Rattle.spice_netlist.specs.declared.resolved.ResolvedInstance.{ResolvedInstance}
+use Rattle.spice_netlist.specs.Resolved.{subckt_references, graph}
 
--- the table has what f gives of the place
-pub record IsKnown {V : Type 0} (f : ℕ → V) (table : List V) (place : ℕ) : Type 0 where
-  pub within : place < length table
-  pub is : (d : V) → slice_index_or table place d ≡ f place
+-- the table has what f gives of the index
+pub record HoldsAt {V : Type 0} (f : ℕ → V) (table : List V) (index : ℕ) : Type 0 where
+  pub within : index < length table
+  pub is : (d : V) → slice_index_or table index d ≡ f index
 
--- of each place that the parts refer to
-abbrev pub AreKnown : {V : Type 0} → (ℕ → V) → List V → List Part → Type 0
-AreKnown f table parts = (place : ℕ) → Contains (places parts) place → IsKnown f table place
+-- of each index that the instances refer to
+abbrev pub HoldsForReferences : {V : Type 0} → (ℕ → V) → List V → List ResolvedInstance → Type 0
+HoldsForReferences f table instances =
+    (index : ℕ) → Contains (subckt_references instances) index → HoldsAt f table index
 
 -- the order has each subcircuit after all that it refers to, and none twice
-pub record IsUpward (blocks : List Block) (order : List ℕ) : Type 0 where
-  pub within : AreWithin (graph blocks)
-  pub bottom_up : IsBottomUp (graph blocks) order
-  pub short : length order ≤ length blocks
+pub record IsSubcktOrder (subckts : List ResolvedSubckt) (order : List ℕ) : Type 0 where
+  pub within : AreWithin (graph subckts)
+  pub bottom_up : IsBottomUp (graph subckts) order
+  pub short : length order ≤ length subckts
 
--- of each place of the order
+-- of each index of the order
 abbrev pub IsTable : {V : Type 0} → (ℕ → V) → List ℕ → List V → Type 0
-IsTable f order table = (place : ℕ) → Contains order place → IsKnown f table place
+IsTable f order table = (index : ℕ) → Contains order index → HoldsAt f table index

@@ -1,63 +1,81 @@
 -- The walk through a hierarchy, depth first.
---
--- A net is written as the names of the instances down to the outermost subcircuit in which it is local, each with an A
--- behind it, and last its name there. Names are in lower case, so that no name has an A: two nets have one text exactly
--- where both have the same path and the same name.
 use Rattle.std.specs.Prelude.{ℕ, zero, suc, ◌+◌, nat_eq, List, [], ◌∷◌, ◌++◌, length, map, Option, None, Some, if◌then◌else◌, slice_index_or}
 use Rattle.std.specs.List.{flat_map}
-use Rattle.spice_netlist.specs.declared.block.Block.{Block}
-use Rattle.spice_netlist.specs.declared.block.Part.{Part}
-use Rattle.spice_netlist.specs.Names.{place_of}
-use Rattle.spice_netlist.specs.Resolved.{ports_at, leaf_at, parts_at}
+use Rattle.spice_netlist.specs.declared.resolved.ResolvedSubckt.{ResolvedSubckt}
+use Rattle.spice_netlist.specs.declared.resolved.ResolvedInstance.{ResolvedInstance}
+use Rattle.spice_netlist.specs.Names.{index_of}
+use Rattle.spice_netlist.specs.Resolved.{ports_at, leaf_at, instances_at}
 
--- an instance that the walk comes to: its path, the place of its subcircuit, and the nets of its nodes
-pub record Visit : Type 0 where
+-- a net: the names of the instances down to the outermost subcircuit in which it is local, and its name there
+pub record FlatNet : Type 0 where
+  pub path : List (List ℕ)
+  pub name : List ℕ
+
+-- a net that is local
+abbrev pub local : List ℕ → FlatNet
+local name = record { path = []; name = name }
+
+-- an instance that the walk comes to: its path, the index of its subcircuit, and the nets of its nodes
+pub record FlatInstance : Type 0 where
   pub path : List ℕ
   pub of : ℕ
-  pub nets : List (List ℕ)
+  pub nets : List FlatNet
 
--- the node at the port's place, or a net inside
-abbrev pub node_or : List ℕ → List (List ℕ) → Option ℕ → List ℕ
+-- the node at the port's index, or a net inside
+abbrev pub node_or : FlatNet → List (List ℕ) → Option ℕ → FlatNet
 node_or inside nodes None = inside
-node_or inside nodes (Some place) = slice_index_or nodes place []
+node_or inside nodes (Some index) = local (slice_index_or nodes index [])
 
--- a net of the part's subcircuit, seen from outside: a port is joined with the part's node, another net is local inside
-abbrev pub net_above : Part → List (List ℕ) → List ℕ → List ℕ
-net_above part ports net = node_or (part.name ++ 65 ∷ net) part.nodes (place_of ports net)
+-- the net of this path and name inside the instance, seen from outside: a port is joined with the instance's node,
+-- another net is local inside
+abbrev pub net_by : ResolvedInstance → List (List ℕ) → List (List ℕ) → List ℕ → FlatNet
+net_by instance ports [] name =
+    node_or (record { path = instance.name ∷ []; name = name }) instance.nodes (index_of ports name)
+net_by instance ports (i ∷ path) name = record { path = instance.name ∷ i ∷ path; name = name }
 
--- a path inside the part, seen from outside
-abbrev pub path_above : Part → List ℕ → List ℕ
-path_above part path = part.name ++ 47 ∷ path
+abbrev pub net_above : ResolvedInstance → List (List ℕ) → FlatNet → FlatNet
+net_above instance ports net = net_by instance ports net.path net.name
 
--- an instance inside the part, seen from outside
-abbrev pub visit_above : Part → List (List ℕ) → Visit → Visit
-visit_above part ports v = record { path = path_above part v.path; of = v.of; nets = map (net_above part ports) v.nets }
+-- a path inside the instance, seen from outside
+abbrev pub path_above : ResolvedInstance → List ℕ → List ℕ
+path_above instance path = instance.name ++ 47 ∷ path
 
--- the part itself, and then what the walk comes to inside it; nothing where its subcircuit isn't there
-abbrev pub visits_in : List Block → (ℕ → List Visit) → Part → Option ℕ → List Visit
-visits_in blocks inside part None = []
-visits_in blocks inside part (Some place) =
-    record { path = part.name; of = place; nets = part.nodes } ∷ map (visit_above part (ports_at blocks place)) (inside place)
+-- an instance inside the instance, seen from outside
+abbrev pub visit_above : ResolvedInstance → List (List ℕ) → FlatInstance → FlatInstance
+visit_above instance ports v = record {
+  path = path_above instance v.path;
+  of = v.of;
+  nets = map (net_above instance ports) v.nets;
+}
 
--- the walk through the parts, by what it comes to inside the subcircuit at a place
-abbrev pub visits_by : List Block → (ℕ → List Visit) → List Part → List Visit
-visits_by blocks inside parts = flat_map (λ p. visits_in blocks inside p p.place) parts
+-- the instance itself, and then what the walk comes to inside it; nothing where its subcircuit isn't there
+abbrev pub visits_in : List ResolvedSubckt → (ℕ → List FlatInstance) → ResolvedInstance → Option ℕ → List FlatInstance
+visits_in subckts inside instance None = []
+visits_in subckts inside instance (Some index) =
+    record { path = instance.name; of = index; nets = map local instance.nodes }
+    ∷ map (visit_above instance (ports_at subckts index)) (inside index)
 
--- the walk through the parts, so many levels deep
-abbrev pub visits : List Block → ℕ → List Part → List Visit
-visits blocks zero parts = []
-visits blocks (suc depth) parts = visits_by blocks (λ place. visits blocks depth (parts_at blocks place)) parts
+-- the walk through the instances, by what it comes to inside the subcircuit at an index
+abbrev pub visits_by : List ResolvedSubckt → (ℕ → List FlatInstance) → List ResolvedInstance → List FlatInstance
+visits_by subckts inside instances = flat_map (λ p. visits_in subckts inside p p.index) instances
 
--- the walk through the subcircuit at a place: without cycles there are no more levels than subcircuits
-abbrev pub walk_at : List Block → ℕ → List Visit
-walk_at blocks place = visits blocks (length blocks) (parts_at blocks place)
+-- the walk through the instances, so many levels deep
+abbrev pub visits : List ResolvedSubckt → ℕ → List ResolvedInstance → List FlatInstance
+visits subckts zero instances = []
+visits subckts (suc depth) instances =
+    visits_by subckts (λ index. visits subckts depth (instances_at subckts index)) instances
+
+-- the walk through the subcircuit at an index: without cycles there are no more levels than subcircuits
+abbrev pub walk_at : List ResolvedSubckt → ℕ → List FlatInstance
+walk_at subckts index = visits subckts (length subckts) (instances_at subckts index)
 
 -- the path of the first instance whose nodes aren't as many as its subcircuit's ports
-abbrev pub first_bad : List Block → List Visit → Option (List ℕ)
-first_bad blocks [] = None
-first_bad blocks (v ∷ vs) = if nat_eq (length v.nets) (length (ports_at blocks v.of)) then first_bad blocks vs else Some v.path
+abbrev pub first_bad : List ResolvedSubckt → List FlatInstance → Option (List ℕ)
+first_bad subckts [] = None
+first_bad subckts (v ∷ vs) =
+    if nat_eq (length v.nets) (length (ports_at subckts v.of)) then first_bad subckts vs else Some v.path
 
 -- how many instances of leaves there are
-abbrev pub leaf_count : List Block → List Visit → ℕ
-leaf_count blocks [] = 0
-leaf_count blocks (v ∷ vs) = (if leaf_at blocks v.of then 1 else 0) + leaf_count blocks vs
+abbrev pub leaf_count : List ResolvedSubckt → List FlatInstance → ℕ
+leaf_count subckts [] = 0
+leaf_count subckts (v ∷ vs) = (if leaf_at subckts v.of then 1 else 0) + leaf_count subckts vs

@@ -1,21 +1,23 @@
-ghost use Rattle.std.specs.Prelude.{◌≡◌, ◌<◌, ◌≤◌, ◌+◌, None, IfOk, IfErr, MatchResult, length, ◌^◌};
+ghost use Rattle.std.specs.Prelude.{◌≡◌, ◌<◌, ◌≤◌, ◌+◌, None, IfOk, IfErr, MatchResult, length};
 ghost use Rattle.reference_graph.specs.Reaches.{AreWithin};
 ghost use Rattle.reference_graph.specs.BottomUp.{IsOrder};
+ghost use Rattle.spice_netlist.specs.Limits.{most_pins};
 ghost use Rattle.spice_netlist.specs.Resolved.{graph};
 ghost use Rattle.spice_netlist.specs.Walk.{walk_at, first_bad};
 ghost use Rattle.spice_netlist.specs.Pins.{named_rows};
-ghost use Rattle.spice_netlist.specs.Tables.{IsUpward};
-ghost use Rattle.spice_netlist.specs.Descent.{HaveNoA, AreSizes};
-ghost use Rattle.spice_netlist.specs.Numbers.{AreNumbered};
+ghost use Rattle.spice_netlist.specs.Tables.{IsSubcktOrder};
+ghost use Rattle.spice_netlist.specs.LowerCase.{AreLow};
+ghost use Rattle.spice_netlist.specs.Descent.{AreSubcktSizes};
+ghost use Rattle.spice_netlist.specs.Numbers.{AreNumberedRows};
 ghost use Rattle.spice_netlist.specs.Faults.{AreAllThere, IsHierarchy, IsFaultAt, AreRowsAt, IsSmall, AreFlatRows, IsFlatFault};
 
-use crate::block::Block;
 use crate::cycle::least_cyclic;
 use crate::fault::FlatFault;
 use crate::graph::graph_of;
 use crate::lower::lower_name;
 use crate::ports::bad_path;
 use crate::resolve::resolve;
+use crate::resolved::ResolvedSubckt;
 use crate::rows::{RowList, add_port_rows};
 use crate::size::{MOST_LEAVES, MOST_PINS, Size, sizes};
 use crate::table::{entry, ports_of};
@@ -29,17 +31,17 @@ use std::alloc::Global;
 /// Err where a name isn't there that is referred to from what the top reaches.
 fn check_names(
     alloc: Global,
-    blocks: &[Block],
+    subckts: &[ResolvedSubckt],
     references: &[Items<usize>],
     top: usize,
 ) -> Result<(), FlatFault>
-    requires graph { references.now ≡ graph blocks.now }
+    requires graph { references.now ≡ graph subckts.now }
     requires within { AreWithin references.now }
     requires inside { top < length references.now }
-    ensures { MatchResult result (λ _. AreAllThere blocks.now top) (IsFaultAt blocks.now top) }
+    ensures { MatchResult result (λ _. AreAllThere subckts.now top) (IsFaultAt subckts.now top) }
 {
     let marks = reached(alloc, references, top)?;
-    if let Some(name) = least_unknown(alloc, blocks, top, &marks)? {
+    if let Some(name) = least_unknown(alloc, subckts, top, &marks)? {
         return Err(FlatFault::UnknownSubckt { name });
     }
     Ok(())
@@ -48,20 +50,20 @@ fn check_names(
 /// What the top reaches, each after all that it refers to. Err where one of them reaches itself.
 fn order_of(
     alloc: Global,
-    blocks: &[Block],
+    subckts: &[ResolvedSubckt],
     references: &[Items<usize>],
     top: usize,
 ) -> Result<Vec<usize>, FlatFault>
-    requires graph { references.now ≡ graph blocks.now }
+    requires graph { references.now ≡ graph subckts.now }
     requires within { AreWithin references.now }
     requires inside { top < length references.now }
-    ensures { MatchResult result (λ order. IsHierarchy blocks.now top × IsOrder references.now top order.items) (IsFaultAt blocks.now top) }
+    ensures { MatchResult result (λ order. IsHierarchy subckts.now top × IsOrder references.now top order.items) (IsFaultAt subckts.now top) }
 {
-    check_names(alloc, blocks, references, top)?;
+    check_names(alloc, subckts, references, top)?;
     if let Some(order) = order(alloc, references, top)? {
         return Ok(order);
     }
-    match least_cyclic(alloc, blocks, references, top)? {
+    match least_cyclic(alloc, subckts, references, top)? {
         Some(name) => Err(FlatFault::Cycle { name }),
         None => unreachable!(),
     }
@@ -70,16 +72,16 @@ fn order_of(
 /// Err where an instance has not as many nodes as its subcircuit has ports.
 fn check_ports(
     alloc: Global,
-    blocks: &[Block],
+    subckts: &[ResolvedSubckt],
     order: &[usize],
     top: usize,
 ) -> Result<(), FlatFault>
-    requires hierarchy { IsHierarchy blocks.now top }
-    requires order { IsOrder (graph blocks.now) top order.now }
-    requires upward { IsUpward blocks.now order.now }
-    ensures { MatchResult result (λ _. first_bad blocks.now (walk_at blocks.now top) ≡ None) (IsFaultAt blocks.now top) }
+    requires hierarchy { IsHierarchy subckts.now top }
+    requires order { IsOrder (graph subckts.now) top order.now }
+    requires upward { IsSubcktOrder subckts.now order.now }
+    ensures { MatchResult result (λ _. first_bad subckts.now (walk_at subckts.now top) ≡ None) (IsFaultAt subckts.now top) }
 {
-    match bad_path(alloc, blocks, order, top)? {
+    match bad_path(alloc, subckts, order, top)? {
         Some(path) => Err(FlatFault::PortCount {
             path: Name::from_bytes(alloc, path.as_slice())?,
         }),
@@ -91,24 +93,24 @@ fn check_ports(
 /// top.
 fn check_size(
     alloc: Global,
-    blocks: &[Block],
+    subckts: &[ResolvedSubckt],
     order: &[usize],
     top: usize,
 ) -> Result<Vec<Size>, FlatFault>
-    requires hierarchy { IsHierarchy blocks.now top }
-    requires good { first_bad blocks.now (walk_at blocks.now top) ≡ None }
-    requires order { IsOrder (graph blocks.now) top order.now }
-    requires upward { IsUpward blocks.now order.now }
-    ensures { MatchResult result (λ sizes. IsSmall blocks.now top × AreSizes blocks.now top sizes.items) (IsFaultAt blocks.now top) }
+    requires hierarchy { IsHierarchy subckts.now top }
+    requires good { first_bad subckts.now (walk_at subckts.now top) ≡ None }
+    requires order { IsOrder (graph subckts.now) top order.now }
+    requires upward { IsSubcktOrder subckts.now order.now }
+    ensures { MatchResult result (λ sizes. IsSmall subckts.now top × AreSubcktSizes subckts.now top sizes.items) (IsFaultAt subckts.now top) }
 {
-    let sizes = sizes(alloc, blocks, order)?;
+    let sizes = sizes(alloc, subckts, order)?;
     let size = *entry(&sizes, top);
     if size.leaves > MOST_LEAVES {
         return Err(FlatFault::TooMany {
             count: MOST_LEAVES + 1,
         });
     }
-    let ports = ports_of(blocks, top).len() as u64;
+    let ports = ports_of(subckts, top).len() as u64;
     if size.pins.saturating_add(ports) > MOST_PINS {
         return Err(FlatFault::TooMany {
             count: MOST_PINS + 1,
@@ -120,40 +122,40 @@ fn check_size(
 /// The rows of the top, of which there are not too many.
 fn rows_of(
     alloc: Global,
-    blocks: &[Block],
+    subckts: &[ResolvedSubckt],
     sizes: &[Size],
     top: usize,
 ) -> Result<Vec<RowPin>, Memory>
-    requires within { AreWithin (graph blocks.now) }
-    requires inside { top < length blocks.now }
-    requires hierarchy { IsHierarchy blocks.now top }
-    requires good { first_bad blocks.now (walk_at blocks.now top) ≡ None }
-    requires plain { HaveNoA blocks.now }
-    requires sizes { AreSizes blocks.now top sizes.now }
-    requires small { length (named_rows blocks.now top) ≤ 2 ^ 24 }
-    ensures { IfOk result (λ rows. AreNumbered (named_rows blocks.now top) rows.items) }
+    requires within { AreWithin (graph subckts.now) }
+    requires inside { top < length subckts.now }
+    requires hierarchy { IsHierarchy subckts.now top }
+    requires good { first_bad subckts.now (walk_at subckts.now top) ≡ None }
+    requires low { AreLow subckts.now }
+    requires sizes { AreSubcktSizes subckts.now top sizes.now }
+    requires small { length (named_rows subckts.now top) ≤ most_pins }
+    ensures { IfOk result (λ rows. AreNumberedRows (named_rows subckts.now top) rows.items) }
 {
     paths_are_short();
     let mut rows = RowList::new(alloc);
-    let ports = ports_of(blocks, top);
+    let ports = ports_of(subckts, top);
     add_port_rows(alloc, ports, &mut rows)?;
-    add_rows_below(alloc, blocks, sizes, top, &mut rows)?;
+    add_rows_below(alloc, subckts, sizes, top, &mut rows)?;
     Ok(rows.into_rows())
 }
 
-/// The rows of the top at this place.
-fn rows_at(alloc: Global, blocks: &[Block], top: usize) -> Result<Vec<RowPin>, FlatFault>
-    requires within { AreWithin (graph blocks.now) }
-    requires inside { top < length blocks.now }
-    requires plain { HaveNoA blocks.now }
-    ensures { MatchResult result (λ rows. AreRowsAt blocks.now top rows.items) (IsFaultAt blocks.now top) }
+/// The rows of the top at this index.
+fn rows_at(alloc: Global, subckts: &[ResolvedSubckt], top: usize) -> Result<Vec<RowPin>, FlatFault>
+    requires within { AreWithin (graph subckts.now) }
+    requires inside { top < length subckts.now }
+    requires low { AreLow subckts.now }
+    ensures { MatchResult result (λ rows. AreRowsAt subckts.now top rows.items) (IsFaultAt subckts.now top) }
 {
-    let references = graph_of(alloc, blocks)?;
-    let order = order_of(alloc, blocks, &references, top)?;
+    let references = graph_of(alloc, subckts)?;
+    let order = order_of(alloc, subckts, &references, top)?;
     paths_are_short();
-    check_ports(alloc, blocks, &order, top)?;
-    let sizes = check_size(alloc, blocks, &order, top)?;
-    Ok(rows_of(alloc, blocks, &sizes, top)?)
+    check_ports(alloc, subckts, &order, top)?;
+    let sizes = check_size(alloc, subckts, &order, top)?;
+    Ok(rows_of(alloc, subckts, &sizes, top)?)
 }
 
 /// The flat rows of the top: first its ports, and then the pins of the leaf instances below it, in the order of a
@@ -168,10 +170,10 @@ pub fn flat_rows(alloc: Global, deck: &Deck, top: &Name, leaves: &[Name]) -> Res
 {
     let top = lower_name(alloc, top)?;
     let design = resolve(alloc, deck.subckts.as_slice(), &top, leaves)?;
-    let Some(place) = design.top else {
+    let Some(index) = design.top else {
         return Err(FlatFault::UnknownSubckt { name: top });
     };
-    let pins = rows_at(alloc, design.blocks.as_slice(), place)?;
+    let pins = rows_at(alloc, design.subckts.as_slice(), index)?;
     Ok(Rows {
         pins: Items::from_vec(pins),
     })

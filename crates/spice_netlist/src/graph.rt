@@ -1,31 +1,31 @@
 ghost use Rattle.std.specs.Prelude.{◌≡◌, IfOk};
-ghost use Rattle.spice_netlist.specs.Resolved.{places, graph};
+ghost use Rattle.spice_netlist.specs.Resolved.{subckt_references, graph};
 
-use crate::block::{Block, Part};
+use crate::resolved::{ResolvedInstance, ResolvedSubckt};
 use or_geom::{Items, Memory};
 use std::alloc::Global;
 
-/// The places of the subcircuits that the parts are instances of.
-fn places_in(alloc: Global, parts: &[Part]) -> Result<Items<usize>, Memory>
-    ensures { IfOk result (λ list. list ≡ places parts.now) }
+/// The indices of the subcircuits that the instances are instances of.
+fn references_in(alloc: Global, instances: &[ResolvedInstance]) -> Result<Items<usize>, Memory>
+    ensures { IfOk result (λ list. list ≡ subckt_references instances.now) }
 {
     let mut list = Vec::new(alloc);
-    for part in parts {
-        let Some(place) = part.place else {
+    for instance in instances {
+        let Some(index) = instance.index else {
             continue;
         };
-        list.push(place)?;
+        list.push(index)?;
     }
     Ok(Items::from_vec(list))
 }
 
-/// For each subcircuit the places of those that it refers to.
-pub fn graph_of(alloc: Global, blocks: &[Block]) -> Result<Vec<Items<usize>>, Memory>
-    ensures { IfOk result (λ list. list.items ≡ graph blocks.now) }
+/// For each subcircuit the indices of those that it refers to.
+pub fn graph_of(alloc: Global, subckts: &[ResolvedSubckt]) -> Result<Vec<Items<usize>>, Memory>
+    ensures { IfOk result (λ list. list.items ≡ graph subckts.now) }
 {
     let mut list = Vec::new(alloc);
-    for block in blocks {
-        list.push(places_in(alloc, block.parts.as_slice())?)?;
+    for subckt in subckts {
+        list.push(references_in(alloc, subckt.instances.as_slice())?)?;
     }
     Ok(list)
 }

@@ -1,5 +1,5 @@
 ghost use Rattle.std.specs.Prelude.{◌≡◌, IfOk, map};
-ghost use Rattle.spice_netlist.specs.Names.{lower};
+ghost use Rattle.spice_text.specs.Words.{lower};
 ghost use Rattle.spice_netlist.specs.Resolved.{names_of};
 
 use netlist::Subckt;

@@ -1,76 +1,84 @@
-ghost use Rattle.std.specs.Prelude.{◌≡◌, ◌++◌, ◌+◌, ◌<◌, ◌≤◌, ◌^◌, [], length, map, slice_index_or, OnOk, IfOk};
+ghost use Rattle.std.specs.Prelude.{◌≡◌, ◌+◌, ◌<◌, ◌≤◌, [], length, map, slice_index_or, OnOk, IfOk};
+ghost use Rattle.spice_netlist.specs.Limits.{most_pins};
 ghost use Rattle.spice_netlist.specs.Pins.{pins_in, pin_row};
-ghost use Rattle.spice_netlist.specs.Frames.{text_of, AreNear, leaf_rows};
-ghost use Rattle.spice_netlist.specs.Rows.{Adds, net_count};
+ghost use Rattle.spice_netlist.specs.Levels.{level_key, AreWithinPath, own_visit, leaf_rows};
+ghost use Rattle.spice_netlist.specs.Rows.{AddsRows, net_count};
 
-use crate::block::{Block, Part};
-use crate::frame::Net;
+use crate::instance_path::InstancePath;
+use crate::level::LevelNet;
+use crate::resolved::{ResolvedInstance, ResolvedSubckt};
 use crate::rows::RowList;
-use crate::table::block_at;
+use crate::table::subckt_at;
 use crate::text::concatenated;
-use crate::way::Way;
 use or_geom::{Items, Memory, Name};
 use std::alloc::Global;
 
-/// The name at the place, which is empty where there is none.
-fn port_of(ports: &[Name], place: usize) -> &[u8]
-    ensures { result.now ≡ slice_index_or ports.now place [] }
+/// The name at the index, which is empty where there is none.
+fn port_of(ports: &[Name], index: usize) -> &[u8]
+    ensures { result.now ≡ slice_index_or ports.now index [] }
 {
-    match ports.get(place) {
+    match ports.get(index) {
         Some(port) => port.as_bytes(),
         None => b"",
     }
 }
 
-/// The whole text of the net, where this is the way.
-fn net_bytes(alloc: Global, way: &[u8], net: &Net) -> Result<Items<u8>, Memory>
-    requires { net.now.way ≤ length way.now }
-    ensures { IfOk result (λ text. text ≡ text_of way.now net.now) }
+/// The whole text of the net, where this is the path.
+fn net_bytes(alloc: Global, net_path: &[u8], net: &LevelNet) -> Result<Items<u8>, Memory>
+    requires { net.now.prefix ≤ length net_path.now }
+    ensures { IfOk result (λ text. text ≡ level_key net_path.now net.now) }
 {
-    concatenated(alloc, &way[..net.way], net.name)
+    concatenated(alloc, &net_path[..net.prefix], net.name)
 }
 
 /// Adds the rows of an instance of the leaf.
 fn add_leaf(
     alloc: Global,
-    leaf: &Block,
+    leaf: &ResolvedSubckt,
     path: &[u8],
-    way: &[u8],
-    nets: &[Net],
+    net_path: &[u8],
+    nets: &[LevelNet],
     rows: &mut RowList,
 ) -> Result<(), Memory>
-    requires near { AreNear (length way.now) nets.now }
-    requires few { net_count rows.old + length nets.now ≤ 2 ^ 24 }
-    ensures { OnOk result (Adds rows.old rows.new (leaf_rows leaf.now path.now way.now 0 nets.now)) }
+    requires near { AreWithinPath (length net_path.now) nets.now }
+    requires few { net_count rows.old + length nets.now ≤ most_pins }
+    ensures { OnOk result (AddsRows rows.old rows.new (leaf_rows leaf.now path.now net_path.now 0 nets.now)) }
 {
     for (port, net) in nets.iter().enumerate() {
         let pin = port_of(leaf.ports.as_slice(), port);
-        let text = net_bytes(alloc, way, net)?;
+        let text = net_bytes(alloc, net_path, net)?;
         rows.add(alloc, path, leaf.name.as_bytes(), pin, text.as_slice())?;
     }
     Ok(())
 }
 
-/// Adds the rows of the instance itself, where it is one of a leaf. The way leads to where it stands, and `nets` are
+/// Adds the rows of the instance itself, where it is one of a leaf. The path leads to where it stands, and `nets` are
 /// those of its nodes.
 pub fn add_pins(
     alloc: Global,
-    blocks: &[Block],
-    part: &Part,
-    place: usize,
-    way: &Way,
-    nets: &[Net],
+    subckts: &[ResolvedSubckt],
+    instance: &ResolvedInstance,
+    index: usize,
+    instance_path: &InstancePath,
+    nets: &[LevelNet],
     rows: &mut RowList,
 ) -> Result<(), Memory>
-    requires within { place < length blocks.now }
-    requires near { AreNear (length way.now.net.items) nets.now }
-    requires few { net_count rows.old + length (pins_in blocks.now (record { path = way.now.path.items ++ part.now.name; of = place; nets = map (text_of way.now.net.items) nets.now })) ≤ 2 ^ 24 }
-    ensures { OnOk result (Adds rows.old rows.new (map (pin_row blocks.now) (pins_in blocks.now (record { path = way.now.path.items ++ part.now.name; of = place; nets = map (text_of way.now.net.items) nets.now })))) }
+    requires within { index < length subckts.now }
+    requires near { AreWithinPath (length instance_path.now.net.items) nets.now }
+    requires few { net_count rows.old + length (pins_in subckts.now (own_visit instance_path.now instance.now index nets.now)) ≤ most_pins }
+    ensures { OnOk result (AddsRows rows.old rows.new (map (pin_row subckts.now) (pins_in subckts.now (own_visit instance_path.now instance.now index nets.now)))) }
 {
-    let block = block_at(blocks, place);
-    if !block.leaf {
+    let subckt = subckt_at(subckts, index);
+    if !subckt.leaf {
         return Ok(());
     }
-    let path = concatenated(alloc, &way.path, part.name.as_bytes())?;
-    add_leaf(alloc, block, path.as_slice(), &way.net, nets, rows)
+    let path = concatenated(alloc, &instance_path.path, instance.name.as_bytes())?;
+    add_leaf(
+        alloc,
+        subckt,
+        path.as_slice(),
+        &instance_path.net,
+        nets,
+        rows,
+    )
 }

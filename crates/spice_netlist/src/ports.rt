@@ -1,43 +1,47 @@
 ghost use Rattle.std.specs.Prelude.{◌≡◌, length, MatchOption, Contains, None, IfOk};
-ghost use Rattle.spice_netlist.specs.Bad.{bad_at, bad_in, has_bad, IsBadPart};
-ghost use Rattle.spice_netlist.specs.Tables.{AreKnown, IsTable, IsUpward};
+ghost use Rattle.spice_netlist.specs.Bad.{bad_at, bad_in, has_bad, IsBadInstance};
+ghost use Rattle.spice_netlist.specs.Tables.{HoldsForReferences, IsTable, IsSubcktOrder};
 
-use crate::block::{Block, Part};
-use crate::table::{block_at, entry};
+use crate::resolved::{ResolvedInstance, ResolvedSubckt};
+use crate::table::{entry, subckt_at};
 use or_geom::{Items, Memory};
 use std::alloc::Global;
 
-/// The part that is, or has inside it, the first instance that has not as many nodes as its subcircuit has ports.
+/// The instance that is, or has inside it, the first instance that has not as many nodes as its subcircuit has ports.
 #[derive(Clone, Copy)]
-enum BadPart<'a> {
+enum BadInstance<'a> {
     Itself {
         name: &'a [u8],
     },
     Inside {
         name: &'a [u8],
-        /// The place of the part's subcircuit.
-        place: usize,
+        /// The index of the instance's subcircuit.
+        index: usize,
     },
 }
 
-/// The first of the parts that has not as many nodes as its subcircuit has ports, or has such an instance inside it.
+/// The first of the instances that has not as many nodes as its subcircuit has ports, or has such an instance inside it.
 /// `below` says for each subcircuit that they refer to whether there is one below it.
-fn bad_part<'a>(blocks: &[Block], parts: &'a [Part], below: &[bool]) -> Option<BadPart<'a>>
-    requires sized { length below.now ≡ length blocks.now }
-    requires known { AreKnown (has_bad blocks.now) below.now parts.now }
-    ensures { MatchOption result (bad_in blocks.now parts.now ≡ None) (IsBadPart blocks.now parts.now) }
+fn bad_instance<'a>(
+    subckts: &[ResolvedSubckt],
+    instances: &'a [ResolvedInstance],
+    below: &[bool],
+) -> Option<BadInstance<'a>>
+    requires sized { length below.now ≡ length subckts.now }
+    requires known { HoldsForReferences (has_bad subckts.now) below.now instances.now }
+    ensures { MatchOption result (bad_in subckts.now instances.now ≡ None) (IsBadInstance subckts.now instances.now) }
 {
-    for part in parts {
-        let Some(place) = part.place else {
+    for instance in instances {
+        let Some(index) = instance.index else {
             continue;
         };
-        let name = part.name.as_bytes();
-        let ports = block_at(blocks, place).ports.as_slice();
-        if part.nodes.as_slice().len() != ports.len() {
-            return Some(BadPart::Itself { name });
+        let name = instance.name.as_bytes();
+        let ports = subckt_at(subckts, index).ports.as_slice();
+        if instance.nodes.as_slice().len() != ports.len() {
+            return Some(BadInstance::Itself { name });
         }
-        if *entry(below, place) {
-            return Some(BadPart::Inside { name, place });
+        if *entry(below, index) {
+            return Some(BadInstance::Inside { name, index });
         }
     }
     None
@@ -45,15 +49,19 @@ fn bad_part<'a>(blocks: &[Block], parts: &'a [Part], below: &[bool]) -> Option<B
 
 /// For each subcircuit of the order whether there is an instance below it that has not as many nodes as its subcircuit
 /// has ports.
-fn bad_marks(alloc: Global, blocks: &[Block], order: &[usize]) -> Result<Vec<bool>, Memory>
-    requires { IsUpward blocks.now order.now }
-    ensures sized { IfOk result (λ marks. length marks.items ≡ length blocks.now) }
-    ensures table { IfOk result (λ marks. IsTable (has_bad blocks.now) order.now marks.items) }
+fn bad_marks(
+    alloc: Global,
+    subckts: &[ResolvedSubckt],
+    order: &[usize],
+) -> Result<Vec<bool>, Memory>
+    requires { IsSubcktOrder subckts.now order.now }
+    ensures sized { IfOk result (λ marks. length marks.items ≡ length subckts.now) }
+    ensures table { IfOk result (λ marks. IsTable (has_bad subckts.now) order.now marks.items) }
 {
-    let mut marks = vec![in alloc; false; blocks.len()]?;
+    let mut marks = vec![in alloc; false; subckts.len()]?;
     for node in order {
-        let parts = block_at(blocks, *node).parts.as_slice();
-        marks[*node] = bad_part(blocks, parts, &marks).is_some();
+        let instances = subckt_at(subckts, *node).instances.as_slice();
+        marks[*node] = bad_instance(subckts, instances, &marks).is_some();
     }
     Ok(marks)
 }
@@ -62,29 +70,33 @@ fn bad_marks(alloc: Global, blocks: &[Block], order: &[usize]) -> Result<Vec<boo
 /// is none. `order` has the top, and each subcircuit after all that it refers to.
 pub fn bad_path(
     alloc: Global,
-    blocks: &[Block],
+    subckts: &[ResolvedSubckt],
     order: &[usize],
     top: usize,
 ) -> Result<Option<Items<u8>>, Memory>
-    requires upward { IsUpward blocks.now order.now }
+    requires upward { IsSubcktOrder subckts.now order.now }
     requires listed { Contains order.now top }
-    ensures { IfOk result (λ path. path ≡ bad_at blocks.now top) }
+    ensures { IfOk result (λ path. path ≡ bad_at subckts.now top) }
 {
     // For each subcircuit only a mark is kept, since paths are as long as the hierarchy is deep.
-    let marks = bad_marks(alloc, blocks, order)?;
+    let marks = bad_marks(alloc, subckts, order)?;
     let mut path = Vec::new(alloc);
-    let mut place = top;
+    let mut index = top;
     'levels: loop {
-        match bad_part(blocks, block_at(blocks, place).parts.as_slice(), &marks) {
+        match bad_instance(
+            subckts,
+            subckt_at(subckts, index).instances.as_slice(),
+            &marks,
+        ) {
             None => return Ok(None),
-            Some(BadPart::Itself { name }) => {
+            Some(BadInstance::Itself { name }) => {
                 path.extend_from_slice(name)?;
                 return Ok(Some(Items::from_vec(path)));
             }
-            Some(BadPart::Inside { name, place: next }) => {
+            Some(BadInstance::Inside { name, index: next }) => {
                 path.extend_from_slice(name)?;
                 path.push(b'/')?;
-                place = next;
+                index = next;
             }
         }
     }

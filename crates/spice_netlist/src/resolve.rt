@@ -1,51 +1,60 @@
 ghost use Rattle.std.specs.Prelude.{◌≡◌, IfOk, map};
-ghost use Rattle.spice_netlist.specs.Names.{lower, place_of};
+ghost use Rattle.spice_text.specs.Words.{lower};
+ghost use Rattle.spice_netlist.specs.Names.{index_of};
 ghost use Rattle.spice_netlist.specs.Found.{found};
-ghost use Rattle.spice_netlist.specs.Resolved.{names_of, part_of, is_leaf, block_of, blocks_of};
+ghost use Rattle.spice_netlist.specs.Resolved.{names_of, resolved_instance, is_leaf, resolved_subckt, resolved_subckts};
 
-use crate::block::{Block, Part};
 use crate::lower::{lower_name, lower_names, subckt_names};
-use crate::places::{Places, places_of};
+use crate::name_index::{NameIndex, index_names};
+use crate::resolved::{ResolvedInstance, ResolvedSubckt};
 use netlist::{Instance, Subckt};
 use or_geom::{Items, Memory, Name};
 use std::alloc::Global;
 
-/// A deck with its names resolved, and the place of the top; None where it isn't there.
+/// A deck with its names resolved, and the index of the top; None where it isn't there.
 #[derive(Drop)]
 pub struct Design {
-    pub blocks: Items<Block>,
+    pub subckts: Items<ResolvedSubckt>,
     pub top: Option<usize>,
 }
 
 /// An instance with its names resolved.
-fn part_of(alloc: Global, places: &Places, instance: &Instance) -> Result<Part, Memory>
-    ensures { IfOk result (λ part. part ≡ part_of (found places.now) instance.now) }
+fn resolved_instance(
+    alloc: Global,
+    subckt_index: &NameIndex,
+    instance: &Instance,
+) -> Result<ResolvedInstance, Memory>
+    ensures { IfOk result (λ resolved. resolved ≡ resolved_instance (found subckt_index.now) instance.now) }
 {
     let name = lower_name(alloc, &instance.name)?;
     let nodes = lower_names(alloc, instance.nodes.as_slice())?;
     let of = lower_name(alloc, &instance.of)?;
-    let place = places.find(of.as_bytes());
-    Ok(Part {
+    let index = subckt_index.find(of.as_bytes());
+    Ok(ResolvedInstance {
         name,
         nodes,
         of,
-        place,
+        index,
     })
 }
 
 /// The instances with their names resolved.
-fn parts_of(alloc: Global, places: &Places, instances: &[Instance]) -> Result<Items<Part>, Memory>
-    ensures { IfOk result (λ parts. parts ≡ map (part_of (found places.now)) instances.now) }
+fn resolved_instances(
+    alloc: Global,
+    subckt_index: &NameIndex,
+    instances: &[Instance],
+) -> Result<Items<ResolvedInstance>, Memory>
+    ensures { IfOk result (λ resolved. resolved ≡ map (resolved_instance (found subckt_index.now)) instances.now) }
 {
-    let mut parts = Vec::new(alloc);
+    let mut resolved = Vec::new(alloc);
     for instance in instances {
-        parts.push(part_of(alloc, places, instance)?)?;
+        resolved.push(resolved_instance(alloc, subckt_index, instance)?)?;
     }
-    Ok(Items::from_vec(parts))
+    Ok(Items::from_vec(resolved))
 }
 
 /// Whether the subcircuit of this name in lower case is a leaf.
-fn is_leaf(top: &Name, leaves: &Places, subckt: &Subckt, name: &Name) -> bool
+fn is_leaf(top: &Name, leaves: &NameIndex, subckt: &Subckt, name: &Name) -> bool
     requires { name.now ≡ lower subckt.now.name }
     ensures { result ≡ is_leaf top.now (found leaves.now) subckt.now }
 {
@@ -56,46 +65,46 @@ fn is_leaf(top: &Name, leaves: &Places, subckt: &Subckt, name: &Name) -> bool
 }
 
 /// The subcircuit with its names resolved.
-fn block_of(
+fn resolved_subckt(
     alloc: Global,
     top: &Name,
-    leaves: &Places,
-    places: &Places,
+    leaves: &NameIndex,
+    subckt_index: &NameIndex,
     subckt: &Subckt,
-) -> Result<Block, Memory>
-    ensures { IfOk result (λ block. block ≡ block_of top.now (found leaves.now) (found places.now) subckt.now) }
+) -> Result<ResolvedSubckt, Memory>
+    ensures { IfOk result (λ resolved. resolved ≡ resolved_subckt top.now (found leaves.now) (found subckt_index.now) subckt.now) }
 {
     let name = lower_name(alloc, &subckt.name)?;
     let ports = lower_names(alloc, subckt.ports.as_slice())?;
     let leaf = is_leaf(top, leaves, subckt, &name);
-    let parts = if leaf {
+    let instances = if leaf {
         Items::new(alloc)
     } else {
-        parts_of(alloc, places, subckt.instances.as_slice())?
+        resolved_instances(alloc, subckt_index, subckt.instances.as_slice())?
     };
-    Ok(Block {
+    Ok(ResolvedSubckt {
         name,
         ports,
         leaf,
-        parts,
+        instances,
     })
 }
 
 /// The subcircuits with their names resolved.
-fn blocks_of(
+fn resolved_subckts(
     alloc: Global,
     top: &Name,
-    leaves: &Places,
-    places: &Places,
+    leaves: &NameIndex,
+    subckt_index: &NameIndex,
     subckts: &[Subckt],
-) -> Result<Items<Block>, Memory>
-    ensures { IfOk result (λ blocks. blocks ≡ map (block_of top.now (found leaves.now) (found places.now)) subckts.now) }
+) -> Result<Items<ResolvedSubckt>, Memory>
+    ensures { IfOk result (λ resolved. resolved ≡ map (resolved_subckt top.now (found leaves.now) (found subckt_index.now)) subckts.now) }
 {
-    let mut blocks = Vec::new(alloc);
+    let mut resolved = Vec::new(alloc);
     for subckt in subckts {
-        blocks.push(block_of(alloc, top, leaves, places, subckt)?)?;
+        resolved.push(resolved_subckt(alloc, top, leaves, subckt_index, subckt)?)?;
     }
-    Ok(Items::from_vec(blocks))
+    Ok(Items::from_vec(resolved))
 }
 
 /// Resolves the names of the subcircuits, for a top in lower case and these leaves.
@@ -105,14 +114,14 @@ pub fn resolve(
     top: &Name,
     leaves: &[Name],
 ) -> Result<Design, Memory>
-    ensures blocks { IfOk result (λ design. design.blocks ≡ blocks_of subckts.now top.now leaves.now) }
-    ensures top { IfOk result (λ design. design.top ≡ place_of (names_of subckts.now) top.now) }
+    ensures subckts { IfOk result (λ design. design.subckts ≡ resolved_subckts subckts.now top.now leaves.now) }
+    ensures top { IfOk result (λ design. design.top ≡ index_of (names_of subckts.now) top.now) }
 {
     let leaves = lower_names(alloc, leaves)?;
-    let leaves = places_of(alloc, leaves.as_slice())?;
+    let leaves = index_names(alloc, leaves.as_slice())?;
     let names = subckt_names(alloc, subckts)?;
-    let places = places_of(alloc, names.as_slice())?;
-    let blocks = blocks_of(alloc, top, &leaves, &places, subckts)?;
-    let top = places.find(top.as_bytes());
-    Ok(Design { blocks, top })
+    let subckt_index = index_names(alloc, names.as_slice())?;
+    let subckts = resolved_subckts(alloc, top, &leaves, &subckt_index, subckts)?;
+    let top = subckt_index.find(top.as_bytes());
+    Ok(Design { subckts, top })
 }

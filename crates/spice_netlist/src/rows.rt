@@ -1,6 +1,8 @@
-ghost use Rattle.std.specs.Prelude.{◌≡◌, ◌∷◌, [], ◌<◌, ◌≤◌, ◌+◌, ◌^◌, length, map, OnOk};
+ghost use Rattle.std.specs.Prelude.{◌≡◌, ◌∷◌, [], ◌<◌, ◌≤◌, ◌+◌, length, map, OnOk};
+ghost use Rattle.spice_netlist.specs.Limits.{most_pins};
+ghost use Rattle.spice_netlist.specs.Walk.{local};
 ghost use Rattle.spice_netlist.specs.Pins.{port_row};
-ghost use Rattle.spice_netlist.specs.Rows.{AreRowsOf, Adds, net_count};
+ghost use Rattle.spice_netlist.specs.Rows.{AreRowsOf, AddsRows, net_count};
 
 use crate::number::NetTable;
 use netlist::RowPin;
@@ -25,7 +27,7 @@ impl RowList {
         }
     }
 
-    /// Adds a row, with the number of its net.
+    /// Adds a row, with the number of the net of this key.
     pub fn add(
         &mut self,
         alloc: Global,
@@ -34,8 +36,8 @@ impl RowList {
         pin: &[u8],
         net: &[u8],
     ) -> Result<(), Memory>
-        requires { net_count self.old < 2 ^ 24 }
-        ensures { OnOk result (Adds self.old self.new (record { path = path.now; leaf = leaf.now; pin = pin.now; net = net.now } ∷ [])) }
+        requires { net_count self.old < most_pins }
+        ensures { OnOk result (AddsRows self.old self.new (record { path = path.now; leaf = leaf.now; pin = pin.now; net = local net.now } ∷ [])) }
     {
         let path = Name::from_bytes(alloc, path)?;
         let leaf = Name::from_bytes(alloc, leaf)?;
@@ -60,8 +62,8 @@ impl RowList {
 
 /// Adds the rows of the top's ports.
 pub fn add_port_rows(alloc: Global, ports: &[Name], rows: &mut RowList) -> Result<(), Memory>
-    requires { net_count rows.old + length ports.now ≤ 2 ^ 24 }
-    ensures { OnOk result (Adds rows.old rows.new (map port_row ports.now)) }
+    requires { net_count rows.old + length ports.now ≤ most_pins }
+    ensures { OnOk result (AddsRows rows.old rows.new (map port_row ports.now)) }
 {
     for port in ports {
         rows.add(alloc, b"", b"", port.as_bytes(), port.as_bytes())?;

@@ -1,10 +1,10 @@
 ghost use Rattle.std.specs.Prelude.{◌≡◌, length, IfOk};
 ghost use Rattle.spice_netlist.specs.Walk.{visits_by, walk_at};
-ghost use Rattle.spice_netlist.specs.Tables.{AreKnown, IsTable, IsUpward};
-ghost use Rattle.spice_netlist.specs.Sizes.{both, size_of, pins_at};
+ghost use Rattle.spice_netlist.specs.Tables.{HoldsForReferences, IsTable, IsSubcktOrder};
+ghost use Rattle.spice_netlist.specs.Sizes.{both, walk_size, pins_at};
 
-use crate::block::{Block, Part};
-use crate::table::{block_at, entry};
+use crate::resolved::{ResolvedInstance, ResolvedSubckt};
+use crate::table::{entry, subckt_at};
 use or_geom::Memory;
 use std::alloc::Global;
 
@@ -33,44 +33,52 @@ fn both(first: Size, second: Size) -> Size
     }
 }
 
-/// How many leaf instances and pins the parts and all below them have. `below` has it for each subcircuit that they
+/// How many leaf instances and pins the instances and all below them have. `below` has it for each subcircuit that they
 /// refer to.
-fn size_of(blocks: &[Block], parts: &[Part], below: &[Size]) -> Size
-    requires sized { length below.now ≡ length blocks.now }
-    requires known { AreKnown (λ place. size_of blocks.now (walk_at blocks.now place)) below.now parts.now }
-    ensures { result ≡ size_of blocks.now (visits_by blocks.now (walk_at blocks.now) parts.now) }
+fn walk_size(subckts: &[ResolvedSubckt], instances: &[ResolvedInstance], below: &[Size]) -> Size
+    requires sized { length below.now ≡ length subckts.now }
+    requires known { HoldsForReferences (λ index. walk_size subckts.now (walk_at subckts.now index)) below.now instances.now }
+    ensures { result ≡ walk_size subckts.now (visits_by subckts.now (walk_at subckts.now) instances.now) }
 {
     let mut size = Size { leaves: 0, pins: 0 };
-    for part in parts {
-        let Some(place) = part.place else {
+    for instance in instances {
+        let Some(index) = instance.index else {
             continue;
         };
-        if block_at(blocks, place).leaf {
-            let pins = part.nodes.as_slice().len() as u64;
+        if subckt_at(subckts, index).leaf {
+            let pins = instance.nodes.as_slice().len() as u64;
             size = both(size, Size { leaves: 1, pins });
         }
-        size = both(size, *entry(below, place));
+        size = both(size, *entry(below, index));
     }
     size
 }
 
 /// For each subcircuit of the order how many leaf instances and pins there are below it.
-pub fn sizes(alloc: Global, blocks: &[Block], order: &[usize]) -> Result<Vec<Size>, Memory>
-    requires { IsUpward blocks.now order.now }
-    ensures { IfOk result (λ sizes. IsTable (λ place. size_of blocks.now (walk_at blocks.now place)) order.now sizes.items) }
+pub fn sizes(
+    alloc: Global,
+    subckts: &[ResolvedSubckt],
+    order: &[usize],
+) -> Result<Vec<Size>, Memory>
+    requires { IsSubcktOrder subckts.now order.now }
+    ensures { IfOk result (λ sizes. IsTable (λ index. walk_size subckts.now (walk_at subckts.now index)) order.now sizes.items) }
 {
-    let mut sizes = vec![in alloc; Size { leaves: 0, pins: 0 }; blocks.len()]?;
+    let mut sizes = vec![in alloc; Size { leaves: 0, pins: 0 }; subckts.len()]?;
     for node in order {
-        sizes[*node] = size_of(blocks, block_at(blocks, *node).parts.as_slice(), &sizes);
+        sizes[*node] = walk_size(
+            subckts,
+            subckt_at(subckts, *node).instances.as_slice(),
+            &sizes,
+        );
     }
     Ok(sizes)
 }
 
-/// How many pins there are at the place; none past the end.
-pub fn pin_count(sizes: &[Size], place: usize) -> u64
-    ensures { result ≡ pins_at sizes.now place }
+/// How many pins there are at the index; none past the end.
+pub fn pin_count(sizes: &[Size], index: usize) -> u64
+    ensures { result ≡ pins_at sizes.now index }
 {
-    match sizes.get(place) {
+    match sizes.get(index) {
         Some(size) => size.pins,
         None => 0,
     }

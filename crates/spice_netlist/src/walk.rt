@@ -1,129 +1,134 @@
-ghost use Rattle.std.specs.Prelude.{◌≡◌, List, [], ℕ, Option, None, Some, ◌<◌, ◌≤◌, ◌+◌, ◌^◌, length, map, slice_index_or, IfOk, OnOk, MatchOption};
-ghost use Rattle.spice_netlist.specs.declared.places.Places.{Places};
+ghost use Rattle.std.specs.Prelude.{◌≡◌, List, [], ℕ, Option, None, Some, ◌<◌, ◌≤◌, ◌+◌, length, map, slice_index_or, IfOk, OnOk, MatchOption};
+ghost use Rattle.spice_netlist.specs.Limits.{most_pins};
+ghost use Rattle.spice_netlist.specs.declared.name_index.NameIndex.{NameIndex};
 ghost use Rattle.spice_netlist.specs.Found.{found};
-ghost use Rattle.spice_netlist.specs.Resolved.{parts_at};
+ghost use Rattle.spice_netlist.specs.Resolved.{instances_at};
 ghost use Rattle.spice_netlist.specs.Walk.{walk_at};
 ghost use Rattle.spice_netlist.specs.Pins.{pins_of, pin_row};
-ghost use Rattle.spice_netlist.specs.Descent.{IsWalkable, IsTableBy, AreTablesBy, ArePortTables, AreSizes};
-ghost use Rattle.spice_netlist.specs.Rows.{Adds, net_count};
+ghost use Rattle.spice_netlist.specs.Descent.{IsWalkable, IsTableBy, AreTablesBy, ArePortTables, AreSubcktSizes};
+ghost use Rattle.spice_netlist.specs.Rows.{AddsRows, net_count};
 
-use crate::block::Block;
-use crate::frame::{Frame, nets_in};
+use crate::instance_path::InstancePath;
+use crate::level::{WalkLevel, nets_in};
+use crate::name_index::{NameIndex, index_names};
 use crate::pins::add_pins;
-use crate::places::{Places, places_of};
+use crate::resolved::ResolvedSubckt;
 use crate::rows::RowList;
 use crate::size::{Size, pin_count};
-use crate::table::{block_at, entry};
-use crate::way::Way;
+use crate::table::{entry, subckt_at};
 use or_geom::Memory;
 use std::alloc::Global;
 
-/// The places of the subcircuit's ports; None where there are no pins below it, since the walk doesn't go there.
-fn port_table<'a>(alloc: Global, block: &'a Block, pins: u64) -> Result<Option<Places<'a>>, Memory>
-    ensures { IfOk result (IsTableBy pins block.now.ports) }
+/// The indices of the subcircuit's ports; None where there are no pins below it, since the walk doesn't go there.
+fn port_table<'a>(
+    alloc: Global,
+    subckt: &'a ResolvedSubckt,
+    pins: u64,
+) -> Result<Option<NameIndex<'a>>, Memory>
+    ensures { IfOk result (IsTableBy pins subckt.now.ports) }
 {
     if pins == 0 {
         return Ok(None);
     }
-    Ok(Some(places_of(alloc, block.ports.as_slice())?))
+    Ok(Some(index_names(alloc, subckt.ports.as_slice())?))
 }
 
-/// For each subcircuit the places of its ports, if there are pins below it.
+/// For each subcircuit the indices of its ports, if there are pins below it.
 fn port_tables<'a>(
     alloc: Global,
-    blocks: &'a [Block],
+    subckts: &'a [ResolvedSubckt],
     sizes: &[Size],
-) -> Result<Vec<Option<Places<'a>>>, Memory>
-    ensures { IfOk result (λ tables. AreTablesBy blocks.now sizes.now tables.items) }
+) -> Result<Vec<Option<NameIndex<'a>>>, Memory>
+    ensures { IfOk result (λ tables. AreTablesBy subckts.now sizes.now tables.items) }
 {
     let mut tables = Vec::new(alloc);
-    for (place, block) in blocks.iter().enumerate() {
-        tables.push(port_table(alloc, block, pin_count(sizes, place))?)?;
+    for (index, subckt) in subckts.iter().enumerate() {
+        tables.push(port_table(alloc, subckt, pin_count(sizes, index))?)?;
     }
     Ok(tables)
 }
 
-/// The places of the ports of the subcircuit at the place, if there are pins below it.
-fn table_at<'a, 't>(tables: &'t [Option<Places<'a>>], place: usize) -> Option<&'t Places<'a>>
-    requires { place < length tables.now }
-    ensures { (other : Option Places) → MatchOption result (slice_index_or tables.now place other ≡ None) (λ table. slice_index_or tables.now place other ≡ Some table.now) }
+/// The indices of the ports of the subcircuit at the index, if there are pins below it.
+fn table_at<'a, 't>(tables: &'t [Option<NameIndex<'a>>], index: usize) -> Option<&'t NameIndex<'a>>
+    requires { index < length tables.now }
+    ensures { (other : Option NameIndex) → MatchOption result (slice_index_or tables.now index other ≡ None) (λ table. slice_index_or tables.now index other ≡ Some table.now) }
 {
-    match entry(tables, place) {
+    match entry(tables, index) {
         Some(table) => Some(table),
         None => None,
     }
 }
 
-/// The frame of the top. Its nets are all local, since `none` has no names.
-fn top_frame<'a, 't>(
+/// The level of the top. Its nets are all local, since `none` has no names.
+fn top_level<'a, 't>(
     alloc: Global,
-    blocks: &'a [Block],
-    none: &'t Places<'a>,
+    subckts: &'a [ResolvedSubckt],
+    none: &'t NameIndex<'a>,
     top: usize,
-) -> Frame<'a, 't>
-    requires { top < length blocks.now }
-    ensures parts { result.parts.now ≡ parts_at blocks.now top }
-    ensures places { result.places.now ≡ none.now }
+) -> WalkLevel<'a, 't>
+    requires { top < length subckts.now }
+    ensures instances { result.instances.now ≡ instances_at subckts.now top }
+    ensures ports { result.ports.now ≡ none.now }
     ensures nets { result.nets.items ≡ [] }
-    ensures way { result.way ≡ 0 }
+    ensures prefix { result.prefix ≡ 0 }
 {
-    Frame {
-        parts: block_at(blocks, top).parts.as_slice(),
-        places: none,
+    WalkLevel {
+        instances: subckt_at(subckts, top).instances.as_slice(),
+        ports: none,
         nets: Vec::new(alloc),
-        way: 0,
+        prefix: 0,
     }
 }
 
 /// Adds the rows of the pins of the leaf instances below the top, in the order of a depth-first walk. `tables` has the
-/// places of the ports of each subcircuit with pins below it, and `none` has no names.
+/// indices of the ports of each subcircuit with pins below it, and `none` has no names.
 ///
 /// The walk keeps its place in a vector, so that the stack doesn't grow with the depth. It goes only where there are pins,
 /// and writes each once.
 fn walk<'a, 't>(
     alloc: Global,
-    blocks: &'a [Block],
-    tables: &'t [Option<Places<'a>>],
-    none: &'t Places<'a>,
+    subckts: &'a [ResolvedSubckt],
+    tables: &'t [Option<NameIndex<'a>>],
+    none: &'t NameIndex<'a>,
     top: usize,
     rows: &mut RowList,
 ) -> Result<(), Memory>
-    requires inside { top < length blocks.now }
-    requires walkable { IsWalkable blocks.now top }
-    requires tables { ArePortTables blocks.now top tables.now }
+    requires inside { top < length subckts.now }
+    requires walkable { IsWalkable subckts.now top }
+    requires tables { ArePortTables subckts.now top tables.now }
     requires none { (name : List ℕ) → found none.now name ≡ None }
-    requires few { net_count rows.old + length (pins_of blocks.now (walk_at blocks.now top)) ≤ 2 ^ 24 }
-    ensures { OnOk result (Adds rows.old rows.new (map (pin_row blocks.now) (pins_of blocks.now (walk_at blocks.now top)))) }
+    requires few { net_count rows.old + length (pins_of subckts.now (walk_at subckts.now top)) ≤ most_pins }
+    ensures { OnOk result (AddsRows rows.old rows.new (map (pin_row subckts.now) (pins_of subckts.now (walk_at subckts.now top)))) }
 {
-    let mut way = Way::new(alloc);
+    let mut instance_path = InstancePath::new(alloc);
     let mut trail = Vec::new(alloc);
-    let mut frame = top_frame(alloc, blocks, none, top);
+    let mut level = top_level(alloc, subckts, none, top);
     'steps: loop {
-        let Some((part, rest)) = frame.parts.split_first() else {
+        let Some((instance, rest)) = level.instances.split_first() else {
             let Some(outer) = trail.pop() else {
                 return Ok(());
             };
-            frame = outer;
-            way.back_to(frame.way);
+            level = outer;
+            instance_path.back_to(level.prefix);
             continue;
         };
-        frame.parts = rest;
-        let Some(place) = part.place else {
+        level.instances = rest;
+        let Some(index) = instance.index else {
             continue;
         };
-        let nets = nets_in(alloc, &frame, part.nodes.as_slice())?;
-        add_pins(alloc, blocks, part, place, &way, &nets, rows)?;
-        let Some(places) = table_at(tables, place) else {
+        let nets = nets_in(alloc, &level, instance.nodes.as_slice())?;
+        add_pins(alloc, subckts, instance, index, &instance_path, &nets, rows)?;
+        let Some(ports) = table_at(tables, index) else {
             continue;
         };
-        let parts = block_at(blocks, place).parts.as_slice();
-        way.enter(part.name.as_bytes())?;
-        trail.push(frame)?;
-        frame = Frame {
-            parts,
-            places,
+        let instances = subckt_at(subckts, index).instances.as_slice();
+        instance_path.enter(instance.name.as_bytes())?;
+        trail.push(level)?;
+        level = WalkLevel {
+            instances,
+            ports,
             nets,
-            way: way.path.len(),
+            prefix: instance_path.path.len(),
         };
     }
 }
@@ -131,18 +136,18 @@ fn walk<'a, 't>(
 /// Adds the rows of the pins of the leaf instances below the top, in the order of a depth-first walk.
 pub fn add_rows_below(
     alloc: Global,
-    blocks: &[Block],
+    subckts: &[ResolvedSubckt],
     sizes: &[Size],
     top: usize,
     rows: &mut RowList,
 ) -> Result<(), Memory>
-    requires inside { top < length blocks.now }
-    requires walkable { IsWalkable blocks.now top }
-    requires sizes { AreSizes blocks.now top sizes.now }
-    requires few { net_count rows.old + length (pins_of blocks.now (walk_at blocks.now top)) ≤ 2 ^ 24 }
-    ensures { OnOk result (Adds rows.old rows.new (map (pin_row blocks.now) (pins_of blocks.now (walk_at blocks.now top)))) }
+    requires inside { top < length subckts.now }
+    requires walkable { IsWalkable subckts.now top }
+    requires sizes { AreSubcktSizes subckts.now top sizes.now }
+    requires few { net_count rows.old + length (pins_of subckts.now (walk_at subckts.now top)) ≤ most_pins }
+    ensures { OnOk result (AddsRows rows.old rows.new (map (pin_row subckts.now) (pins_of subckts.now (walk_at subckts.now top)))) }
 {
-    let tables = port_tables(alloc, blocks, sizes)?;
-    let none = places_of(alloc, &[])?;
-    walk(alloc, blocks, &tables, &none, top, rows)
+    let tables = port_tables(alloc, subckts, sizes)?;
+    let none = index_names(alloc, &[])?;
+    walk(alloc, subckts, &tables, &none, top, rows)
 }

@@ -4,7 +4,7 @@ use Rattle.std.specs.List.{AllByRecursion}
 use Rattle.std.proofs.lemmas.List.{append_assoc, length-append}
 use Rattle.or_geom.proofs.ListLaws.{never_empty}
 use borrow.Author.Tests.{eqb-true}
-use Rattle.spice_text.specs.Lines.{Line, is_lf, with_head, pieces, without_cr, numbered}
+use Rattle.spice_text.specs.Lines.{TextLine, is_lf, with_head, pieces, without_cr, numbered_lines}
 use Rattle.spice_text.specs.LogicalLines.{counts, continues, joined, put_before, join}
 use Rattle.spice_text.specs.Appended.{with_lf}
 use Rattle.spice_text.proofs.WrittenLines.{NonePasses, piece_before, line_at, Read, IsApart}
@@ -108,7 +108,7 @@ pub record SameLines (bytes : List ℕ) (ps : List (List ℕ)) : Type 0 where
   pub lines : List (List ℕ)
   pub is : with_lf bytes ≡ ended lines
   pub no_lf : NoLf lines
-  pub same : (n b : ℕ) → filter counts (numbered n b lines) ≡ filter counts (numbered n b ps)
+  pub same : (n b : ℕ) → filter counts (numbered_lines n b lines) ≡ filter counts (numbered_lines n b ps)
 
 alone : (p bytes : List ℕ) → bytes ≡ p → NonePasses is_lf p → SameLines bytes (p ∷ [])
 alone [] bytes e h = record { lines = []; is = ap with_lf e; no_lf = tt; same = λ n b. refl }
@@ -119,7 +119,7 @@ preceded p bytes rest ps e h s = record {
   lines = p ∷ s.lines;
   is = ap with_lf e ∙ lf_past p rest ∙ ap (λ (l : List ℕ). p ++ 10 ∷ l) s.is;
   no_lf = (h, s.no_lf);
-  same = λ n b. ap (λ (ls : List Line). cond (counts (line_at n b (without_cr p))) (line_at n b (without_cr p) ∷ ls) ls) (s.same (n + 1) (b + length p + 1));
+  same = λ n b. ap (λ (ls : List TextLine). cond (counts (line_at n b (without_cr p))) (line_at n b (without_cr p) ∷ ls) ls) (s.same (n + 1) (b + length p + 1));
 }
 
 head_some : (b : ℕ) (ps : List (List ℕ)) → (ps ≡ [] → ⊥) → with_head b ps ≡ [] → ⊥
@@ -151,9 +151,9 @@ same_lines (p ∷ q ∷ ps) bytes e h = next_piece p q bytes ps h.0 (first_piece
 pub record Joins (ps : List (List ℕ)) (n b : ℕ) (tail : List ℕ) : Type 0 where
   pub number : ℕ
   pub before : ℕ
-  pub is : join (filter counts (numbered n b (ps ++ pieces is_lf tail))) ≡ join (filter counts (numbered n b ps)) ++ Read number before tail
+  pub is : join (filter counts (numbered_lines n b (ps ++ pieces is_lf tail))) ≡ join (filter counts (numbered_lines n b ps)) ++ Read number before tail
 
-put_append : (line : Line) (lines after : List Line) → put_before line after ≡ line ∷ after → put_before line (lines ++ after) ≡ put_before line lines ++ after
+put_append : (line : TextLine) (lines after : List TextLine) → put_before line after ≡ line ∷ after → put_before line (lines ++ after) ≡ put_before line lines ++ after
 put_append line [] after apart = apart
 put_append line (k ∷ lines) after apart =
     elim (continues k) as (λ v. cond v (joined line k ∷ (lines ++ after)) (line ∷ k ∷ (lines ++ after)) ≡ cond v (joined line k ∷ lines) (line ∷ k ∷ lines) ++ after) [ true ↦ refl | false ↦ refl ]
@@ -161,8 +161,8 @@ put_append line (k ∷ lines) after apart =
 joins_by : (v : Bool) (p : List ℕ) (ps : List (List ℕ)) (n b : ℕ) (tail : List ℕ) → counts (line_at n b (without_cr p)) ≡ v → IsApart tail → Joins ps (n + 1) (b + length p + 1) tail → Joins (p ∷ ps) n b tail
 joins_by v p ps n b tail is apart j =
     let this = line_at n b (without_cr p) in
-    let lines = filter counts (numbered (n + 1) (b + length p + 1) ps) in
-    let all = filter counts (numbered (n + 1) (b + length p + 1) (ps ++ pieces is_lf tail)) in
+    let lines = filter counts (numbered_lines (n + 1) (b + length p + 1) ps) in
+    let all = filter counts (numbered_lines (n + 1) (b + length p + 1) (ps ++ pieces is_lf tail)) in
     let after = Read j.number j.before tail in
     let both : join (cond v (this ∷ all) all) ≡ join (cond v (this ∷ lines) lines) ++ after = elim v as (λ w. join (cond w (this ∷ all) all) ≡ join (cond w (this ∷ lines) lines) ++ after) [
       | true ↦ ap (put_before this) j.is ∙ put_append this (join lines) after (apart this j.number j.before)
@@ -175,89 +175,89 @@ join_append [] n b tail apart = record { number = n; before = b; is = refl }
 join_append (p ∷ ps) n b tail apart = joins_by (counts (line_at n b (without_cr p))) p ps n b tail refl apart (join_append ps (n + 1) (b + length p + 1) tail apart)
 
 -- where a logical line begins, a piece begins
-pub record CutLines (ps : List (List ℕ)) (n b : ℕ) (front : List Line) (line : Line) : Type 0 where
+pub record CutLines (ps : List (List ℕ)) (n b : ℕ) (front : List TextLine) (line : TextLine) : Type 0 where
   pub before : List (List ℕ)
   pub first : List ℕ
   pub after : List (List ℕ)
   pub parts : ps ≡ before ++ first ∷ after
-  pub lines : join (filter counts (numbered n b before)) ≡ front
+  pub lines : join (filter counts (numbered_lines n b before)) ≡ front
   pub place : line.before ≡ b + length (ended before)
 
-head_before : (this : Line) (lines : List Line) (line : Line) (more : List Line) → put_before this lines ≡ line ∷ more → line.before ≡ this.before
-head_before this [] line more e = let same : this ≡ line = cc in ap (λ (l : Line). l.before) (sym same)
+head_before : (this : TextLine) (lines : List TextLine) (line : TextLine) (more : List TextLine) → put_before this lines ≡ line ∷ more → line.before ≡ this.before
+head_before this [] line more e = let same : this ≡ line = cc in ap (λ (l : TextLine). l.before) (sym same)
 head_before this (k ∷ lines) line more e = at (continues k) e where
   at : (v : Bool) → cond v (joined this k ∷ lines) (this ∷ k ∷ lines) ≡ line ∷ more → line.before ≡ this.before
-  at true e = let same : joined this k ≡ line = cc in ap (λ (l : Line). l.before) (sym same)
-  at false e = let same : this ≡ line = cc in ap (λ (l : Line). l.before) (sym same)
+  at true e = let same : joined this k ≡ line = cc in ap (λ (l : TextLine). l.before) (sym same)
+  at false e = let same : this ≡ line = cc in ap (λ (l : TextLine). l.before) (sym same)
 
 -- the lines before a later one, without the first
-pub record Shorter (this : Line) (lines : List Line) (a : Line) (front : List Line) (line : Line) (more : List Line) : Type 0 where
-  pub inner : List Line
+pub record Shorter (this : TextLine) (lines : List TextLine) (a : TextLine) (front : List TextLine) (line : TextLine) (more : List TextLine) : Type 0 where
+  pub inner : List TextLine
   pub parts : lines ≡ inner ++ line ∷ more
   pub is : put_before this inner ≡ a ∷ front
 
-apart_put : (this k a line : Line) (front more lines : List Line) → continues k ≡ false → this ≡ a → k ∷ lines ≡ front ++ line ∷ more → put_before this front ≡ a ∷ front
-apart_put this k a line [] more lines off same e = ap (λ (l : Line). l ∷ []) same
+apart_put : (this k a line : TextLine) (front more lines : List TextLine) → continues k ≡ false → this ≡ a → k ∷ lines ≡ front ++ line ∷ more → put_before this front ≡ a ∷ front
+apart_put this k a line [] more lines off same e = ap (λ (l : TextLine). l ∷ []) same
 apart_put this k a line (j ∷ front) more lines off same e =
     let first : k ≡ j = cc in
-    ap (λ v. cond v (joined this j ∷ front) (this ∷ j ∷ front)) (ap continues (sym first) ∙ off) ∙ ap (λ (l : Line). l ∷ j ∷ front) same
+    ap (λ v. cond v (joined this j ∷ front) (this ∷ j ∷ front)) (ap continues (sym first) ∙ off) ∙ ap (λ (l : TextLine). l ∷ j ∷ front) same
 
-shorter_at : (v : Bool) (this k a line : Line) (front more lines : List Line) → continues k ≡ v → cond v (joined this k ∷ lines) (this ∷ k ∷ lines) ≡ a ∷ (front ++ line ∷ more) → Shorter this (k ∷ lines) a front line more
+shorter_at : (v : Bool) (this k a line : TextLine) (front more lines : List TextLine) → continues k ≡ v → cond v (joined this k ∷ lines) (this ∷ k ∷ lines) ≡ a ∷ (front ++ line ∷ more) → Shorter this (k ∷ lines) a front line more
 shorter_at true this k a line front more lines on e =
     let first : joined this k ≡ a = cc in
     let last : lines ≡ front ++ line ∷ more = cc in
-    record { inner = k ∷ front; parts = ap (λ (ls : List Line). k ∷ ls) last; is = ap (λ v. cond v (joined this k ∷ front) (this ∷ k ∷ front)) on ∙ ap (λ (l : Line). l ∷ front) first }
+    record { inner = k ∷ front; parts = ap (λ (ls : List TextLine). k ∷ ls) last; is = ap (λ v. cond v (joined this k ∷ front) (this ∷ k ∷ front)) on ∙ ap (λ (l : TextLine). l ∷ front) first }
 shorter_at false this k a line front more lines off e =
     let first : this ≡ a = cc in
     let last : k ∷ lines ≡ front ++ line ∷ more = cc in
     record { inner = front; parts = last; is = apart_put this k a line front more lines off first last }
 
-nothing_there : (front : List Line) (line : Line) (more : List Line) → [] ≡ front ++ line ∷ more → ⊥
+nothing_there : (front : List TextLine) (line : TextLine) (more : List TextLine) → [] ≡ front ++ line ∷ more → ⊥
 nothing_there [] line more e = absurd cc
 nothing_there (f ∷ front) line more e = absurd cc
 
-shorter : (this : Line) (lines : List Line) (a : Line) (front : List Line) (line : Line) (more : List Line) → put_before this lines ≡ a ∷ (front ++ line ∷ more) → Shorter this lines a front line more
+shorter : (this : TextLine) (lines : List TextLine) (a : TextLine) (front : List TextLine) (line : TextLine) (more : List TextLine) → put_before this lines ≡ a ∷ (front ++ line ∷ more) → Shorter this lines a front line more
 shorter this [] a front line more e = let none : [] ≡ front ++ line ∷ more = cc in absurd (nothing_there front line more none)
 shorter this (k ∷ lines) a front line more e = shorter_at (continues k) this k a line front more lines refl e
 
 abbrev Cuts : List (List ℕ) → ℕ → ℕ → Type 0
-Cuts ps n b = (front : List Line) (line : Line) (more : List Line) → join (filter counts (numbered n b ps)) ≡ front ++ line ∷ more → CutLines ps n b front line
+Cuts ps n b = (front : List TextLine) (line : TextLine) (more : List TextLine) → join (filter counts (numbered_lines n b ps)) ≡ front ++ line ∷ more → CutLines ps n b front line
 
-dropped : (p : List ℕ) (ps : List (List ℕ)) (n b : ℕ) (front : List Line) (line : Line) → counts (line_at n b (without_cr p)) ≡ false → CutLines ps (n + 1) (b + length p + 1) front line → CutLines (p ∷ ps) n b front line
+dropped : (p : List ℕ) (ps : List (List ℕ)) (n b : ℕ) (front : List TextLine) (line : TextLine) → counts (line_at n b (without_cr p)) ≡ false → CutLines ps (n + 1) (b + length p + 1) front line → CutLines (p ∷ ps) n b front line
 dropped p ps n b front line off c = record {
   before = p ∷ c.before;
   first = c.first;
   after = c.after;
   parts = ap (λ (l : List (List ℕ)). p ∷ l) c.parts;
-  lines = ap (λ v. join (cond v (line_at n b (without_cr p) ∷ filter counts (numbered (n + 1) (b + length p + 1) c.before)) (filter counts (numbered (n + 1) (b + length p + 1) c.before)))) off ∙ c.lines;
+  lines = ap (λ v. join (cond v (line_at n b (without_cr p) ∷ filter counts (numbered_lines (n + 1) (b + length p + 1) c.before)) (filter counts (numbered_lines (n + 1) (b + length p + 1) c.before)))) off ∙ c.lines;
   place = let sized : length (p ++ 10 ∷ ended c.before) ≡ length p + length (10 ∷ ended c.before) = length-append p (10 ∷ ended c.before) in let there = c.place in omega (arith, sized, there);
 }
 
-kept_cut : (p : List ℕ) (ps : List (List ℕ)) (n b : ℕ) (front : List Line) (line : Line) (more : List Line) → counts (line_at n b (without_cr p)) ≡ true
-    → put_before (line_at n b (without_cr p)) (join (filter counts (numbered (n + 1) (b + length p + 1) ps))) ≡ front ++ line ∷ more → Cuts ps (n + 1) (b + length p + 1) → CutLines (p ∷ ps) n b front line
+kept_cut : (p : List ℕ) (ps : List (List ℕ)) (n b : ℕ) (front : List TextLine) (line : TextLine) (more : List TextLine) → counts (line_at n b (without_cr p)) ≡ true
+    → put_before (line_at n b (without_cr p)) (join (filter counts (numbered_lines (n + 1) (b + length p + 1) ps))) ≡ front ++ line ∷ more → Cuts ps (n + 1) (b + length p + 1) → CutLines (p ∷ ps) n b front line
 kept_cut p ps n b [] line more on e next = record {
   before = [];
   first = p;
   after = ps;
   parts = refl;
   lines = refl;
-  place = let there = head_before (line_at n b (without_cr p)) (join (filter counts (numbered (n + 1) (b + length p + 1) ps))) line more e in omega (arith, there);
+  place = let there = head_before (line_at n b (without_cr p)) (join (filter counts (numbered_lines (n + 1) (b + length p + 1) ps))) line more e in omega (arith, there);
 }
 kept_cut p ps n b (a ∷ front) line more on e next =
-    let s = shorter (line_at n b (without_cr p)) (join (filter counts (numbered (n + 1) (b + length p + 1) ps))) a front line more e in
+    let s = shorter (line_at n b (without_cr p)) (join (filter counts (numbered_lines (n + 1) (b + length p + 1) ps))) a front line more e in
     let c = next s.inner line more s.parts in
     record {
       before = p ∷ c.before;
       first = c.first;
       after = c.after;
       parts = ap (λ (l : List (List ℕ)). p ∷ l) c.parts;
-      lines = ap (λ v. join (cond v (line_at n b (without_cr p) ∷ filter counts (numbered (n + 1) (b + length p + 1) c.before)) (filter counts (numbered (n + 1) (b + length p + 1) c.before)))) on
+      lines = ap (λ v. join (cond v (line_at n b (without_cr p) ∷ filter counts (numbered_lines (n + 1) (b + length p + 1) c.before)) (filter counts (numbered_lines (n + 1) (b + length p + 1) c.before)))) on
           ∙ ap (put_before (line_at n b (without_cr p))) c.lines ∙ s.is;
       place = let sized : length (p ++ 10 ∷ ended c.before) ≡ length p + length (10 ∷ ended c.before) = length-append p (10 ∷ ended c.before) in let there = c.place in omega (arith, sized, there);
     }
 
-cut_by : (v : Bool) (p : List ℕ) (ps : List (List ℕ)) (n b : ℕ) (front : List Line) (line : Line) (more : List Line) → counts (line_at n b (without_cr p)) ≡ v
-    → join (cond v (line_at n b (without_cr p) ∷ filter counts (numbered (n + 1) (b + length p + 1) ps)) (filter counts (numbered (n + 1) (b + length p + 1) ps))) ≡ front ++ line ∷ more
+cut_by : (v : Bool) (p : List ℕ) (ps : List (List ℕ)) (n b : ℕ) (front : List TextLine) (line : TextLine) (more : List TextLine) → counts (line_at n b (without_cr p)) ≡ v
+    → join (cond v (line_at n b (without_cr p) ∷ filter counts (numbered_lines (n + 1) (b + length p + 1) ps)) (filter counts (numbered_lines (n + 1) (b + length p + 1) ps))) ≡ front ++ line ∷ more
     → Cuts ps (n + 1) (b + length p + 1) → CutLines (p ∷ ps) n b front line
 cut_by true p ps n b front line more is e next = kept_cut p ps n b front line more is e next
 cut_by false p ps n b front line more is e next = dropped p ps n b front line is (next front line more e)

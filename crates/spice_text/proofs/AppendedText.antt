@@ -4,13 +4,13 @@ use Rattle.std.proofs.lemmas.List.{append-nil}
 use Rattle.std.specs.List.{position_or_len}
 use Rattle.netlist.specs.declared.deck.Deck.{Deck}
 use Rattle.netlist.specs.declared.deck.Subckt.{Subckt}
-use Rattle.spice_text.specs.declared.subcircuit.Reading.{Reading}
-use Rattle.spice_text.specs.Lines.{Line, is_lf, pieces, numbered}
+use Rattle.spice_text.specs.Lines.{TextLine, is_lf, pieces, numbered_lines}
 use Rattle.spice_text.specs.LogicalLines.{counts, join}
-use Rattle.spice_text.specs.Deck.{deck_after, start, is_text, by_place, deck}
+use Rattle.spice_text.specs.Deck.{deck_after, start, is_text_byte, unless_foreign, deck}
 use Rattle.spice_text.specs.WrittenText.{deck_text}
 use Rattle.spice_text.specs.Writable.{subckt_name}
-use Rattle.spice_text.specs.Appended.{with_lf, name_of, appended, AppendedIsRead}
+use Rattle.spice_text.specs.Appended.{with_lf, appended, AppendedIsRead}
+use Rattle.spice_text.specs.Subcircuits.{DeckSoFar, name_of}
 use Rattle.spice_text.proofs.LineLaws.{nowhere}
 use Rattle.spice_text.proofs.WrittenLines.{Read}
 use Rattle.spice_text.proofs.WrittenNames.{no_repeat}
@@ -29,7 +29,7 @@ length_suc b bytes = refl
 
 all_plain : (bytes : List ℕ) → position_or_len is_foreign bytes ≡ length bytes → IsPlainText bytes
 all_plain [] e = tt
-all_plain (b ∷ bytes) e = let h = by_byte (is_text b) (position_or_len is_foreign bytes) (length bytes) (e ∙ length_suc b bytes) in (h.0, all_plain bytes h.1)
+all_plain (b ∷ bytes) e = let h = by_byte (is_text_byte b) (position_or_len is_foreign bytes) (length bytes) (e ∙ length_suc b bytes) in (h.0, all_plain bytes h.1)
 
 taken_plain : (n : ℕ) (bytes : List ℕ) → IsPlainText bytes → IsPlainText (take n bytes)
 taken_plain zero bytes h = tt
@@ -46,7 +46,7 @@ pub record IsRead (bytes : List ℕ) (d : Deck) : Type 0 where
   pub plain : IsPlainText bytes
   pub given : deck_after (length bytes) start (Read 1 0 bytes) ≡ Ok d
 
-by_foreign : (place : Option ℕ) (bytes : List ℕ) (d : Deck) → position is_foreign bytes ≡ place → by_place place (deck_after (length bytes) start (Read 1 0 bytes)) ≡ Ok d → IsRead bytes d
+by_foreign : (place : Option ℕ) (bytes : List ℕ) (d : Deck) → position is_foreign bytes ≡ place → unless_foreign place (deck_after (length bytes) start (Read 1 0 bytes)) ≡ Ok d → IsRead bytes d
 by_foreign None bytes d is e = record { plain = all_plain bytes (nowhere is_foreign bytes is); given = e }
 by_foreign (Some place) bytes d is e = absurd cc
 
@@ -54,11 +54,11 @@ pub is_read : (bytes : List ℕ) (d : Deck) → deck bytes ≡ Ok d → IsRead b
 is_read bytes d e = by_foreign (position is_foreign bytes) bytes d refl e
 
 -- the lines that are read stand in the bytes that are used
-pub record Front (bytes : List ℕ) (used : ℕ) (lines : List Line) : Type 0 where
+pub record Front (bytes : List ℕ) (used : ℕ) (lines : List TextLine) : Type 0 where
   pub parts : List (List ℕ)
   pub is : with_lf (take used bytes) ≡ ended parts
   pub no_lf : NoLf parts
-  pub same : join (filter counts (numbered 1 0 parts)) ≡ lines
+  pub same : join (filter counts (numbered_lines 1 0 parts)) ≡ lines
 
 take_all : (bytes : List ℕ) → take (length bytes) bytes ≡ bytes
 take_all [] = refl
@@ -68,7 +68,7 @@ take_front : (xs ys : List ℕ) → take (length xs) (xs ++ ys) ≡ xs
 take_front [] ys = refl
 take_front (x ∷ xs) ys = ap (λ (l : List ℕ). x ∷ l) (take_front xs ys)
 
-front_of : (rest : List Line) (bytes : List ℕ) (used : ℕ) (front : List Line) → Read 1 0 bytes ≡ front ++ rest → Ends (length bytes) rest used → Front bytes used front
+front_of : (rest : List TextLine) (bytes : List ℕ) (used : ℕ) (front : List TextLine) → Read 1 0 bytes ≡ front ++ rest → Ends (length bytes) rest used → Front bytes used front
 front_of [] bytes used front e ends =
     let s = same_lines (pieces is_lf bytes) bytes refl (pieces_no_lf bytes) in
     record {
@@ -88,22 +88,22 @@ front_of (line ∷ rest) bytes used front e ends =
       same = c.lines;
     }
 
-last_state : (r : Reading) (done : List Subckt) → r.current ≡ None → r.done ≡ done → r.names ≡ map name_of r.done → r ≡ between done (map name_of done)
-last_state r done none is names = λ i. record { done = is i; names = (names ∙ ap (map name_of) is) i; current = none i }
+last_state : (r : DeckSoFar) (done : List Subckt) → r.current ≡ None → r.done ≡ done → r ≡ between done
+last_state r done none is = λ i. record { done = is i; current = none i }
 
 -- what is written after a deck's bytes is read after the deck
 pub appended_is_read : AppendedIsRead
 appended_is_read bytes d subckts e w new =
     let read = is_read bytes d e in
-    let s = split_deck (Read 1 0 bytes) (length bytes) start d refl read.given in
+    let s = split_deck (Read 1 0 bytes) (length bytes) start d read.given in
     let f = front_of s.rest bytes d.used s.front s.parts s.ends in
     let text = deck_text subckts in
     let all = appended d bytes subckts in
     let size = length all in
     let j = join_append f.parts 1 0 text (deck_apart subckts w.each) in
     let lines : Read 1 0 all ≡ s.front ++ Read j.number j.before text =
-    ap (λ (front : List ℕ). Read 1 0 (front ++ text)) f.is ∙ ap (λ (ps : List (List ℕ)). join (filter counts (numbered 1 0 ps))) (ended_pieces f.parts text f.no_lf) ∙ j.is ∙ ap (λ (ls : List Line). ls ++ Read j.number j.before text) f.same in
+    ap (λ (front : List ℕ). Read 1 0 (front ++ text)) f.is ∙ ap (λ (ps : List (List ℕ)). join (filter counts (numbered_lines 1 0 ps))) (ended_pieces f.parts text f.no_lf) ∙ j.is ∙ ap (λ (ls : List TextLine). ls ++ Read j.number j.before text) f.same in
     let plain : IsPlainText all = both_plain (with_lf (take d.used bytes)) text (with_lf_plain (take d.used bytes) (taken_plain d.used bytes read.plain)) (deck_plain subckts w.each) in
-    ap (λ (place : Option ℕ). by_place place (deck_after size start (Read 1 0 all))) (no_foreign all plain) ∙ ap (deck_after size start) lines ∙ s.go size (Read j.number j.before text)
-    ∙ ap (λ (r : Reading). deck_after size r (Read j.number j.before text)) (last_state s.last d.subckts s.none s.done s.names)
-    ∙ deck_goes subckts size j.number j.before d.subckts (map name_of d.subckts) w.each (no_repeat (map subckt_name subckts) (map name_of d.subckts) new w.differ)
+    ap (λ (place : Option ℕ). unless_foreign place (deck_after size start (Read 1 0 all))) (no_foreign all plain) ∙ ap (deck_after size start) lines ∙ s.go size (Read j.number j.before text)
+    ∙ ap (λ (r : DeckSoFar). deck_after size r (Read j.number j.before text)) (last_state s.last d.subckts s.none s.done)
+    ∙ deck_goes subckts size j.number j.before d.subckts w.each (no_repeat (map subckt_name subckts) (map name_of d.subckts) new w.differ)

@@ -4,9 +4,9 @@ use Rattle.std.specs.List.{position_or_len}
 use Rattle.std.proofs.lemmas.List.Sums.{prefix_len-le-length}
 use Rattle.std.proofs.lemmas.List.Folds.{length-prefix_len}
 use Rattle.std.proofs.lemmas.Bool.{ltb-false}
-use Rattle.spice_text.specs.Lines.{is_lf, with_head, pieces, without_cr, numbered}
+use Rattle.spice_text.specs.Lines.{is_lf, with_head, pieces, without_cr, numbered_lines}
 use Rattle.spice_text.specs.LogicalLines.{counts}
-use Rattle.spice_text.specs.Views.{kept}
+use Rattle.spice_text.specs.Views.{kept_line}
 
 -- the place is no further than the end
 pub place_within : (p : ℕ → Bool) (xs : List ℕ) → position_or_len p xs ≤ length xs
@@ -50,19 +50,19 @@ pieces_cut p (b ∷ bytes) =
 
 -- the lines, where the first is cut off before these bytes
 cut : (bytes past : List ℕ) (number before n : ℕ) (text : List ℕ) → n ≡ position_or_len is_lf bytes → text ≡ without_cr (take n bytes) → drop n bytes ≡ past
-    → filter counts (numbered number before (pieces is_lf bytes)) ≡ kept (record { number = number; before = before; text = text }) (filter counts (numbered (number + 1) (before + n + 1) (pieces_past is_lf past)))
+    → filter counts (numbered_lines number before (pieces is_lf bytes)) ≡ kept_line (record { number = number; before = before; text = text }) (filter counts (numbered_lines (number + 1) (before + n + 1) (pieces_past is_lf past)))
 cut bytes past number before n text is text_is left =
     let parts : pieces is_lf bytes ≡ take n bytes ∷ pieces_past is_lf past = pieces_cut is_lf bytes ∙ (λ i. take (sym is i) bytes ∷ pieces_past is_lf (drop (sym is i) bytes)) ∙ (λ i. take n bytes ∷ pieces_past is_lf (left i)) in
     let sized : length (take n bytes) ≡ n = ap (λ k. length (take k bytes)) is ∙ length-prefix_len (λ x. not (is_lf x)) bytes ∙ sym is in
-    ap (λ ps. filter counts (numbered number before ps)) parts
-    ∙ (λ i. kept (record { number = number; before = before; text = sym text_is i }) (filter counts (numbered (number + 1) (before + sized i + 1) (pieces_past is_lf past))))
+    ap (λ ps. filter counts (numbered_lines number before ps)) parts
+    ∙ (λ i. kept_line (record { number = number; before = before; text = sym text_is i }) (filter counts (numbered_lines (number + 1) (before + sized i + 1) (pieces_past is_lf past))))
 
 pub cut_before : (bytes : List ℕ) (b : ℕ) (rest : List ℕ) (number before n : ℕ) (text : List ℕ) → n ≡ position_or_len is_lf bytes → text ≡ without_cr (take n bytes) → drop n bytes ≡ b ∷ rest
-    → filter counts (numbered number before (pieces is_lf bytes)) ≡ kept (record { number = number; before = before; text = text }) (filter counts (numbered (number + 1) (before + n + 1) (pieces is_lf rest)))
+    → filter counts (numbered_lines number before (pieces is_lf bytes)) ≡ kept_line (record { number = number; before = before; text = text }) (filter counts (numbered_lines (number + 1) (before + n + 1) (pieces is_lf rest)))
 cut_before bytes b rest number before n text is text_is left = cut bytes (b ∷ rest) number before n text is text_is left
 
 -- the last line
 pub cut_last : (bytes after : List ℕ) (number before n : ℕ) (text : List ℕ) → n ≡ position_or_len is_lf bytes → text ≡ without_cr (take n bytes) → drop n bytes ≡ after → after ≡ []
-    → filter counts (numbered number before (pieces is_lf bytes)) ≡ kept (record { number = number; before = before; text = text }) (filter counts (numbered (number + 1) (before + n) (pieces is_lf after)))
+    → filter counts (numbered_lines number before (pieces is_lf bytes)) ≡ kept_line (record { number = number; before = before; text = text }) (filter counts (numbered_lines (number + 1) (before + n) (pieces is_lf after)))
 cut_last bytes after number before n text is text_is left none =
-    cut bytes [] number before n text is text_is (left ∙ none) ∙ (λ i. kept (record { number = number; before = before; text = text }) (filter counts (numbered (number + 1) (before + n) (pieces is_lf (sym none i)))))
+    cut bytes [] number before n text is text_is (left ∙ none) ∙ (λ i. kept_line (record { number = number; before = before; text = text }) (filter counts (numbered_lines (number + 1) (before + n) (pieces is_lf (sym none i)))))

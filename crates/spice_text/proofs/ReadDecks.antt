@@ -6,58 +6,51 @@ use Rattle.netlist.specs.declared.deck.Deck.{Deck}
 use Rattle.netlist.specs.declared.deck.Instance.{Instance}
 use Rattle.netlist.specs.declared.deck.Subckt.{Subckt}
 use Rattle.spice_text.specs.declared.fault.SpiceFault.{SpiceFault}
-use Rattle.spice_text.specs.declared.subcircuit.OpenSubckt.{OpenSubckt}
-use Rattle.spice_text.specs.declared.subcircuit.Reading.{Reading}
-use Rattle.spice_text.specs.Lines.{Line, lines_of}
+use Rattle.spice_text.specs.Lines.{TextLine, lines_of}
 use Rattle.spice_text.specs.LogicalLines.{logical_lines, starts_with}
-use Rattle.spice_text.specs.Words.{lower, is_word, is_assignment}
+use Rattle.spice_text.specs.Words.{lower, is_nonempty, is_assignment}
 use Rattle.spice_text.specs.Statements.{statement_of}
-use Rattle.spice_text.specs.Subcircuits.{has_repeat}
+use Rattle.spice_text.specs.Subcircuits.{BegunSubckt, DeckSoFar, name_of, own_name, has_repeat}
 use Rattle.spice_text.specs.Steps.{step, stops}
 use Rattle.spice_text.specs.Deck.{finished, then_lines, deck_after, start, deck}
-use Rattle.spice_text.specs.Writable.{IsNameByte, IsName, BeginsWithX, Differ, IsWritableInstance, instance_name, IsWritable, subckt_name, lowered_instance, lowered_subckt}
+use Rattle.spice_text.specs.Writable.{IsNameByte, IsName, BeginsWithX, Differ, IsWritableInstance, instance_name, IsWritableSubckt, subckt_name, lowered_instance, lowered_subckt}
 use Rattle.spice_text.specs.ReadDecks.{HasNoReturn, IsInstanceWithoutReturns, IsOfNames, DecksAreWritable, DecksAreLowered}
-use Rattle.spice_text.specs.Appended.{name_of}
 use Rattle.spice_text.proofs.TestLaws.{once_differ}
-use Rattle.spice_text.proofs.AppendedState.{IsNamed, named_step}
 use Rattle.spice_text.proofs.AppendedText.{is_read}
 use Rattle.spice_text.proofs.ReadWords.{IsLineByte, IsReadLine, lines_read, IsWordByte, IsReadName, name_low, names_low}
-use Rattle.spice_text.proofs.ReadState.{statement_read, IsReadInstance, own_name, IsReadSubckt, IsReadTo, read_step}
+use Rattle.spice_text.proofs.ReadState.{statement_read, IsReadInstance, IsReadSubckt, IsReadTo, IsReadSoFar, read_step}
 
 -- what is known of a deck
 pub record IsReadDeck (d : Deck) : Type 0 where
   pub subckts : AllByRecursion IsReadSubckt d.subckts
   pub once : has_repeat [] (map name_of d.subckts) ≡ false
 
-abbrev IsKnown : Option OpenSubckt → List Subckt → List (List ℕ) → Type 0
-IsKnown current done names = IsReadTo current done names × IsNamed current done names
+ended : (current : Option BegunSubckt) (used : ℕ) (done : List Subckt) (d : Deck) → IsReadTo current done → finished used done current ≡ Ok d → IsReadDeck d
+ended (Some o) used done d h is = absurd cc
+ended None used done d h is = let same : record { subckts = done; used = used } ≡ d = cc in subst IsReadDeck same (record { subckts = h.subckts; once = h.once })
 
-ended : (current : Option OpenSubckt) (used : ℕ) (done : List Subckt) (names : List (List ℕ)) (d : Deck) → IsKnown current done names → finished used done current ≡ Ok d → IsReadDeck d
-ended (Some o) used done names d h is = absurd cc
-ended None used done names d h is =
-    let same : record { subckts = done; used = used } ≡ d = cc in
-    subst IsReadDeck same (record { subckts = h.0.subckts; once = ap (has_repeat []) (sym h.1) ∙ h.0.once })
-
-by_step : (a : Result Reading SpiceFault) (size : ℕ) (r : Reading) (line : Line) (lines : List Line) (d : Deck) → IsReadLine line → IsKnown r.current r.done r.names → step r line (statement_of line.text) ≡ a
-    → then_lines (λ q. deck_after size q lines) a ≡ Ok d → ((q : Reading) → IsKnown q.current q.done q.names → deck_after size q lines ≡ Ok d → IsReadDeck d) → IsReadDeck d
+by_step : (a : Result DeckSoFar SpiceFault) (size : ℕ) (r : DeckSoFar) (line : TextLine) (lines : List TextLine) (d : Deck) → IsReadLine line → IsReadSoFar r
+    → step r line (statement_of line.text) ≡ a → then_lines (λ q. deck_after size q lines) a ≡ Ok d
+    → ((q : DeckSoFar) → IsReadSoFar q → deck_after size q lines ≡ Ok d → IsReadDeck d) → IsReadDeck d
 by_step (Err e) size r line lines d own h is given next = absurd cc
 by_step (Ok q) size r line lines d own h is given next =
-    next q (read_step r.current (statement_of line.text) r.done r.names line q (statement_read line.text own) h.0 is, named_step r.current (statement_of line.text) r.done r.names line q h.1 is) given
+    next q (read_step r.current (statement_of line.text) r.done line q (statement_read line.text own) h is) given
 
-by_stop : (v : Bool) (size : ℕ) (r : Reading) (line : Line) (lines : List Line) (d : Deck) → IsReadLine line → IsKnown r.current r.done r.names
+by_stop : (v : Bool) (size : ℕ) (r : DeckSoFar) (line : TextLine) (lines : List TextLine) (d : Deck) → IsReadLine line → IsReadSoFar r
     → cond v (finished line.before r.done r.current) (then_lines (λ q. deck_after size q lines) (step r line (statement_of line.text))) ≡ Ok d
-    → ((q : Reading) → IsKnown q.current q.done q.names → deck_after size q lines ≡ Ok d → IsReadDeck d) → IsReadDeck d
-by_stop true size r line lines d own h given next = ended r.current line.before r.done r.names d h given
+    → ((q : DeckSoFar) → IsReadSoFar q → deck_after size q lines ≡ Ok d → IsReadDeck d) → IsReadDeck d
+by_stop true size r line lines d own h given next = ended r.current line.before r.done d h given
 by_stop false size r line lines d own h given next = by_step (step r line (statement_of line.text)) size r line lines d own h refl given next
 
-after_read : (lines : List Line) (size : ℕ) (r : Reading) (d : Deck) → AllByRecursion IsReadLine lines → IsKnown r.current r.done r.names → deck_after size r lines ≡ Ok d → IsReadDeck d
-after_read [] size r d all h is = ended r.current size r.done r.names d h is
-after_read (line ∷ lines) size r d all h is = by_stop (stops r.current (statement_of line.text)) size r line lines d all.0 h is (λ q h is. after_read lines size q d all.1 h is)
+after_read : (lines : List TextLine) (size : ℕ) (r : DeckSoFar) (d : Deck) → AllByRecursion IsReadLine lines → IsReadSoFar r → deck_after size r lines ≡ Ok d → IsReadDeck d
+after_read [] size r d all h is = ended r.current size r.done d h is
+after_read (line ∷ lines) size r d all h is =
+    by_stop (stops r.current (statement_of line.text)) size r line lines d all.0 h is (λ q h is. after_read lines size q d all.1 h is)
 
 deck_read : (bytes : List ℕ) (d : Deck) → deck bytes ≡ Ok d → IsReadDeck d
 deck_read bytes d e =
     let read = is_read bytes d e in
-    after_read (logical_lines (lines_of bytes)) (length bytes) start d (lines_read bytes read.plain) (record { subckts = tt; once = refl; last = tt }, refl) read.given
+    after_read (logical_lines (lines_of bytes)) (length bytes) start d (lines_read bytes read.plain) (record { subckts = tt; once = refl; last = tt }) read.given
 
 -- names in lower case
 instances_low : (is : List Instance) → AllByRecursion IsReadInstance is → map lowered_instance is ≡ is
@@ -91,7 +84,7 @@ name_bytes (b ∷ name) all off plain =
     let parts = or_parts (b == 61) (is_assignment name) plain in
     (name_byte b all.0 off.0 parts.0, name_bytes name all.1 off.1 parts.1)
 
-some_length : (name : List ℕ) → is_word name ≡ true → 0 < length name
+some_length : (name : List ℕ) → is_nonempty name ≡ true → 0 < length name
 some_length [] is = absurd cc
 some_length (b ∷ name) is = omega arith
 
@@ -126,7 +119,7 @@ subckts_named : (ss : List Subckt) → AllByRecursion IsReadSubckt ss → map su
 subckts_named [] all = refl
 subckts_named (s ∷ ss) all = λ k. name_low s.name all.0.name k ∷ subckts_named ss all.1 k
 
-writable : (s : Subckt) → IsReadSubckt s → IsOfNames s → IsWritable s
+writable : (s : Subckt) → IsReadSubckt s → IsOfNames s → IsWritableSubckt s
 writable s h off = record {
   name = is_name s.name h.name off.name;
   ports = two_all IsReadName HasNoReturn IsName is_name s.ports h.ports off.ports;
@@ -140,6 +133,6 @@ pub decks_are_writable : DecksAreWritable
 decks_are_writable bytes d e off =
     let read = deck_read bytes d e in
     record {
-      each = two_all IsReadSubckt IsOfNames IsWritable writable d.subckts read.subckts off;
+      each = two_all IsReadSubckt IsOfNames IsWritableSubckt writable d.subckts read.subckts off;
       differ = differ (map name_of d.subckts) (map subckt_name d.subckts) (subckts_named d.subckts read.subckts) read.once;
     }

@@ -6,10 +6,10 @@ use Rattle.std.proofs.lemmas.Bool.{eqb-true, leb-true}
 use Rattle.std.proofs.lemmas.Str.Ascii.{lowercase-lowercase}
 use borrow.Author.Tests.{ltb-true}
 use Rattle.std.proofs.lemmas.Bool.{ltb-false}
-use Rattle.spice_text.specs.Lines.{Line, is_lf, with_head, pieces, without_cr, numbered, lines_of}
+use Rattle.spice_text.specs.Lines.{TextLine, is_lf, with_head, pieces, without_cr, numbered_lines, lines_of}
 use Rattle.spice_text.specs.LogicalLines.{is_blank, counts, continues, joined, put_before, join, logical_lines}
-use Rattle.spice_text.specs.Words.{is_word, words_of, lower, is_assignment, before_assignment}
-use Rattle.spice_text.specs.Deck.{is_text}
+use Rattle.spice_text.specs.Words.{is_nonempty, words_of, lower, is_assignment, before_assignment}
+use Rattle.spice_text.specs.Deck.{is_text_byte}
 use Rattle.spice_text.proofs.WrittenWords.{all_of, all_mapped}
 use Rattle.spice_text.proofs.WrittenBytes.{IsPlainText}
 
@@ -17,7 +17,7 @@ use Rattle.spice_text.proofs.WrittenBytes.{IsPlainText}
 abbrev pub IsLineByte : ℕ → Type 0
 IsLineByte b = ((32 ≤ b) × (b ≤ 126)) ⊎ ((b ≡ 9) ⊎ (b ≡ 13))
 
-line_byte : (b : ℕ) → is_text b ≡ true → is_lf b ≡ false → IsLineByte b
+line_byte : (b : ℕ) → is_text_byte b ≡ true → is_lf b ≡ false → IsLineByte b
 line_byte b text off = at (nat_le 32 b) (nat_le b 126) (b == 9) (b == 10) (b == 13) refl refl refl refl refl text off where
   at : (v w x y z : Bool) → nat_le 32 b ≡ v → nat_le b 126 ≡ w → (b == 9) ≡ x → (b == 10) ≡ y → (b == 13) ≡ z → ((v && w) || (x || (y || z))) ≡ true → y ≡ false → IsLineByte b
   at true true x y z e f g h i is off = inl (leb-true 32 b e, leb-true b 126 f)
@@ -58,10 +58,10 @@ without_cr_holds Q (b ∷ c ∷ text) all = (all.0, without_cr_holds Q (c ∷ te
 abbrev pub IsLineText : List ℕ → Type 0
 IsLineText text = AllByRecursion IsLineByte text
 
-abbrev pub IsReadLine : Line → Type 0
+abbrev pub IsReadLine : TextLine → Type 0
 IsReadLine line = IsLineText line.text
 
-numbered_read : (n k : ℕ) (ps : List (List ℕ)) → AllByRecursion IsLineText ps → AllByRecursion IsReadLine (numbered n k ps)
+numbered_read : (n k : ℕ) (ps : List (List ℕ)) → AllByRecursion IsLineText ps → AllByRecursion IsReadLine (numbered_lines n k ps)
 numbered_read n k [] all = tt
 numbered_read n k (p ∷ ps) all = (without_cr_holds IsLineByte p all.0, numbered_read (n + 1) (k + length p + 1) ps all.1)
 
@@ -80,22 +80,22 @@ rest_holds : (Q : ℕ → Type 0) (text : List ℕ) → AllByRecursion Q text �
 rest_holds Q [] all = tt
 rest_holds Q (b ∷ text) all = all.1
 
-put_read : (line : Line) (lines : List Line) → IsReadLine line → AllByRecursion IsReadLine lines → AllByRecursion IsReadLine (put_before line lines)
+put_read : (line : TextLine) (lines : List TextLine) → IsReadLine line → AllByRecursion IsReadLine lines → AllByRecursion IsReadLine (put_before line lines)
 put_read line [] h all = (h, tt)
 put_read line (more ∷ lines) h all = at (continues more) where
   at : (v : Bool) → AllByRecursion IsReadLine (cond v (joined line more ∷ lines) (line ∷ more ∷ lines))
   at true = (both_hold IsLineByte line.text (32 ∷ drop 1 more.text) h (inl (omega arith, omega arith), rest_holds IsLineByte more.text all.0), all.1)
   at false = (h, all)
 
-join_read : (lines : List Line) → AllByRecursion IsReadLine lines → AllByRecursion IsReadLine (join lines)
+join_read : (lines : List TextLine) → AllByRecursion IsReadLine lines → AllByRecursion IsReadLine (join lines)
 join_read [] all = tt
 join_read (line ∷ lines) all = put_read line (join lines) all.0 (join_read lines all.1)
 
 -- the lines of a text hold bytes of lines
 pub lines_read : (bytes : List ℕ) → IsPlainText bytes → AllByRecursion IsReadLine (logical_lines (lines_of bytes))
 lines_read bytes plain =
-    let own = pieces_hold (λ b. is_text b ≡ true) is_lf bytes plain in
-    let texts = all_of (AllByRecursion (IsPieceByte (λ b. is_text b ≡ true) is_lf)) IsLineText (λ piece. all_of (IsPieceByte (λ b. is_text b ≡ true) is_lf) IsLineByte (λ b h. line_byte b h.0 h.1) piece) (pieces is_lf bytes) own in
+    let own = pieces_hold (λ b. is_text_byte b ≡ true) is_lf bytes plain in
+    let texts = all_of (AllByRecursion (IsPieceByte (λ b. is_text_byte b ≡ true) is_lf)) IsLineText (λ piece. all_of (IsPieceByte (λ b. is_text_byte b ≡ true) is_lf) IsLineByte (λ b h. line_byte b h.0 h.1) piece) (pieces is_lf bytes) own in
     join_read (filter counts (lines_of bytes)) (filter_holds IsReadLine counts (lines_of bytes) (numbered_read 1 0 (pieces is_lf bytes) texts))
 
 -- a byte of a line in lower case
@@ -122,13 +122,13 @@ abbrev pub IsWordByte : ℕ → Type 0
 IsWordByte b = IsLowByte b × (is_blank b ≡ false)
 
 pub record IsReadWord (word : List ℕ) : Type 0 where
-  pub some : is_word word ≡ true
+  pub some : is_nonempty word ≡ true
   pub bytes : AllByRecursion IsWordByte word
 
-some_words : (ps : List (List ℕ)) → AllByRecursion (AllByRecursion IsWordByte) ps → AllByRecursion IsReadWord (filter is_word ps)
+some_words : (ps : List (List ℕ)) → AllByRecursion (AllByRecursion IsWordByte) ps → AllByRecursion IsReadWord (filter is_nonempty ps)
 some_words [] all = tt
-some_words (p ∷ ps) all = at (is_word p) refl (some_words ps all.1) where
-  at : (v : Bool) → is_word p ≡ v → AllByRecursion IsReadWord (filter is_word ps) → AllByRecursion IsReadWord (cond v (p ∷ filter is_word ps) (filter is_word ps))
+some_words (p ∷ ps) all = at (is_nonempty p) refl (some_words ps all.1) where
+  at : (v : Bool) → is_nonempty p ≡ v → AllByRecursion IsReadWord (filter is_nonempty ps) → AllByRecursion IsReadWord (cond v (p ∷ filter is_nonempty ps) (filter is_nonempty ps))
   at true e h = (record { some = e; bytes = all.0 }, h)
   at false e h = h
 

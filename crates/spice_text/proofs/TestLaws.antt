@@ -8,9 +8,9 @@ use Rattle.std.proofs.lemmas.Bool.Decides.{Decides-and, Decides-or, Decides-not,
 use Rattle.or_geom.proofs.NameLaws.{same_name}
 use Rattle.netlist.specs.declared.deck.Instance.{Instance}
 use Rattle.netlist.specs.declared.deck.Subckt.{Subckt}
-use Rattle.spice_text.specs.Words.{lower, is_word, is_among}
+use Rattle.spice_text.specs.Words.{lower, is_nonempty, is_among}
 use Rattle.spice_text.specs.Subcircuits.{has_repeat}
-use Rattle.spice_text.specs.Writable.{IsNameByte, IsName, BeginsWithX, Differ, IsWritableInstance, instance_name, IsWritable, subckt_name, AreWritable}
+use Rattle.spice_text.specs.Writable.{IsNameByte, IsName, BeginsWithX, Differ, IsWritableInstance, instance_name, IsWritableSubckt, subckt_name, AreWritable}
 use Rattle.spice_text.specs.WritableTests as test
 use Rattle.spice_text.proofs.WrittenNames.{differ_once, once_parts}
 
@@ -19,20 +19,20 @@ pub all_decided : {X : Type 0} (p : X → Bool) (P : X → Type 0) → ((x : X) 
 all_decided p P each [] = (λ e. tt, λ h. refl)
 all_decided p P each (x ∷ xs) = Decides-like (p x && list_all p xs) (λ h. (h.0, h.1)) (λ h. (h.0, h.1)) (Decides-and (p x) (list_all p xs) (each x) (all_decided p P each xs))
 
-byte_decided : (b : ℕ) → Decides (test.is_name_byte b) (IsNameByte b)
+pub byte_decided : (b : ℕ) → Decides (test.is_name_byte b) (IsNameByte b)
 byte_decided b =
     Decides-like (test.is_name_byte b) (λ h. record { above = h.0; below = h.1.0; other = h.1.1 }) (λ h. (h.above, (h.below, h.other)))
     (Decides-and (nat_le 33 b) (nat_le b 126 && not (b == 61)) (leb-true 33 b, le-leb 33 b)
     (Decides-and (nat_le b 126) (not (b == 61)) (leb-true b 126, le-leb b 126) (Decides-not (b == 61) (Decides-eqb b 61))))
 
-some_decided : (name : List ℕ) → Decides (is_word name) (0 < length name)
+some_decided : (name : List ℕ) → Decides (is_nonempty name) (0 < length name)
 some_decided [] = (λ e. absurd cc, λ h. absurd (omega arith))
 some_decided (b ∷ name) = (λ e. omega arith, λ h. refl)
 
-name_decided : (name : List ℕ) → Decides (test.is_name name) (IsName name)
+pub name_decided : (name : List ℕ) → Decides (test.is_name name) (IsName name)
 name_decided name =
     Decides-like (test.is_name name) (λ h. record { some = h.0; bytes = h.1 }) (λ h. (h.some, h.bytes))
-    (Decides-and (is_word name) (list_all test.is_name_byte name) (some_decided name) (all_decided test.is_name_byte IsNameByte byte_decided name))
+    (Decides-and (is_nonempty name) (list_all test.is_name_byte name) (some_decided name) (all_decided test.is_name_byte IsNameByte byte_decided name))
 
 begins_decided : (name : List ℕ) → Decides (test.begins_with_x name) (BeginsWithX name)
 begins_decided [] = (λ e. absurd cc, λ h. absurd h)
@@ -88,7 +88,7 @@ only_names_decided s =
     (Decides-and (test.is_name s.name) _ (name_decided s.name)
     (Decides-and (list_all test.is_name s.ports) (list_all test.is_instance s.instances) (all_decided test.is_name IsName name_decided s.ports) (all_decided test.is_instance IsWritableInstance instance_decided s.instances)))
 
-writable_decided : (s : Subckt) → Decides (test.is_writable s) (IsWritable s)
+writable_decided : (s : Subckt) → Decides (test.is_writable s) (IsWritableSubckt s)
 writable_decided s =
     Decides-like (test.is_writable s) (λ h. record { name = h.0.1.0; ports = h.0.1.1.0; ports_differ = h.1.0; instances = h.0.1.1.1; instances_differ = h.1.1; no_raw = h.0.0 })
     (λ h. ((h.no_raw, (h.name, (h.ports, h.instances))), (h.ports_differ, h.instances_differ)))
@@ -97,7 +97,7 @@ writable_decided s =
 pub writables_decided : (subckts : List Subckt) → Decides (test.are_writable subckts) (AreWritable subckts)
 writables_decided subckts =
     Decides-like (test.are_writable subckts) (λ h. record { each = h.0; differ = h.1 }) (λ h. (h.each, h.differ))
-    (Decides-and (list_all test.is_writable subckts) _ (all_decided test.is_writable IsWritable writable_decided subckts) (differ_decided (map subckt_name subckts)))
+    (Decides-and (list_all test.is_writable subckts) _ (all_decided test.is_writable IsWritableSubckt writable_decided subckts) (differ_decided (map subckt_name subckts)))
 
 -- the test's two parts, one after the other
 pub refused_by : (subckts : List Subckt) → list_all test.is_writable subckts ≡ false → Decides false (AreWritable subckts)

@@ -5,9 +5,9 @@ use Rattle.std.specs.List.{AllByRecursion, position_or_len}
 use borrow.Author.Tests.{ltb-true}
 use Rattle.netlist.specs.declared.deck.Subckt.{Subckt}
 use Rattle.netlist.specs.declared.deck.Instance.{Instance}
-use Rattle.spice_text.specs.Deck.{is_text, by_place, deck_after, start}
+use Rattle.spice_text.specs.Deck.{is_text_byte, unless_foreign, deck_after, start}
 use Rattle.spice_text.specs.WrittenText.{gap, count_after, words_text, instance_text, begin_text, end_text, subckt_text, deck_text}
-use Rattle.spice_text.specs.Writable.{IsNameByte, IsName, IsWritableInstance, IsWritable, AreWritable, subckt_name}
+use Rattle.spice_text.specs.Writable.{IsNameByte, IsName, IsWritableInstance, IsWritableSubckt, AreWritable, subckt_name}
 use Rattle.spice_text.specs.ReadBack.{IsReadAs}
 use Rattle.spice_text.proofs.WrittenLines.{Read}
 use Rattle.spice_text.proofs.WrittenWords.{all_of, byte_text}
@@ -15,14 +15,14 @@ use Rattle.spice_text.proofs.WrittenNames.{differ_once}
 use Rattle.spice_text.proofs.WrittenDeck.{deck_goes, all_names}
 
 abbrev pub IsPlainText : List ℕ → Type 0
-IsPlainText bytes = AllByRecursion (λ b. is_text b ≡ true) bytes
+IsPlainText bytes = AllByRecursion (λ b. is_text_byte b ≡ true) bytes
 
 pub both_plain : (xs ys : List ℕ) → IsPlainText xs → IsPlainText ys → IsPlainText (xs ++ ys)
 both_plain [] ys f g = g
 both_plain (x ∷ xs) ys f g = (f.0, both_plain xs ys f.1 g)
 
 name_plain : (name : List ℕ) → IsName name → IsPlainText name
-name_plain name h = all_of IsNameByte (λ b. is_text b ≡ true) byte_text name h.bytes
+name_plain name h = all_of IsNameByte (λ b. is_text_byte b ≡ true) byte_text name h.bytes
 
 gap_plain : (count : ℕ) → IsPlainText (gap count)
 gap_plain count = at (count == 0) (count == 12) where
@@ -44,19 +44,19 @@ instances_plain (i ∷ instances) h =
     both_plain (instance_text i) (flat_map instance_text instances) (words_plain (i.name ∷ (i.nodes ++ i.of ∷ [])) 0 (names_plain (i.name ∷ (i.nodes ++ i.of ∷ [])) (h.0.name, all_names i.nodes i.of h.0.nodes h.0.refers)))
     (instances_plain instances h.1)
 
-subckt_plain : (s : Subckt) → IsWritable s → IsPlainText (subckt_text s)
+subckt_plain : (s : Subckt) → IsWritableSubckt s → IsPlainText (subckt_text s)
 subckt_plain s w =
     both_plain (begin_text s) (flat_map instance_text s.instances ++ end_text s)
     (words_plain ((46 ∷ 83 ∷ 85 ∷ 66 ∷ 67 ∷ 75 ∷ 84 ∷ []) ∷ s.name ∷ s.ports) 0 ((refl, (refl, (refl, (refl, (refl, (refl, (refl, tt))))))), names_plain (s.name ∷ s.ports) (w.name, w.ports)))
     (both_plain (flat_map instance_text s.instances) (end_text s) (instances_plain s.instances w.instances)
     (words_plain ((46 ∷ 69 ∷ 78 ∷ 68 ∷ 83 ∷ []) ∷ s.name ∷ []) 0 ((refl, (refl, (refl, (refl, (refl, tt))))), names_plain (s.name ∷ []) (w.name, tt))))
 
-pub deck_plain : (subckts : List Subckt) → AllByRecursion IsWritable subckts → IsPlainText (deck_text subckts)
+pub deck_plain : (subckts : List Subckt) → AllByRecursion IsWritableSubckt subckts → IsPlainText (deck_text subckts)
 deck_plain [] h = tt
 deck_plain (s ∷ subckts) h = both_plain (subckt_text s) (deck_text subckts) (subckt_plain s h.0) (deck_plain subckts h.1)
 
 abbrev pub is_foreign : ℕ → Bool
-is_foreign b = not (is_text b)
+is_foreign b = not (is_text_byte b)
 
 no_place : (bytes : List ℕ) → IsPlainText bytes → position_or_len is_foreign bytes ≡ length bytes
 no_place [] h = refl
@@ -74,4 +74,4 @@ no_foreign bytes h = at (nat_lt (position_or_len is_foreign bytes) (length bytes
 pub written_is_read : (subckts : List Subckt) → AreWritable subckts → IsReadAs subckts (deck_text subckts)
 written_is_read subckts w =
     let bytes = deck_text subckts in
-    ap (λ (place : Option ℕ). by_place place (deck_after (length bytes) start (Read 1 0 bytes))) (no_foreign bytes (deck_plain subckts w.each)) ∙ deck_goes subckts (length bytes) 1 0 [] [] w.each (differ_once (map subckt_name subckts) w.differ)
+    ap (λ (place : Option ℕ). unless_foreign place (deck_after (length bytes) start (Read 1 0 bytes))) (no_foreign bytes (deck_plain subckts w.each)) ∙ deck_goes subckts (length bytes) 1 0 [] w.each (differ_once (map subckt_name subckts) w.differ)

@@ -1,4 +1,4 @@
--- Reading the lines of a written deck.
+-- DeckSoFar the lines of a written deck.
 use Rattle.std.proofs.Common.{◌≡◌, inl, inr, ℕ, ◌<◌, List, [], ◌∷◌, ◌++◌, false, cond, ◌==◌, map, Some, None, Ok, Err, refl, sym, ap, subst, ◌∙◌, arith}
 use Rattle.std.specs.Prelude.{flat_map}
 use Rattle.std.specs.List.{AllByRecursion}
@@ -9,30 +9,27 @@ use Rattle.or_geom.proofs.NameLaws.{same_name}
 use Rattle.netlist.specs.declared.deck.Subckt.{Subckt}
 use Rattle.netlist.specs.declared.deck.Instance.{Instance}
 use Rattle.spice_text.specs.declared.fault.SpiceFault.TheVariants as fault
-use Rattle.spice_text.specs.declared.statement.Statement.{Statement}
-use Rattle.spice_text.specs.declared.statement.Statement.TheVariants as says
-use Rattle.spice_text.specs.declared.subcircuit.OpenSubckt.{OpenSubckt}
-use Rattle.spice_text.specs.declared.subcircuit.Reading.{Reading}
-use Rattle.spice_text.specs.Lines.{Line}
-use Rattle.spice_text.specs.Words.{words_of, lower, is_among}
-use Rattle.spice_text.specs.Statements.{keyword_of, told, meaning_of, statement_of}
-use Rattle.spice_text.specs.Subcircuits.{has_repeat, opened, with_instance, map_ok, with_current, closed_by}
+use Rattle.spice_text.specs.Lines.{TextLine}
+use Rattle.spice_text.specs.Words.{words_of, lower, before_assignment, is_among}
+use Rattle.spice_text.specs.Statements.{LineMeaning, meaning_of, statement_of}
+use Rattle.spice_text.specs.Statements as says
+use Rattle.spice_text.specs.Subcircuits.{BegunSubckt, DeckSoFar, name_of, own_name, has_repeat, opened, with_instance, map_ok, with_current, closed_by}
 use Rattle.spice_text.specs.Steps.{step, stops}
 use Rattle.spice_text.specs.Deck.{finished, then_lines, deck_after}
 use Rattle.spice_text.specs.WrittenText.{words_text, instance_text, begin_text, end_text, subckt_text, deck_text}
-use Rattle.spice_text.specs.Writable.{IsName, BeginsWithX, IsWritableInstance, instance_name, IsWritable, subckt_name, lowered_instance, lowered_subckt}
+use Rattle.spice_text.specs.Writable.{IsName, BeginsWithX, IsWritableInstance, instance_name, IsWritableSubckt, subckt_name, lowered_instance, lowered_subckt}
 use Rattle.spice_text.proofs.WrittenLines.{IsLine, IsPlain, line_at, Read, IsApart, tail_text, first_reads, line_apart}
 use Rattle.spice_text.proofs.WrittenWords.{IsApartWord, all_of, words_back, lower_line, lower_name, lower_names, apart_word, plain_word, all_before, byte_blank}
 use Rattle.spice_text.proofs.WrittenNames.{differ_once, once_parts}
 use Rattle.spice_text.proofs.DeckLaws.{made, new_placed}
 
 -- reading goes on from one state to another, with these bytes left
-pub record Goes (size : ℕ) (r : Reading) (lines : List Line) (r2 : Reading) (more : List ℕ) : Type 0 where
+pub record Goes (size : ℕ) (r : DeckSoFar) (lines : List TextLine) (r2 : DeckSoFar) (more : List ℕ) : Type 0 where
   pub number : ℕ
   pub before : ℕ
   pub is : deck_after size r lines ≡ deck_after size r2 (Read number before more)
 
-and_goes : (size : ℕ) (r r2 r3 : Reading) (lines : List Line) (more more2 : List ℕ) → Goes size r lines r2 more → ((n b : ℕ) → Goes size r2 (Read n b more) r3 more2) → Goes size r lines r3 more2
+and_goes : (size : ℕ) (r r2 r3 : DeckSoFar) (lines : List TextLine) (more more2 : List ℕ) → Goes size r lines r2 more → ((n b : ℕ) → Goes size r2 (Read n b more) r3 more2) → Goes size r lines r3 more2
 and_goes size r r2 r3 lines more more2 g f = let h = f g.number g.before in record { number = h.number; before = h.before; is = g.is ∙ h.is }
 
 -- what a written line says
@@ -57,7 +54,7 @@ apart_words words h = all_of IsName IsApartWord apart_word (map lower words) (lo
 first_apart : (c : ℕ) (t : List ℕ) (words : List (List ℕ)) (more : List ℕ) → IsFirst c t → AllByRecursion IsName words → IsApart more → IsApart (words_text 0 ((c ∷ t) ∷ words) ++ more)
 first_apart c t words more f h apart = line_apart c t words more f.line f.off (plain_words words h) apart
 
-line_goes : (size n b : ℕ) (r r2 : Reading) (c : ℕ) (t : List ℕ) (words : List (List ℕ)) (more : List ℕ) (st : Statement) → IsFirst c t → AllByRecursion IsName words → IsApart more
+line_goes : (size n b : ℕ) (r r2 : DeckSoFar) (c : ℕ) (t : List ℕ) (words : List (List ℕ)) (more : List ℕ) (st : LineMeaning) → IsFirst c t → AllByRecursion IsName words → IsApart more
     → meaning_of (lower (c ∷ t) ∷ map lower words) ≡ st → stops r.current st ≡ false → ((text : List ℕ) → step r (line_at n b text) st ≡ Ok r2) → Goes size r (Read n b (words_text 0 ((c ∷ t) ∷ words) ++ more)) r2 more
 line_goes size n b r r2 c t words more st f h apart means goes_on next =
     let rd = first_reads c t words more n b f.line (plain_words words h) apart in
@@ -71,11 +68,11 @@ line_goes size n b r r2 c t words more st f h apart means goes_on next =
           ∙ ap (λ v. cond v (finished b r.done r.current) (then_lines (λ q. deck_after size q rest) (step r this st))) goes_on ∙ ap (then_lines (λ q. deck_after size q rest)) (next ((c ∷ t) ++ tail_text 1 words));
     }
 
-abbrev pub between : List Subckt → List (List ℕ) → Reading
-between done names = record { done = done; names = names; current = None }
+abbrev pub between : List Subckt → DeckSoFar
+between done = record { done = done; current = None }
 
-abbrev pub within : List Subckt → List (List ℕ) → OpenSubckt → Reading
-within done names o = record { done = done; names = names; current = Some o }
+abbrev pub within : List Subckt → BegunSubckt → DeckSoFar
+within done o = record { done = done; current = Some o }
 
 -- `.SUBCKT`
 abbrev subckt_rest : List ℕ
@@ -88,19 +85,20 @@ subckt_first = record {
   word = record { some = refl; none = (refl, (refl, (refl, (refl, (refl, (refl, (refl, tt))))))) };
 }
 
-begin_names : (s : Subckt) → IsWritable s → AllByRecursion IsName (s.name ∷ s.ports)
+begin_names : (s : Subckt) → IsWritableSubckt s → AllByRecursion IsName (s.name ∷ s.ports)
 begin_names s w = (w.name, w.ports)
 
-begin_apart : (s : Subckt) (more : List ℕ) → IsWritable s → IsApart more → IsApart (begin_text s ++ more)
+begin_apart : (s : Subckt) (more : List ℕ) → IsWritableSubckt s → IsApart more → IsApart (begin_text s ++ more)
 begin_apart s more w apart = first_apart 46 subckt_rest (s.name ∷ s.ports) more subckt_first (begin_names s w) apart
 
-begin_goes : (size n b : ℕ) (done : List Subckt) (names : List (List ℕ)) (s : Subckt) (more : List ℕ) → IsWritable s → is_among (lower s.name) names ≡ false → IsApart more
-    → Goes size (between done names) (Read n b (begin_text s ++ more)) (within done (names ++ lower s.name ∷ []) (opened n (lower s.name) (map lower s.ports))) more
-begin_goes size n b done names s more w new apart =
-    let end = within done (names ++ lower s.name ∷ []) (opened n (lower s.name) (map lower s.ports)) in
-    line_goes size n b (between done names) end 46 subckt_rest (s.name ∷ s.ports) more (says.Begin (lower s.name ∷ map lower s.ports)) subckt_first (begin_names s w) apart
+begin_goes : (size n b : ℕ) (done : List Subckt) (s : Subckt) (more : List ℕ) → IsWritableSubckt s → is_among (lower s.name) (map name_of done) ≡ false → IsApart more
+    → Goes size (between done) (Read n b (begin_text s ++ more)) (within done (opened n (lower s.name) (map lower s.ports))) more
+begin_goes size n b done s more w new apart =
+    let end = within done (opened n (lower s.name) (map lower s.ports)) in
+    line_goes size n b (between done) end 46 subckt_rest (s.name ∷ s.ports) more (says.Begin (lower s.name ∷ map lower s.ports)) subckt_first (begin_names s w) apart
     (ap (λ (ws : List (List ℕ)). says.Begin ws) (all_before (lower s.name ∷ map lower s.ports) (lower_names (s.name ∷ s.ports) (begin_names s w)))) refl
-    (λ text. ap (λ v. cond v (Err (fault.Duplicate n)) (cond (has_repeat [] (map lower s.ports)) (Err (fault.Duplicate n)) (Ok end))) new ∙ ap (λ v. cond v (Err (fault.Duplicate n)) (Ok end)) (differ_once (map lower s.ports) w.ports_differ))
+    (λ text. ap (λ v. cond v (Err (fault.Duplicate n)) (cond (has_repeat [] (map lower s.ports)) (Err (fault.Duplicate n)) (Ok end))) new
+    ∙ ap (λ v. cond v (Err (fault.Duplicate n)) (Ok end)) (differ_once (map lower s.ports) w.ports_differ))
 
 -- `.ENDS`
 abbrev ends_rest : List ℕ
@@ -113,14 +111,16 @@ ends_first = record {
   word = record { some = refl; none = (refl, (refl, (refl, (refl, (refl, tt))))) };
 }
 
-end_apart : (s : Subckt) (more : List ℕ) → IsWritable s → IsApart more → IsApart (end_text s ++ more)
+end_apart : (s : Subckt) (more : List ℕ) → IsWritableSubckt s → IsApart more → IsApart (end_text s ++ more)
 end_apart s more w apart = first_apart 46 ends_rest (s.name ∷ []) more ends_first (w.name, tt) apart
 
-end_goes : (size n b : ℕ) (done : List Subckt) (names : List (List ℕ)) (o : OpenSubckt) (s : Subckt) (more : List ℕ) → IsWritable s → o.subckt.name ≡ lower s.name → IsApart more
-    → Goes size (within done names o) (Read n b (end_text s ++ more)) (between (done ++ o.subckt ∷ []) names) more
-end_goes size n b done names o s more w named apart =
-    line_goes size n b (within done names o) (between (done ++ o.subckt ∷ []) names) 46 ends_rest (s.name ∷ []) more (says.End (lower s.name ∷ [])) ends_first (w.name, tt) apart refl refl
-    (λ text. ap (λ (name : List ℕ). cond (closed_by (lower s.name ∷ []) name) (Ok (between (done ++ o.subckt ∷ []) names)) (Err (fault.Unclosed n))) named ∙ ap (λ v. cond v (Ok (between (done ++ o.subckt ∷ []) names)) (Err (fault.Unclosed n))) (same_name (lower s.name)))
+end_goes : (size n b : ℕ) (done : List Subckt) (o : BegunSubckt) (s : Subckt) (more : List ℕ) → IsWritableSubckt s → o.subckt.name ≡ lower s.name → IsApart more
+    → Goes size (within done o) (Read n b (end_text s ++ more)) (between (done ++ o.subckt ∷ [])) more
+end_goes size n b done o s more w named apart =
+    let end = between (done ++ o.subckt ∷ []) in
+    line_goes size n b (within done o) end 46 ends_rest (s.name ∷ []) more (says.End (lower s.name ∷ [])) ends_first (w.name, tt) apart refl refl
+    (λ text. ap (λ (name : List ℕ). cond (closed_by (lower s.name ∷ []) name) (Ok end) (Err (fault.Unclosed n))) named
+    ∙ ap (λ v. cond v (Ok end) (Err (fault.Unclosed n))) (same_name (lower s.name)))
 
 -- instances
 x_lower : (c : ℕ) (t : List ℕ) → BeginsWithX (c ∷ t) → to_ascii_lowercase c ≡ 120
@@ -147,22 +147,33 @@ one_apart : (name : List ℕ) (nodes : List (List ℕ)) (last more : List ℕ) �
 one_apart [] nodes last more name x h g apart = absurd x
 one_apart (c ∷ t) nodes last more name x h g apart = first_apart c t (nodes ++ last ∷ []) more (name_first c t name x) (all_names nodes last h g) apart
 
-one_goes : (size n b : ℕ) (done : List Subckt) (names : List (List ℕ)) (o : OpenSubckt) (name : List ℕ) (nodes : List (List ℕ)) (last more : List ℕ)
-    → IsName name → BeginsWithX name → AllByRecursion IsName nodes → IsName last → is_among (lower name) o.instances ≡ false → IsApart more
-    → Goes size (within done names o) (Read n b (line_of_instance name nodes last ++ more)) (within done names (with_instance o (made (lower name) (map lower nodes) (lower last)))) more
-one_goes size n b done names o [] nodes last more name x h g new apart = absurd x
-one_goes size n b done names o (c ∷ t) nodes last more name x h g new apart =
-    let words = nodes ++ last ∷ [] in
-    let first = lower (c ∷ t) in
-    line_goes size n b (within done names o) (within done names (with_instance o (made first (map lower nodes) (lower last)))) c t words more (says.Instance (first ∷ (map lower nodes ++ lower last ∷ []))) (name_first c t name x)
-    (all_names nodes last h g) apart
-    (ap (λ k. told (keyword_of (k ∷ lower t)) first (map lower words)) (x_lower c t x)
-    ∙ ap (λ (ws : List (List ℕ)). says.Instance ws) (all_before (first ∷ map lower words) (lower_name (c ∷ t) name, lower_names words (all_names nodes last h g)))
-    ∙ ap (λ (ws : List (List ℕ)). says.Instance (first ∷ ws)) (map-append lower nodes (last ∷ []))) refl
-    (λ text. ap (map_ok (with_current (within done names o))) (new_placed o n first (map lower nodes) (lower last) new))
+-- what a written instance says
+instance_said : (c : ℕ) (t : List ℕ) (nodes : List (List ℕ)) (last : List ℕ) → BeginsWithX (c ∷ t) → AllByRecursion IsName ((c ∷ t) ∷ (nodes ++ last ∷ []))
+    → meaning_of (lower (c ∷ t) ∷ map lower (nodes ++ last ∷ [])) ≡ says.Instance (lower (c ∷ t) ∷ (map lower nodes ++ lower last ∷ []))
+instance_said c t nodes last x names =
+    let words = map lower (nodes ++ last ∷ []) in
+    let is = x_lower c t x in
+    ap (λ k. meaning_of ((k ∷ lower t) ∷ words)) is
+    ∙ ap (λ k. says.Instance (before_assignment ((k ∷ lower t) ∷ words))) (sym is)
+    ∙ ap (λ (ws : List (List ℕ)). says.Instance ws) (all_before (lower (c ∷ t) ∷ words) (lower_names ((c ∷ t) ∷ (nodes ++ last ∷ [])) names))
+    ∙ ap (λ (ws : List (List ℕ)). says.Instance (lower (c ∷ t) ∷ ws)) (map-append lower nodes (last ∷ []))
+
+one_goes : (size n b : ℕ) (done : List Subckt) (o : BegunSubckt) (i : Instance) (more : List ℕ) → IsWritableInstance i
+    → is_among (lower i.name) (map own_name o.subckt.instances) ≡ false → IsApart more
+    → Goes size (within done o) (Read n b (instance_text i ++ more)) (within done (with_instance o (lowered_instance i))) more
+one_goes size n b done o i more w new apart = at i.name w.name w.begins new where
+  at : (name : List ℕ) → IsName name → BeginsWithX name → is_among (lower name) (map own_name o.subckt.instances) ≡ false
+      → Goes size (within done o) (Read n b (line_of_instance name i.nodes i.of ++ more)) (within done (with_instance o (made (lower name) (map lower i.nodes) (lower i.of)))) more
+  at [] named x new = absurd x
+  at (c ∷ t) named x new =
+      let names = all_names i.nodes i.of w.nodes w.refers in
+      line_goes size n b (within done o) (within done (with_instance o (made (lower (c ∷ t)) (map lower i.nodes) (lower i.of)))) c t (i.nodes ++ i.of ∷ []) more
+      (says.Instance (lower (c ∷ t) ∷ (map lower i.nodes ++ lower i.of ∷ []))) (name_first c t named x) names apart
+      (instance_said c t i.nodes i.of x (named, names)) refl
+      (λ text. ap (map_ok (with_current (within done o))) (new_placed o n (lower (c ∷ t)) (map lower i.nodes) (lower i.of) new))
 
 -- instances one after the other
-abbrev with_instances : OpenSubckt → List Instance → OpenSubckt
+abbrev with_instances : BegunSubckt → List Instance → BegunSubckt
 with_instances o [] = o
 with_instances o (i ∷ instances) = with_instances (with_instance o (lowered_instance i)) instances
 
@@ -172,65 +183,74 @@ instances_apart (i ∷ instances) more h apart =
     subst IsApart (sym (append_assoc (instance_text i) (flat_map instance_text instances) more))
     (one_apart i.name i.nodes i.of (flat_map instance_text instances ++ more) h.0.name h.0.begins h.0.nodes h.0.refers (instances_apart instances more h.1 apart))
 
-instances_go : (instances : List Instance) (size n b : ℕ) (done : List Subckt) (names : List (List ℕ)) (o : OpenSubckt) (more : List ℕ)
-    → AllByRecursion IsWritableInstance instances → has_repeat o.instances (map instance_name instances) ≡ false → IsApart more
-    → Goes size (within done names o) (Read n b (flat_map instance_text instances ++ more)) (within done names (with_instances o instances)) more
-instances_go [] size n b done names o more h once apart = record { number = n; before = b; is = refl }
-instances_go (i ∷ instances) size n b done names o more h once apart =
-    let parts = once_parts (lower i.name) o.instances (map instance_name instances) once in
+-- one instance more has its name
+name_more : (o : BegunSubckt) (i : Instance) → map own_name (with_instance o (lowered_instance i)).subckt.instances ≡ map own_name o.subckt.instances ++ lower i.name ∷ []
+name_more o i = map-append own_name o.subckt.instances (lowered_instance i ∷ [])
+
+instances_go : (instances : List Instance) (size n b : ℕ) (done : List Subckt) (o : BegunSubckt) (more : List ℕ)
+    → AllByRecursion IsWritableInstance instances → has_repeat (map own_name o.subckt.instances) (map instance_name instances) ≡ false → IsApart more
+    → Goes size (within done o) (Read n b (flat_map instance_text instances ++ more)) (within done (with_instances o instances)) more
+instances_go [] size n b done o more h once apart = record { number = n; before = b; is = refl }
+instances_go (i ∷ instances) size n b done o more h once apart =
+    let parts = once_parts (lower i.name) (map own_name o.subckt.instances) (map instance_name instances) once in
     let rest = flat_map instance_text instances ++ more in
     let o2 = with_instance o (lowered_instance i) in
-    subst (λ (bytes : List ℕ). Goes size (within done names o) (Read n b bytes) (within done names (with_instances o2 instances)) more) (sym (append_assoc (instance_text i) (flat_map instance_text instances) more))
-    (and_goes size (within done names o) (within done names o2) (within done names (with_instances o2 instances)) (Read n b (instance_text i ++ rest)) rest more
-    (one_goes size n b done names o i.name i.nodes i.of rest h.0.name h.0.begins h.0.nodes h.0.refers parts.0 (instances_apart instances more h.1 apart))
-    (λ n b. instances_go instances size n b done names o2 more h.1 parts.1 apart))
+    let later = ap (λ (seen : List (List ℕ)). has_repeat seen (map instance_name instances)) (name_more o i) ∙ parts.1 in
+    subst (λ (bytes : List ℕ). Goes size (within done o) (Read n b bytes) (within done (with_instances o2 instances)) more)
+    (sym (append_assoc (instance_text i) (flat_map instance_text instances) more))
+    (and_goes size (within done o) (within done o2) (within done (with_instances o2 instances)) (Read n b (instance_text i ++ rest)) rest more
+    (one_goes size n b done o i rest h.0 parts.0 (instances_apart instances more h.1 apart))
+    (λ n b. instances_go instances size n b done o2 more h.1 later apart))
 
 abbrev given : List ℕ → List (List ℕ) → List Instance → Subckt
 given name ports instances = record { name = name; ports = ports; instances = instances; raw = [] }
 
-all_instances : (instances : List Instance) (line : ℕ) (name : List ℕ) (ports : List (List ℕ)) (before : List Instance) (seen : List (List ℕ))
-    → (with_instances (record { line = line; subckt = given name ports before; instances = seen }) instances).subckt ≡ given name ports (before ++ map lowered_instance instances)
-all_instances [] line name ports before seen = ap (given name ports) (sym (append-nil before))
-all_instances (i ∷ instances) line name ports before seen =
-    all_instances instances line name ports (before ++ lowered_instance i ∷ []) (seen ++ lower i.name ∷ []) ∙ ap (given name ports) (append_assoc before (lowered_instance i ∷ []) (map lowered_instance instances))
+all_instances : (instances : List Instance) (line : ℕ) (name : List ℕ) (ports : List (List ℕ)) (before : List Instance)
+    → (with_instances (record { line = line; subckt = given name ports before }) instances).subckt ≡ given name ports (before ++ map lowered_instance instances)
+all_instances [] line name ports before = ap (given name ports) (sym (append-nil before))
+all_instances (i ∷ instances) line name ports before =
+    all_instances instances line name ports (before ++ lowered_instance i ∷ [])
+    ∙ ap (given name ports) (append_assoc before (lowered_instance i ∷ []) (map lowered_instance instances))
 
 -- a subcircuit
 subckt_split : (s : Subckt) (more : List ℕ) → subckt_text s ++ more ≡ begin_text s ++ (flat_map instance_text s.instances ++ (end_text s ++ more))
 subckt_split s more =
     append_assoc (begin_text s) (flat_map instance_text s.instances ++ end_text s) more ∙ ap (λ (l : List ℕ). begin_text s ++ l) (append_assoc (flat_map instance_text s.instances) (end_text s) more)
 
-subckt_apart : (s : Subckt) (more : List ℕ) → IsWritable s → IsApart more → IsApart (subckt_text s ++ more)
+subckt_apart : (s : Subckt) (more : List ℕ) → IsWritableSubckt s → IsApart more → IsApart (subckt_text s ++ more)
 subckt_apart s more w apart = subst IsApart (sym (subckt_split s more)) (begin_apart s _ w (instances_apart s.instances _ w.instances (end_apart s more w apart)))
 
-subckt_goes : (size n b : ℕ) (done : List Subckt) (names : List (List ℕ)) (s : Subckt) (more : List ℕ) → IsWritable s → is_among (lower s.name) names ≡ false → IsApart more
-    → Goes size (between done names) (Read n b (subckt_text s ++ more)) (between (done ++ lowered_subckt s ∷ []) (names ++ lower s.name ∷ [])) more
-subckt_goes size n b done names s more w new apart =
+subckt_goes : (size n b : ℕ) (done : List Subckt) (s : Subckt) (more : List ℕ) → IsWritableSubckt s → is_among (lower s.name) (map name_of done) ≡ false → IsApart more
+    → Goes size (between done) (Read n b (subckt_text s ++ more)) (between (done ++ lowered_subckt s ∷ [])) more
+subckt_goes size n b done s more w new apart =
     let closing = end_text s ++ more in
     let inner = flat_map instance_text s.instances ++ closing in
-    let names2 = names ++ lower s.name ∷ [] in
     let o = opened n (lower s.name) (map lower s.ports) in
     let filled = with_instances o s.instances in
-    let built : filled.subckt ≡ given (lower s.name) (map lower s.ports) (map lowered_instance s.instances) = all_instances s.instances n (lower s.name) (map lower s.ports) [] [] in
+    let built : filled.subckt ≡ given (lower s.name) (map lower s.ports) (map lowered_instance s.instances) = all_instances s.instances n (lower s.name) (map lower s.ports) [] in
     let named : filled.subckt.name ≡ lower s.name = ap (λ (x : Subckt). x.name) built in
-    let whole : filled.subckt ≡ lowered_subckt s = built ∙ (λ i. record { name = lower s.name; ports = map lower s.ports; instances = map lowered_instance s.instances; raw = sym w.no_raw i }) in
+    let whole : filled.subckt ≡ lowered_subckt s =
+    built ∙ (λ i. record { name = lower s.name; ports = map lower s.ports; instances = map lowered_instance s.instances; raw = sym w.no_raw i }) in
     let ends = end_apart s more w apart in
-    subst (λ (x : Subckt). Goes size (between done names) (Read n b (subckt_text s ++ more)) (between (done ++ x ∷ []) names2) more) whole
-    (subst (λ (bytes : List ℕ). Goes size (between done names) (Read n b bytes) (between (done ++ filled.subckt ∷ []) names2) more) (sym (subckt_split s more))
-    (and_goes size (between done names) (within done names2 o) (between (done ++ filled.subckt ∷ []) names2) (Read n b (begin_text s ++ inner)) inner more
-    (begin_goes size n b done names s inner w new (instances_apart s.instances closing w.instances ends))
-    (λ n b. and_goes size (within done names2 o) (within done names2 filled) (between (done ++ filled.subckt ∷ []) names2) (Read n b inner) closing more
-    (instances_go s.instances size n b done names2 o closing w.instances (differ_once (map instance_name s.instances) w.instances_differ) ends) (λ n b. end_goes size n b done names2 filled s more w named apart))))
+    subst (λ (x : Subckt). Goes size (between done) (Read n b (subckt_text s ++ more)) (between (done ++ x ∷ [])) more) whole
+    (subst (λ (bytes : List ℕ). Goes size (between done) (Read n b bytes) (between (done ++ filled.subckt ∷ [])) more) (sym (subckt_split s more))
+    (and_goes size (between done) (within done o) (between (done ++ filled.subckt ∷ [])) (Read n b (begin_text s ++ inner)) inner more
+    (begin_goes size n b done s inner w new (instances_apart s.instances closing w.instances ends))
+    (λ n b. and_goes size (within done o) (within done filled) (between (done ++ filled.subckt ∷ [])) (Read n b inner) closing more
+    (instances_go s.instances size n b done o closing w.instances (differ_once (map instance_name s.instances) w.instances_differ) ends)
+    (λ n b. end_goes size n b done filled s more w named apart))))
 
-pub deck_apart : (subckts : List Subckt) → AllByRecursion IsWritable subckts → IsApart (deck_text subckts)
+pub deck_apart : (subckts : List Subckt) → AllByRecursion IsWritableSubckt subckts → IsApart (deck_text subckts)
 deck_apart [] h = λ line n b. refl
 deck_apart (s ∷ subckts) h = subckt_apart s (deck_text subckts) h.0 (deck_apart subckts h.1)
 
 -- a deck
-pub deck_goes : (subckts : List Subckt) (size n b : ℕ) (done : List Subckt) (names : List (List ℕ)) → AllByRecursion IsWritable subckts → has_repeat names (map subckt_name subckts) ≡ false
-    → deck_after size (between done names) (Read n b (deck_text subckts)) ≡ Ok (record { subckts = done ++ map lowered_subckt subckts; used = size })
-deck_goes [] size n b done names h once = ap (λ (l : List Subckt). Ok (record { subckts = l; used = size })) (sym (append-nil done))
-deck_goes (s ∷ subckts) size n b done names h once =
-    let parts = once_parts (lower s.name) names (map subckt_name subckts) once in
-    let g = subckt_goes size n b done names s (deck_text subckts) h.0 parts.0 (deck_apart subckts h.1) in
-    g.is ∙ deck_goes subckts size g.number g.before (done ++ lowered_subckt s ∷ []) (names ++ lower s.name ∷ []) h.1 parts.1
+pub deck_goes : (subckts : List Subckt) (size n b : ℕ) (done : List Subckt) → AllByRecursion IsWritableSubckt subckts → has_repeat (map name_of done) (map subckt_name subckts) ≡ false
+    → deck_after size (between done) (Read n b (deck_text subckts)) ≡ Ok (record { subckts = done ++ map lowered_subckt subckts; used = size })
+deck_goes [] size n b done h once = ap (λ (l : List Subckt). Ok (record { subckts = l; used = size })) (sym (append-nil done))
+deck_goes (s ∷ subckts) size n b done h once =
+    let parts = once_parts (lower s.name) (map name_of done) (map subckt_name subckts) once in
+    let g = subckt_goes size n b done s (deck_text subckts) h.0 parts.0 (deck_apart subckts h.1) in
+    let later = ap (λ (seen : List (List ℕ)). has_repeat seen (map subckt_name subckts)) (map-append name_of done (lowered_subckt s ∷ [])) ∙ parts.1 in
+    g.is ∙ deck_goes subckts size g.number g.before (done ++ lowered_subckt s ∷ []) h.1 later
     ∙ ap (λ (l : List Subckt). Ok (record { subckts = l; used = size })) (append_assoc done (lowered_subckt s ∷ []) (map lowered_subckt subckts))

@@ -3,7 +3,7 @@ use Rattle.std.proofs.Common.{◌≡◌, ℕ, ◌+◌, ◌<◌, List, [], ◌∷
 use Rattle.std.specs.List.{AllByRecursion, list_all}
 use Rattle.std.proofs.lemmas.List.{append_assoc, append-nil}
 use Rattle.std.proofs.lemmas.Bool.{ne_eqb}
-use Rattle.spice_text.specs.Lines.{Line, is_lf, with_head, pieces, without_cr, numbered}
+use Rattle.spice_text.specs.Lines.{TextLine, is_lf, with_head, pieces, without_cr, numbered_lines}
 use Rattle.spice_text.specs.LogicalLines.{is_blank, counts, joined, put_before, join}
 use Rattle.spice_text.specs.WrittenText.{count_after, words_text}
 
@@ -39,27 +39,27 @@ pub record IsLine (c : ℕ) (t : List ℕ) : Type 0 where
   pub lf : NonePasses is_lf (c ∷ t)
   pub cr : NonePasses is_cr (c ∷ t)
 
-abbrev pub line_at : ℕ → ℕ → List ℕ → Line
+abbrev pub line_at : ℕ → ℕ → List ℕ → TextLine
 line_at number before text = record { number = number; before = before; text = text }
 
 -- the logical lines of these bytes
-abbrev pub Read : ℕ → ℕ → List ℕ → List Line
-Read number before bytes = join (filter counts (numbered number before (pieces is_lf bytes)))
+abbrev pub Read : ℕ → ℕ → List ℕ → List TextLine
+Read number before bytes = join (filter counts (numbered_lines number before (pieces is_lf bytes)))
 
-abbrev counted : Bool → Bool → List ℕ → Line → List Line → List Line
+abbrev counted : Bool → Bool → List ℕ → TextLine → List TextLine → List TextLine
 counted star blank t line lines = join (cond (cond star false (not (blank && list_all is_blank t))) (line ∷ lines) lines)
 
 -- a line before others
 line_read : (n b c : ℕ) (t more : List ℕ) → IsLine c t → Read n b ((c ∷ t) ++ 10 ∷ more) ≡ put_before (line_at n b (c ∷ t)) (Read (n + 1) (b + length (c ∷ t) + 1) more)
 line_read n b c t more h =
-    let rest = filter counts (numbered (n + 1) (b + length (c ∷ t) + 1) (pieces is_lf more)) in
-    ap (λ (ps : List (List ℕ)). join (filter counts (numbered n b ps))) (piece_before is_lf (c ∷ t) 10 more h.lf refl)
-    ∙ ap (λ (text : List ℕ). join (filter counts (line_at n b text ∷ numbered (n + 1) (b + length (c ∷ t) + 1) (pieces is_lf more)))) (no_cr (c ∷ t) h.cr)
+    let rest = filter counts (numbered_lines (n + 1) (b + length (c ∷ t) + 1) (pieces is_lf more)) in
+    ap (λ (ps : List (List ℕ)). join (filter counts (numbered_lines n b ps))) (piece_before is_lf (c ∷ t) 10 more h.lf refl)
+    ∙ ap (λ (text : List ℕ). join (filter counts (line_at n b text ∷ numbered_lines (n + 1) (b + length (c ∷ t) + 1) (pieces is_lf more)))) (no_cr (c ∷ t) h.cr)
     ∙ (λ i. counted (h.star i) (h.blank i) t (line_at n b (c ∷ t)) rest)
 
 -- what stands here is joined to no line before it
 abbrev pub IsApart : List ℕ → Type 0
-IsApart more = (line : Line) (n b : ℕ) → put_before line (Read n b more) ≡ line ∷ Read n b more
+IsApart more = (line : TextLine) (n b : ℕ) → put_before line (Read n b more) ≡ line ∷ Read n b more
 
 -- a logical line is read, and what follows it
 pub record Reads (n b : ℕ) (bytes text more : List ℕ) : Type 0 where
@@ -141,4 +141,4 @@ line_apart c t words more h off plain apart line n b =
     let r = first_reads c t words more n b h plain apart in
     let this = line_at n b ((c ∷ t) ++ tail_text 1 words) in
     let rest = Read r.number r.before more in
-    ap (put_before line) r.is ∙ ap (λ v. cond v (joined line this ∷ rest) (line ∷ this ∷ rest)) off ∙ ap (λ (ls : List Line). line ∷ ls) (sym r.is)
+    ap (put_before line) r.is ∙ ap (λ v. cond v (joined line this ∷ rest) (line ∷ this ∷ rest)) off ∙ ap (λ (ls : List TextLine). line ∷ ls) (sym r.is)

@@ -7,8 +7,8 @@ use Rattle.std.proofs.lemmas.Bool.{ne_eqb, ltb-false, le-leb}
 use borrow.Author.Tests.{ltb-true}
 use Rattle.spice_text.specs.Lines.{is_lf}
 use Rattle.spice_text.specs.LogicalLines.{is_blank}
-use Rattle.spice_text.specs.Words.{is_word, words_of, lower, is_assignment, before_assignment}
-use Rattle.spice_text.specs.Deck.{is_text}
+use Rattle.spice_text.specs.Words.{is_nonempty, words_of, lower, is_assignment, before_assignment}
+use Rattle.spice_text.specs.Deck.{is_text_byte}
 use Rattle.spice_text.specs.WrittenText.{count_after}
 use Rattle.spice_text.specs.Writable.{IsNameByte, IsName}
 use Rattle.spice_text.proofs.WrittenLines.{NonePasses, piece_before, piece_alone, is_cr, tail_text, IsPlain}
@@ -23,15 +23,15 @@ all_mapped g P Q f (x ∷ xs) h = (f x h.0, all_mapped g P Q f xs h.1)
 
 -- a word that stands between spaces
 pub record IsApartWord (word : List ℕ) : Type 0 where
-  pub some : is_word word ≡ true
+  pub some : is_nonempty word ≡ true
   pub none : NonePasses is_blank word
 
 -- the words of a line
 pub words_back : (words : List (List ℕ)) (count : ℕ) (word : List ℕ) → IsApartWord word → AllByRecursion IsApartWord words → words_of (word ++ tail_text count words) ≡ word ∷ words
-words_back [] count word w all = ap words_of (append-nil word) ∙ ap (filter is_word) (piece_alone is_blank word w.none) ∙ ap (λ v. cond v (word ∷ []) []) w.some
+words_back [] count word w all = ap words_of (append-nil word) ∙ ap (filter is_nonempty) (piece_alone is_blank word w.none) ∙ ap (λ v. cond v (word ∷ []) []) w.some
 words_back (next ∷ words) count word w all = by (count == 12) (words_back words (count_after count) next all.0 all.1) where
   past : (rest : List ℕ) → words_of (word ++ 32 ∷ rest) ≡ word ∷ words_of rest
-  past rest = ap (filter is_word) (piece_before is_blank word 32 rest w.none refl) ∙ ap (λ v. cond v (word ∷ words_of rest) (words_of rest)) w.some
+  past rest = ap (filter is_nonempty) (piece_before is_blank word 32 rest w.none refl) ∙ ap (λ v. cond v (word ∷ words_of rest) (words_of rest)) w.some
 
   by : (v : Bool) → words_of (next ++ tail_text (count_after count) words) ≡ next ∷ words → words_of (word ++ ((cond v (32 ∷ 32 ∷ []) (32 ∷ []) ++ next) ++ tail_text (count_after count) words)) ≡ word ∷ next ∷ words
   by true h = past (32 ∷ (next ++ tail_text (count_after count) words)) ∙ ap (λ (ws : List (List ℕ)). word ∷ ws) h
@@ -67,7 +67,7 @@ byte_cr b h = let low = h.above in not_byte b 13 (λ e. absurd (omega arith))
 pub byte_equals : (b : ℕ) → IsNameByte b → (b == 61) ≡ false
 byte_equals b h = not_byte b 61 h.other
 
-pub byte_text : (b : ℕ) → IsNameByte b → is_text b ≡ true
+pub byte_text : (b : ℕ) → IsNameByte b → is_text_byte b ≡ true
 byte_text b h = (λ i. (le-leb 32 b (let low = h.above in omega arith) i && le-leb b 126 h.below i) || ((b == 9) || ((b == 10) || (b == 13))))
 
 lower_byte : (b : ℕ) → IsNameByte b → IsNameByte (to_ascii_lowercase b)
@@ -90,7 +90,7 @@ lower_name name h = record { some = lower_length name h.some; bytes = all_mapped
 pub lower_names : (names : List (List ℕ)) → AllByRecursion IsName names → AllByRecursion IsName (map lower names)
 lower_names names h = all_mapped lower IsName IsName lower_name names h
 
-some_word : (name : List ℕ) → 0 < length name → is_word name ≡ true
+some_word : (name : List ℕ) → 0 < length name → is_nonempty name ≡ true
 some_word [] h = absurd (omega arith)
 some_word (b ∷ name) h = refl
 

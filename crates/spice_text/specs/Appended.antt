@@ -5,6 +5,7 @@ use Rattle.netlist.specs.declared.deck.Deck.{Deck}
 use Rattle.netlist.specs.declared.deck.Subckt.{Subckt}
 use Rattle.spice_text.specs.Lines.{is_lf}
 use Rattle.spice_text.specs.Words.{is_among}
+use Rattle.spice_text.specs.Subcircuits.{name_of}
 use Rattle.spice_text.specs.Deck.{deck}
 use Rattle.spice_text.specs.WrittenText.{deck_text}
 use Rattle.spice_text.specs.Writable.{AreWritable, subckt_name, lowered_subckt}
@@ -14,9 +15,6 @@ abbrev pub with_lf : List ℕ → List ℕ
 with_lf [] = []
 with_lf (b ∷ []) = if is_lf b then b ∷ [] else b ∷ 10 ∷ []
 with_lf (b ∷ c ∷ bytes) = b ∷ with_lf (c ∷ bytes)
-
-abbrev pub name_of : Subckt → List ℕ
-name_of s = s.name
 
 -- no name of these is one of those, without regard to case
 abbrev pub AreNew : List Subckt → List Subckt → Type 0

@@ -3,17 +3,17 @@ use Rattle.std.specs.Prelude.{◌≡◌, Result, Ok, Err}
 use Rattle.spice_text.specs.declared.fault.SpiceFault.{SpiceFault}
 use Rattle.spice_text.specs.declared.fault.SpiceFault.TheVariants as fault
 
--- the fault is the one that is given, or want of memory
-abbrev pub IsFault : {Y : Type 0} → SpiceFault → Result Y SpiceFault → Type 0
-IsFault fault.Memory given = Unit {0}
-IsFault (fault.NotAscii place) given = given ≡ Err (fault.NotAscii place)
-IsFault (fault.OutsideSubckt line) given = given ≡ Err (fault.OutsideSubckt line)
-IsFault (fault.Unclosed line) given = given ≡ Err (fault.Unclosed line)
-IsFault (fault.Duplicate line) given = given ≡ Err (fault.Duplicate line)
-IsFault (fault.Refused line) given = given ≡ Err (fault.Refused line)
-IsFault (fault.BadLine line) given = given ≡ Err (fault.BadLine line)
+-- the fault is the one that is given, or out of memory
+abbrev pub IsSpiceFault : {Y : Type 0} → SpiceFault → Result Y SpiceFault → Type 0
+IsSpiceFault fault.Memory given = Unit {0}
+IsSpiceFault (fault.NotAscii at) given = given ≡ Err (fault.NotAscii at)
+IsSpiceFault (fault.OutsideSubckt line) given = given ≡ Err (fault.OutsideSubckt line)
+IsSpiceFault (fault.Unclosed line) given = given ≡ Err (fault.Unclosed line)
+IsSpiceFault (fault.Duplicate line) given = given ≡ Err (fault.Duplicate line)
+IsSpiceFault (fault.Refused line) given = given ≡ Err (fault.Refused line)
+IsSpiceFault (fault.BadLine line) given = given ≡ Err (fault.BadLine line)
 
--- a function returned what is given here, or want of memory
-abbrev pub Gives : {X : Type 0} → Result X SpiceFault → Result X SpiceFault → Type 0
-Gives (Ok x) given = given ≡ Ok x
-Gives (Err f) given = IsFault f given
+-- a function returned what stands for what is given here, or ran out of memory
+abbrev pub IsSpiceAnswer : {X Y : Type 0} → (X → Y) → Result X SpiceFault → Result Y SpiceFault → Type 0
+IsSpiceAnswer view (Ok x) given = given ≡ Ok (view x)
+IsSpiceAnswer view (Err f) given = IsSpiceFault f given

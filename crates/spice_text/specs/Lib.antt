@@ -14,3 +14,4 @@ pub mod ReadBack
 pub mod Appended
 pub mod ReadDecks
 pub mod Views
+pub mod ReaderViews

@@ -2,7 +2,7 @@
 use Rattle.std.specs.Prelude.{ℕ, ◌+◌, List, [], ◌∷◌, length, Bool, ◌==◌, if◌then◌else◌}
 
 -- a line, with its number and how many bytes stand before it
-pub record Line : Type 0 where
+pub record TextLine : Type 0 where
   pub number : ℕ
   pub before : ℕ
   pub text : List ℕ
@@ -27,11 +27,11 @@ without_cr (b ∷ []) = if b == 13 then [] else b ∷ []
 without_cr (b ∷ c ∷ bytes) = b ∷ without_cr (c ∷ bytes)
 
 -- the lines of these pieces, of which the first has this number, after so many bytes
-abbrev pub numbered : ℕ → ℕ → List (List ℕ) → List Line
-numbered number before [] = []
-numbered number before (piece ∷ pieces) =
-    record { number = number; before = before; text = without_cr piece } ∷ numbered (number + 1) (before + length piece + 1) pieces
+abbrev pub numbered_lines : ℕ → ℕ → List (List ℕ) → List TextLine
+numbered_lines number before [] = []
+numbered_lines number before (piece ∷ pieces) =
+    record { number = number; before = before; text = without_cr piece } ∷ numbered_lines (number + 1) (before + length piece + 1) pieces
 
 -- lines end by LF or CRLF, the last one by the end of the text or a CR there
-abbrev pub lines_of : List ℕ → List Line
-lines_of bytes = numbered 1 0 (pieces is_lf bytes)
+abbrev pub lines_of : List ℕ → List TextLine
+lines_of bytes = numbered_lines 1 0 (pieces is_lf bytes)

@@ -6,13 +6,13 @@ use Rattle.std.specs.Str.{bytes_eq}
 use Rattle.spice_text.specs.Lines.{pieces}
 use Rattle.spice_text.specs.LogicalLines.{is_blank}
 
-abbrev pub is_word : List ℕ → Bool
-is_word [] = false
-is_word (b ∷ bytes) = true
+abbrev pub is_nonempty : List ℕ → Bool
+is_nonempty [] = false
+is_nonempty (b ∷ bytes) = true
 
 -- what stands between spaces and tabs
 abbrev pub words_of : List ℕ → List (List ℕ)
-words_of text = filter is_word (pieces is_blank text)
+words_of text = filter is_nonempty (pieces is_blank text)
 
 -- with the letters in lower case
 abbrev pub lower : List ℕ → List ℕ
@@ -32,9 +32,9 @@ but_last [] = []
 but_last (word ∷ []) = []
 but_last (word ∷ next ∷ words) = word ∷ but_last (next ∷ words)
 
-abbrev pub last_of : List ℕ → List (List ℕ) → List ℕ
-last_of word [] = word
-last_of word (next ∷ words) = last_of next words
+abbrev pub last_word : List ℕ → List (List ℕ) → List ℕ
+last_word word [] = word
+last_word word (next ∷ words) = last_word next words
 
 -- whether a name is one of these
 abbrev pub is_among : List ℕ → List (List ℕ) → Bool

@@ -35,7 +35,7 @@ pub record IsWritableInstance (i : Instance) : Type 0 where
 abbrev pub instance_name : Instance → List ℕ
 instance_name i = lower i.name
 
-pub record IsWritable (s : Subckt) : Type 0 where
+pub record IsWritableSubckt (s : Subckt) : Type 0 where
   pub name : IsName s.name
   pub ports : AllByRecursion IsName s.ports
   pub ports_differ : Differ (map lower s.ports)
@@ -48,7 +48,7 @@ subckt_name s = lower s.name
 
 -- without regard to case, names differ
 pub record AreWritable (subckts : List Subckt) : Type 0 where
-  pub each : AllByRecursion IsWritable subckts
+  pub each : AllByRecursion IsWritableSubckt subckts
   pub differ : Differ (map subckt_name subckts)
 
 -- the same with names in lower case

@@ -3,7 +3,7 @@ use Rattle.std.specs.Prelude.{ℕ, List, [], ◌∷◌, Bool, true, false, ◌&&
 use Rattle.std.specs.List.{list_all}
 use Rattle.netlist.specs.declared.deck.Subckt.{Subckt}
 use Rattle.netlist.specs.declared.deck.Instance.{Instance}
-use Rattle.spice_text.specs.Words.{is_word, lower}
+use Rattle.spice_text.specs.Words.{is_nonempty, lower}
 use Rattle.spice_text.specs.Subcircuits.{has_repeat}
 use Rattle.spice_text.specs.Writable.{instance_name, subckt_name}
 
@@ -11,7 +11,7 @@ abbrev pub is_name_byte : ℕ → Bool
 is_name_byte b = nat_le 33 b && (nat_le b 126 && not (b == 61))
 
 abbrev pub is_name : List ℕ → Bool
-is_name name = is_word name && list_all is_name_byte name
+is_name name = is_nonempty name && list_all is_name_byte name
 
 abbrev pub begins_with_x : List ℕ → Bool
 begins_with_x [] = false

@@ -17,20 +17,20 @@ words_text count [] = 10 ∷ []
 words_text count (word ∷ words) = (gap count ++ word) ++ words_text (count_after count) words
 
 -- a line of these words: twelve of them, and each further twelve, or what is left, on a line that begins with `+ `
-abbrev pub line_text : List (List ℕ) → List ℕ
-line_text words = words_text 0 words
+abbrev pub statement_text : List (List ℕ) → List ℕ
+statement_text words = words_text 0 words
 
 abbrev pub instance_words : Instance → List (List ℕ)
 instance_words i = i.name ∷ (i.nodes ++ i.of ∷ [])
 
 abbrev pub instance_text : Instance → List ℕ
-instance_text i = line_text (instance_words i)
+instance_text i = statement_text (instance_words i)
 
 abbrev pub begin_text : Subckt → List ℕ
-begin_text s = line_text (codes ".SUBCKT" ∷ s.name ∷ s.ports)
+begin_text s = statement_text (codes ".SUBCKT" ∷ s.name ∷ s.ports)
 
 abbrev pub end_text : Subckt → List ℕ
-end_text s = line_text (codes ".ENDS" ∷ s.name ∷ [])
+end_text s = statement_text (codes ".ENDS" ∷ s.name ∷ [])
 
 abbrev pub subckt_text : Subckt → List ℕ
 subckt_text s = begin_text s ++ (flat_map instance_text s.instances ++ end_text s)

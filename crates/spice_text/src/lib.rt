@@ -6,7 +6,7 @@ mod laws;
 mod line;
 mod line_writer;
 mod logical;
-mod names;
+mod name_set;
 mod read;
 mod reading;
 mod source;

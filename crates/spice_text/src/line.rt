@@ -2,13 +2,13 @@ ghost use Rattle.std.specs.Prelude.{◌≡◌, ◌<◌, ◌≤◌, length, Match
 ghost use Rattle.std.specs.List.{position_or_len, list_all};
 ghost use Rattle.spice_text.specs.Lines.{is_lf, without_cr};
 ghost use Rattle.spice_text.specs.LogicalLines.{is_blank, counts};
-ghost use Rattle.spice_text.specs.Views.{line_of, lines_after, kept};
+ghost use Rattle.spice_text.specs.Views.{line_of, lines_after, kept_line};
 
 use crate::source::Source;
 
 /// A line, as it stands in the text.
 #[derive(Clone, Copy)]
-pub struct Line<'a> {
+pub struct SourceLine<'a> {
     /// Its number, from 1.
     pub number: u64,
     /// How many bytes stand before it.
@@ -28,7 +28,7 @@ fn line_length(text: &[u8]) -> usize
     ensures { result ≡ position_or_len is_lf text.now }
 {
     match first_end(text) {
-        Some(place) => place,
+        Some(index) => index,
         None => text.len(),
     }
 }
@@ -47,15 +47,15 @@ fn without_return(text: &[u8]) -> &[u8]
 }
 
 /// Cuts the first line off.
-fn cut_line(source: Source<'_>) -> (Line<'_>, Source<'_>)
+fn cut_line(source: Source<'_>) -> (SourceLine<'_>, Source<'_>)
     requires { 0 < length source.rest.now }
-    ensures parts { lines_after source.entry ≡ kept (line_of result.0) (lines_after result.1) }
+    ensures parts { lines_after source.entry ≡ kept_line (line_of result.0) (lines_after result.1) }
     ensures shorter { length result.1.rest.now < length source.entry.rest.now }
 {
     let length = line_length(source.rest);
     let (text, after) = source.rest.split_at(length);
     let lines = source.lines + 1;
-    let line = Line {
+    let line = SourceLine {
         number: lines,
         before: source.before,
         text: without_return(text),
@@ -88,7 +88,7 @@ fn is_space(text: &[u8]) -> bool
 }
 
 /// Whether a line is neither blank nor a comment.
-fn is_counted(line: Line<'_>) -> bool
+fn is_counted(line: SourceLine<'_>) -> bool
     ensures { result ≡ counts (line_of line.entry) }
 {
     match line.text {
@@ -98,7 +98,7 @@ fn is_counted(line: Line<'_>) -> bool
 }
 
 /// The next line that is neither blank nor a comment, and what follows it.
-pub fn next_line(source: Source<'_>) -> Option<(Line<'_>, Source<'_>)>
+pub fn next_line(source: Source<'_>) -> Option<(SourceLine<'_>, Source<'_>)>
     ensures next { MatchOption result (lines_after source.entry ≡ []) (λ p. lines_after source.entry ≡ line_of p.0 ∷ lines_after p.1) }
     ensures shorter { IfSome result (λ p. length p.1.rest.now < length source.entry.rest.now) }
 {

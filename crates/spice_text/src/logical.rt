@@ -2,7 +2,7 @@ ghost use Rattle.std.specs.Prelude.{◌≡◌, ◌<◌, length, MatchOption, IfO
 ghost use Rattle.spice_text.specs.LogicalLines.{continues, join, joined};
 ghost use Rattle.spice_text.specs.Views.{line_of, logical_of, lines_after};
 
-use crate::line::{Line, next_line};
+use crate::line::{SourceLine, next_line};
 use crate::source::Source;
 use or_geom::Memory;
 use std::alloc::Global;
@@ -17,7 +17,7 @@ pub struct LogicalLine {
     pub text: Vec<u8>,
 }
 
-fn is_continuation(line: Line<'_>) -> bool
+fn is_continuation(line: SourceLine<'_>) -> bool
     ensures { result ≡ continues (line_of line.entry) }
 {
     match line.text {
@@ -26,7 +26,7 @@ fn is_continuation(line: Line<'_>) -> bool
     }
 }
 
-fn begun(alloc: Global, line: Line<'_>) -> Result<LogicalLine, Memory>
+fn begun(alloc: Global, line: SourceLine<'_>) -> Result<LogicalLine, Memory>
     ensures { IfOk result (λ logical. logical_of logical ≡ line_of line.entry) }
 {
     let text = Vec::from_slice(alloc, line.text)?;
@@ -38,7 +38,7 @@ fn begun(alloc: Global, line: Line<'_>) -> Result<LogicalLine, Memory>
 }
 
 /// Joins a `+` line on: one space stands in place of the line's end and the `+`.
-fn continued(logical: LogicalLine, line: Line<'_>) -> Result<LogicalLine, Memory>
+fn continued(logical: LogicalLine, line: SourceLine<'_>) -> Result<LogicalLine, Memory>
     ensures { IfOk result (λ longer. logical_of longer ≡ joined (logical_of logical) (line_of line.entry)) }
 {
     let mut text = logical.text;

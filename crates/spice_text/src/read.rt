@@ -1,14 +1,15 @@
 ghost use Rattle.std.specs.Prelude.{◌≡◌, None, not, position, length, filter, Ok, IfOk, IfErr};
-ghost use Rattle.spice_text.specs.Deck.{deck, deck_after, start, finished, is_text};
+ghost use Rattle.spice_text.specs.Deck.{deck, deck_after, start, finished, is_text_byte};
 ghost use Rattle.spice_text.specs.Steps.{stops};
-ghost use Rattle.spice_text.specs.Faults.{Gives, IsFault};
+ghost use Rattle.spice_text.specs.Faults.{IsSpiceAnswer, IsSpiceFault};
 ghost use Rattle.spice_text.specs.LogicalLines.{counts, logical_lines};
 ghost use Rattle.spice_text.specs.Lines.{lines_of};
 ghost use Rattle.spice_text.specs.Views.{lines_after};
+ghost use Rattle.spice_text.specs.ReaderViews.{said, current_of};
 
 use crate::fault::SpiceFault;
 use crate::logical::next_logical;
-use crate::names::Names;
+use crate::name_set::NameSet;
 use crate::reading::read_line;
 use crate::source::Source;
 use crate::statement::{Statement, read_statement};
@@ -19,20 +20,20 @@ use std::alloc::Global;
 
 /// The first byte that no text has.
 fn first_foreign(bytes: &[u8]) -> Option<usize>
-    ensures { result ≡ position (λ b. not (is_text b)) bytes.now }
+    ensures { result ≡ position (λ b. not (is_text_byte b)) bytes.now }
 {
     bytes.iter().position(|b| !is_plain(*b))
 }
 
 fn is_plain(byte: u8) -> bool
-    ensures { result ≡ is_text byte }
+    ensures { result ≡ is_text_byte byte }
 {
     (32 <= byte && byte <= 126) || byte == b'\t' || byte == b'\n' || byte == b'\r'
 }
 
 /// Whether a line that says this ends the text.
 fn is_stop(reading: &Reading, statement: &Statement) -> bool
-    ensures { result ≡ stops reading.now.current statement.now }
+    ensures { result ≡ stops (current_of reading.now.current) (said statement.now) }
 {
     if reading.current.is_some() {
         return false;
@@ -45,7 +46,7 @@ fn is_stop(reading: &Reading, statement: &Statement) -> bool
 
 /// What was read, where the text ends after so many bytes.
 fn finish(reading: Reading, used: u64) -> Result<Deck, SpiceFault>
-    ensures { Gives result (finished used reading.done reading.current) }
+    ensures { IsSpiceAnswer (λ d. d) result (finished used reading.done (current_of reading.current)) }
 {
     match reading.current {
         None => Ok(Deck {
@@ -69,11 +70,11 @@ fn whole(bytes: &[u8]) -> Source<'_>
 
 /// The subcircuits of a text without foreign bytes.
 fn read_lines(alloc: Global, bytes: &[u8]) -> Result<Deck, SpiceFault>
-    ensures { Gives result (deck_after (length bytes.now) start (logical_lines (lines_of bytes.now))) }
+    ensures { IsSpiceAnswer (λ d. d) result (deck_after (length bytes.now) start (logical_lines (lines_of bytes.now))) }
 {
     let mut reading = Reading {
         done: Items::new(alloc),
-        names: Names::new(alloc),
+        names: NameSet::new(alloc),
         current: None,
     };
     let mut left = whole(bytes);
@@ -96,13 +97,13 @@ fn read_lines(alloc: Global, bytes: &[u8]) -> Result<Deck, SpiceFault>
 /// with all after it. Outside subcircuits `.END` ends the text, and other commands are ignored.
 ///
 /// A text that is no deck is refused by its first byte that isn't ASCII text, and else by the first line that breaks
-/// these rules. `Memory` stands for want of memory, whatever the text is.
+/// these rules. `Memory` says that memory ran out, whatever the text is.
 pub fn read_spice(alloc: Global, bytes: &[u8]) -> Result<Deck, SpiceFault>
     ensures read { IfOk result (λ read. deck bytes.now ≡ Ok read) }
-    ensures refused { IfErr result (λ fault. IsFault fault (deck bytes.now)) }
+    ensures refused { IfErr result (λ fault. IsSpiceFault fault (deck bytes.now)) }
 {
-    if let Some(place) = first_foreign(bytes) {
-        return Err(SpiceFault::NotAscii { at: place as u64 });
+    if let Some(index) = first_foreign(bytes) {
+        return Err(SpiceFault::NotAscii { at: index as u64 });
     }
     read_lines(alloc, bytes)
 }

@@ -1,12 +1,13 @@
 ghost use Rattle.std.specs.Prelude.{◌≡◌, ◌∷◌, ◌++◌, [], None, IfOk, MatchOption, Ok};
 ghost use Rattle.spice_text.specs.Views.{logical_of};
-ghost use Rattle.spice_text.specs.Subcircuits.{has_repeat, begun, placed, kept_raw, closed_by, closed, with_current};
+ghost use Rattle.spice_text.specs.ReaderViews.{said, begun_of, so_far};
+ghost use Rattle.spice_text.specs.Subcircuits.{has_repeat, begun, instance_added, kept_raw, closed_by, with_closed, with_current};
 ghost use Rattle.spice_text.specs.Steps.{outside, inside, step};
-ghost use Rattle.spice_text.specs.Faults.{Gives};
+ghost use Rattle.spice_text.specs.Faults.{IsSpiceAnswer};
 
 use crate::fault::SpiceFault;
 use crate::logical::LogicalLine;
-use crate::names::Names;
+use crate::name_set::NameSet;
 use crate::statement::{Statement, first_and_others};
 use crate::subcircuit::{OpenSubckt, Reading};
 use netlist::{Instance, Subckt};
@@ -17,7 +18,7 @@ use std::alloc::Global;
 fn repeats(alloc: Global, names: &[Name]) -> Result<bool, Memory>
     ensures { IfOk result (λ repeats. repeats ≡ has_repeat [] names.now) }
 {
-    let mut seen = Names::new(alloc);
+    let mut seen = NameSet::new(alloc);
     for name in names {
         if !seen.add(alloc, name.as_bytes())? {
             return Ok(true);
@@ -33,17 +34,13 @@ fn begin(
     line: u64,
     words: Items<Name>,
 ) -> Result<Reading, SpiceFault>
-    ensures { Gives result (begun reading line words) }
+    ensures { IsSpiceAnswer so_far result (begun reading.done line words) }
 {
     let Some((name, ports)) = first_and_others(words.into_vec()) else {
         return Err(SpiceFault::BadLine { line });
     };
-    let Reading {
-        done,
-        mut names,
-        ..
-    } = reading;
-    if !names.add(alloc, name.as_bytes())? {
+    let Reading { done, names, .. } = reading;
+    if names.holds(name.as_bytes()) {
         return Err(SpiceFault::Duplicate { line });
     }
     if repeats(alloc, ports.as_slice())? {
@@ -58,7 +55,7 @@ fn begin(
     let current = OpenSubckt {
         line,
         subckt,
-        instances: Names::new(alloc),
+        instances: NameSet::new(alloc),
     };
     Ok(Reading {
         done,
@@ -68,13 +65,13 @@ fn begin(
 }
 
 /// An instance with these words.
-fn place(
+fn add_instance(
     alloc: Global,
     current: OpenSubckt,
     line: u64,
     words: Items<Name>,
 ) -> Result<OpenSubckt, SpiceFault>
-    ensures { Gives result (placed current line words) }
+    ensures { IsSpiceAnswer begun_of result (instance_added (begun_of current) line words) }
 {
     let Some((name, others)) = first_and_others(words.into_vec()) else {
         return Err(SpiceFault::BadLine { line });
@@ -83,8 +80,13 @@ fn place(
     let Some(of) = nodes.pop() else {
         return Err(SpiceFault::BadLine { line });
     };
-    let mut current = current;
-    if !current.instances.add(alloc, name.as_bytes())? {
+    let OpenSubckt {
+        line: begun,
+        mut subckt,
+        mut instances,
+        ..
+    } = current;
+    if !instances.add(alloc, name.as_bytes())? {
         return Err(SpiceFault::Duplicate { line });
     }
     let instance = Instance {
@@ -92,13 +94,17 @@ fn place(
         nodes: Items::from_vec(nodes),
         of,
     };
-    current.subckt.instances.push(instance)?;
-    Ok(current)
+    subckt.instances.push(instance)?;
+    Ok(OpenSubckt {
+        line: begun,
+        subckt,
+        instances,
+    })
 }
 
 /// A line that has no meaning here.
 fn keep_raw(alloc: Global, current: OpenSubckt, text: &[u8]) -> Result<OpenSubckt, SpiceFault>
-    ensures { Gives result (Ok (kept_raw current text.now)) }
+    ensures { IsSpiceAnswer begun_of result (Ok (kept_raw (begun_of current) text.now)) }
 {
     let mut current = current;
     current.subckt.raw.push(Name::from_bytes(alloc, text)?)?;
@@ -117,7 +123,7 @@ fn closes(words: &[Name], name: &[u8]) -> bool
 
 /// The reading goes on in this subcircuit.
 fn with_open(reading: Reading, current: OpenSubckt) -> Reading
-    ensures { result ≡ with_current reading current }
+    ensures { so_far result ≡ with_current (so_far reading) (begun_of current) }
 {
     Reading {
         done: reading.done,
@@ -127,14 +133,20 @@ fn with_open(reading: Reading, current: OpenSubckt) -> Reading
 }
 
 /// The subcircuit is done.
-fn close(reading: Reading, current: OpenSubckt) -> Result<Reading, SpiceFault>
-    ensures { Gives result (Ok (closed reading current)) }
+fn close(alloc: Global, reading: Reading, current: OpenSubckt) -> Result<Reading, SpiceFault>
+    ensures { IsSpiceAnswer so_far result (Ok (with_closed (so_far reading) (begun_of current))) }
 {
-    let mut done = reading.done;
-    done.push(current.subckt)?;
+    let Reading {
+        mut done,
+        mut names,
+        ..
+    } = reading;
+    let subckt = current.subckt;
+    names.add(alloc, subckt.name.as_bytes())?;
+    done.push(subckt)?;
     Ok(Reading {
         done,
-        names: reading.names,
+        names,
         current: None,
     })
 }
@@ -146,7 +158,7 @@ fn read_outside(
     line: u64,
     statement: Statement,
 ) -> Result<Reading, SpiceFault>
-    ensures { Gives result (outside reading line statement) }
+    ensures { IsSpiceAnswer so_far result (outside (so_far reading) line (said statement)) }
 {
     match statement {
         Statement::Refused => Err(SpiceFault::Refused { line }),
@@ -166,7 +178,7 @@ fn read_inside(
     line: LogicalLine,
     statement: Statement,
 ) -> Result<Reading, SpiceFault>
-    ensures { Gives result (inside reading current (logical_of line) statement) }
+    ensures { IsSpiceAnswer so_far result (inside (so_far reading) (begun_of current) (logical_of line) (said statement)) }
 {
     let number = line.number;
     match statement {
@@ -176,11 +188,11 @@ fn read_inside(
             if !closes(words.as_slice(), current.subckt.name.as_bytes()) {
                 return Err(SpiceFault::Unclosed { line: number });
             }
-            close(reading, current)
+            close(alloc, reading, current)
         }
         Statement::Continuation => Err(SpiceFault::BadLine { line: number }),
         Statement::Instance(words) => {
-            let current = place(alloc, current, number, words)?;
+            let current = add_instance(alloc, current, number, words)?;
             Ok(with_open(reading, current))
         }
         Statement::Stop | Statement::Command | Statement::Other => {
@@ -197,10 +209,19 @@ pub fn read_line(
     line: LogicalLine,
     statement: Statement,
 ) -> Result<Reading, SpiceFault>
-    ensures { Gives result (step reading (logical_of line) statement) }
+    ensures { IsSpiceAnswer so_far result (step (so_far reading) (logical_of line) (said statement)) }
 {
-    let mut reading = reading;
-    match reading.current.take() {
+    let Reading {
+        done,
+        names,
+        current,
+    } = reading;
+    let reading = Reading {
+        done,
+        names,
+        current: None,
+    };
+    match current {
         None => read_outside(alloc, reading, line.number, statement),
         Some(current) => read_inside(alloc, reading, current, line, statement),
     }

@@ -1,7 +1,8 @@
 ghost use Rattle.std.specs.Prelude.{◌≡◌, ◌∷◌, [], take, IfOk, MatchOption};
 ghost use Rattle.std.specs.List.{list_any};
 ghost use Rattle.spice_text.specs.Words.{before_assignment, is_assignment};
-ghost use Rattle.spice_text.specs.Statements.{keyword_of, meaning_of, statement_of};
+ghost use Rattle.spice_text.specs.Statements.{meaning_of, statement_of};
+ghost use Rattle.spice_text.specs.ReaderViews.{keyword_of, said};
 
 use crate::words::{lowered, words_in};
 use or_geom::{Items, Memory, Name};
@@ -45,10 +46,7 @@ pub enum Statement {
 fn read_keyword(word: &[u8]) -> Keyword
     ensures { result ≡ keyword_of word.now }
 {
-    if word == b".global".as_slice() {
-        return Keyword::Refused;
-    }
-    if word == b".include".as_slice() {
+    if word == b".global".as_slice() || word == b".include".as_slice() {
         return Keyword::Refused;
     }
     if word == b".subckt".as_slice() {
@@ -77,9 +75,9 @@ fn holds_equals(word: &[u8]) -> bool
 fn plain_count(words: &[Name]) -> usize
     ensures { take result words.now ≡ before_assignment words.now }
 {
-    for (place, word) in words.iter().enumerate() {
+    for (index, word) in words.iter().enumerate() {
         if holds_equals(word.as_bytes()) {
-            return place;
+            return index;
         }
     }
     words.len()
@@ -109,7 +107,7 @@ pub fn first_and_others(words: Vec<Name>) -> Option<(Name, Vec<Name>)>
 
 /// What a line of these words says.
 fn statement_in(words: Vec<Name>) -> Statement
-    ensures { result ≡ meaning_of words.items }
+    ensures { said result ≡ meaning_of words.items }
 {
     let keyword = match words.first() {
         Some(first) => read_keyword(first.as_bytes()),
@@ -136,7 +134,7 @@ fn statement_in(words: Vec<Name>) -> Statement
 
 /// What a logical line says, read without regard to case.
 pub fn read_statement(alloc: Global, text: &[u8]) -> Result<Statement, Memory>
-    ensures { IfOk result (λ statement. statement ≡ statement_of text.now) }
+    ensures { IfOk result (λ statement. said statement ≡ statement_of text.now) }
 {
     if let [b'+', ..] = text {
         return Ok(Statement::Continuation);

@@ -1,4 +1,8 @@
-use crate::names::Names;
+ghost use Rattle.std.specs.Prelude.{◌≡◌, List, ℕ, map};
+ghost use Rattle.spice_text.specs.Words.{is_among};
+ghost use Rattle.spice_text.specs.Subcircuits.{name_of, own_name};
+
+use crate::name_set::NameSet;
 use netlist::Subckt;
 use or_geom::Items;
 
@@ -8,15 +12,17 @@ pub struct OpenSubckt {
     /// The number of the line with its `.SUBCKT`.
     pub line: u64,
     pub subckt: Subckt,
-    /// The names of its instances.
-    pub instances: Names,
+    /// The names of its instances, so that a name that stands twice is found at once.
+    pub instances: NameSet,
+    pub ghost named: { instances ≡ map own_name subckt.instances },
 }
 
 /// What the lines so far gave.
 #[derive(Drop)]
 pub struct Reading {
     pub done: Items<Subckt>,
-    /// The names of all subcircuits that began.
-    pub names: Names,
+    /// The names of the subcircuits that are done.
+    pub names: NameSet,
     pub current: Option<OpenSubckt>,
+    pub ghost named: { (name : List ℕ) → is_among name names ≡ is_among name (map name_of done) },
 }

@@ -34,7 +34,7 @@ fn word_length(text: &[u8]) -> usize
     ensures { result ≡ position_or_len is_blank text.now }
 {
     match first_space(text) {
-        Some(place) => place,
+        Some(index) => index,
         None => text.len(),
     }
 }

@@ -5,7 +5,7 @@ ghost use Rattle.spice_text.specs.Subcircuits.{has_repeat};
 ghost use Rattle.spice_text.specs.Writable.{instance_name, subckt_name, AreWritable};
 ghost use Rattle.spice_text.specs.WritableTests as test;
 
-use crate::names::Names;
+use crate::name_set::NameSet;
 use crate::words::lowered;
 use netlist::{Instance, Subckt};
 use or_geom::{Memory, Name};
@@ -75,7 +75,7 @@ fn has_only_names(subckt: &Subckt) -> bool
 }
 
 /// Adds a name in lower case, and says whether it is new.
-fn add_name(alloc: Global, seen: &mut Names, name: &Name) -> Result<bool, Memory>
+fn add_name(alloc: Global, seen: &mut NameSet, name: &Name) -> Result<bool, Memory>
     ensures new { IfOk result (λ new. new ≡ not (is_among (lower name.now) seen.old)) }
     ensures names { OnOk result (seen.new ≡ with_name seen.old (lower name.now)) }
 {
@@ -87,7 +87,7 @@ fn add_name(alloc: Global, seen: &mut Names, name: &Name) -> Result<bool, Memory
 fn names_repeat(alloc: Global, names: &[Name]) -> Result<bool, Memory>
     ensures { IfOk result (λ repeats. repeats ≡ has_repeat [] (map lower names.now)) }
 {
-    let mut seen = Names::new(alloc);
+    let mut seen = NameSet::new(alloc);
     for name in names {
         if !add_name(alloc, &mut seen, name)? {
             return Ok(true);
@@ -100,7 +100,7 @@ fn names_repeat(alloc: Global, names: &[Name]) -> Result<bool, Memory>
 fn instances_repeat(alloc: Global, instances: &[Instance]) -> Result<bool, Memory>
     ensures { IfOk result (λ repeats. repeats ≡ has_repeat [] (map instance_name instances.now)) }
 {
-    let mut seen = Names::new(alloc);
+    let mut seen = NameSet::new(alloc);
     for instance in instances {
         if !add_name(alloc, &mut seen, &instance.name)? {
             return Ok(true);
@@ -113,7 +113,7 @@ fn instances_repeat(alloc: Global, instances: &[Instance]) -> Result<bool, Memor
 fn subckts_repeat(alloc: Global, subckts: &[Subckt]) -> Result<bool, Memory>
     ensures { IfOk result (λ repeats. repeats ≡ has_repeat [] (map subckt_name subckts.now)) }
 {
-    let mut seen = Names::new(alloc);
+    let mut seen = NameSet::new(alloc);
     for subckt in subckts {
         if !add_name(alloc, &mut seen, &subckt.name)? {
             return Ok(true);

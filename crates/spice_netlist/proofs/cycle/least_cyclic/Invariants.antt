@@ -3,5 +3,5 @@ use Rattle.spice_netlist.proofs.LeastLaws.{IsBelow}
 use Rattle.spice_netlist.proofs.MissingLaws.{IsMarkedAt}
 use Rattle.spice_netlist.proofs.cycle.least_cyclic.Given as goal
 
-abbrev pub invariant-loop-place : goal.invariant-loop-place
-invariant-loop-place l = IsLeastOf (IsBelow (IsMarkedAt l.blocks l.marks.items) l.place) l.found
+abbrev pub invariant-loop-index : goal.invariant-loop-index
+invariant-loop-index l = IsLeastOf (IsBelow (IsMarkedAt l.subckts l.marks.items) l.index) l.found

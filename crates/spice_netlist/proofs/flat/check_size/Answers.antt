@@ -4,45 +4,40 @@ use Rattle.spice_netlist.specs.declared.size.Size.{Size}
 use Rattle.spice_netlist.specs.Resolved.{ports_at}
 use Rattle.spice_netlist.specs.Walk.{walk_at, leaf_count}
 use Rattle.spice_netlist.specs.Pins.{pins_of}
-use Rattle.spice_netlist.specs.Sizes.{size_of}
-use Rattle.spice_netlist.proofs.FlatLaws.{top_known, at_top, rows_long}
+use Rattle.spice_netlist.specs.Sizes.{walk_size}
+use Rattle.spice_netlist.proofs.FlatLaws.{top_known, top_size, rows_long}
 use Rattle.spice_netlist.proofs.flat.check_size.Goals as goal
 
 pub entry-size-requires : goal.entry-size-requires
 entry-size-requires c =
-    let known = top_known (λ place. size_of c.args.blocks.now (walk_at c.args.blocks.now place)) c.args.blocks.now c.args.order.now c.in_ok-sizes.sizes.items c.args.top c.requires.order c.in_ok-sizes.ensures in
+    let known = top_known (λ index. walk_size c.args.subckts.now (walk_at c.args.subckts.now index)) c.args.subckts.now c.args.order.now c.in_ok-sizes.sizes.items c.args.top c.requires.order c.in_ok-sizes.ensures in
     subst (λ (table : List Size). c.args.top < length table) (sym c.deref.ensures.value) known.within
 
 pub returns-then-size-gt-MOST_LEAVES : goal.returns-then-size-gt-MOST_LEAVES
 returns-then-size-gt-MOST_LEAVES c =
-    let known = top_known (λ place. size_of c.args.blocks.now (walk_at c.args.blocks.now place)) c.args.blocks.now c.args.order.now c.in_ok-sizes.sizes.items c.args.top c.requires.order c.in_ok-sizes.ensures in
-    let at : c.entry-size.result.now ≡ size_of c.args.blocks.now (walk_at c.args.blocks.now c.args.top) = at_top _ _ _ c.args.top c.entry-size.result.now _ known c.deref.ensures.value (c.entry-size.ensures c.entry-size.result.now) in
-    let leaves : c.entry-size.result.now.leaves ≡ min (leaf_count c.args.blocks.now (walk_at c.args.blocks.now c.args.top)) (2 ^ 20 + 1) = ap (λ (s : Size). s.leaves) at in
+    let known = top_known (λ index. walk_size c.args.subckts.now (walk_at c.args.subckts.now index)) c.args.subckts.now c.args.order.now c.in_ok-sizes.sizes.items c.args.top c.requires.order c.in_ok-sizes.ensures in
+    let size = top_size c.args.subckts.now c.in_ok-sizes.sizes.items _ c.args.top c.entry-size.result.now known c.deref.ensures.value (c.entry-size.ensures c.entry-size.result.now) in
     let many = c.if-size-gt-MOST_LEAVES.true in
-    (c.requires.hierarchy, c.requires.good, record { either = inl (omega (arith, leaves, many), refl) })
+    (c.requires.hierarchy, c.requires.good, record { either = inl (omega (arith, size.leaves, many), refl) })
 
 pub returns-then-saturating_add-gt-MOST_PINS : goal.returns-then-saturating_add-gt-MOST_PINS
 returns-then-saturating_add-gt-MOST_PINS c =
-    let known = top_known (λ place. size_of c.args.blocks.now (walk_at c.args.blocks.now place)) c.args.blocks.now c.args.order.now c.in_ok-sizes.sizes.items c.args.top c.requires.order c.in_ok-sizes.ensures in
-    let at : c.entry-size.result.now ≡ size_of c.args.blocks.now (walk_at c.args.blocks.now c.args.top) = at_top _ _ _ c.args.top c.entry-size.result.now _ known c.deref.ensures.value (c.entry-size.ensures c.entry-size.result.now) in
-    let leaves : c.entry-size.result.now.leaves ≡ min (leaf_count c.args.blocks.now (walk_at c.args.blocks.now c.args.top)) (2 ^ 20 + 1) = ap (λ (s : Size). s.leaves) at in
-    let pins : c.entry-size.result.now.pins ≡ min (length (pins_of c.args.blocks.now (walk_at c.args.blocks.now c.args.top))) (2 ^ 24 + 1) = ap (λ (s : Size). s.pins) at in
-    let ports : length c.ports_of.result.now ≡ length (ports_at c.args.blocks.now c.args.top) = ap length c.ports_of.ensures in
-    let rows = rows_long c.args.blocks.now c.args.top in
+    let known = top_known (λ index. walk_size c.args.subckts.now (walk_at c.args.subckts.now index)) c.args.subckts.now c.args.order.now c.in_ok-sizes.sizes.items c.args.top c.requires.order c.in_ok-sizes.ensures in
+    let size = top_size c.args.subckts.now c.in_ok-sizes.sizes.items _ c.args.top c.entry-size.result.now known c.deref.ensures.value (c.entry-size.ensures c.entry-size.result.now) in
+    let ports : length c.ports_of.result.now ≡ length (ports_at c.args.subckts.now c.args.top) = ap length c.ports_of.ensures in
+    let rows = rows_long c.args.subckts.now c.args.top in
     let few = c.if-size-gt-MOST_LEAVES.false in
     let many = c.if-saturating_add-gt-MOST_PINS.true in
     let sum = c.saturating_add.ensures in
-    (c.requires.hierarchy, c.requires.good, record { either = inr (omega (arith, leaves, few), omega (arith, pins, ports, rows, many, sum), refl) })
+    (c.requires.hierarchy, c.requires.good, record { either = inr (omega (arith, size.leaves, few), omega (arith, size.pins, ports, rows, many, sum), refl) })
 
 pub returns : goal.returns
 returns c =
-    let known = top_known (λ place. size_of c.args.blocks.now (walk_at c.args.blocks.now place)) c.args.blocks.now c.args.order.now c.in_ok-sizes.sizes.items c.args.top c.requires.order c.in_ok-sizes.ensures in
-    let at : c.entry-size.result.now ≡ size_of c.args.blocks.now (walk_at c.args.blocks.now c.args.top) = at_top _ _ _ c.args.top c.entry-size.result.now _ known c.deref.ensures.value (c.entry-size.ensures c.entry-size.result.now) in
-    let leaves : c.entry-size.result.now.leaves ≡ min (leaf_count c.args.blocks.now (walk_at c.args.blocks.now c.args.top)) (2 ^ 20 + 1) = ap (λ (s : Size). s.leaves) at in
-    let pins : c.entry-size.result.now.pins ≡ min (length (pins_of c.args.blocks.now (walk_at c.args.blocks.now c.args.top))) (2 ^ 24 + 1) = ap (λ (s : Size). s.pins) at in
-    let ports : length c.ports_of.result.now ≡ length (ports_at c.args.blocks.now c.args.top) = ap length c.ports_of.ensures in
-    let rows = rows_long c.args.blocks.now c.args.top in
+    let known = top_known (λ index. walk_size c.args.subckts.now (walk_at c.args.subckts.now index)) c.args.subckts.now c.args.order.now c.in_ok-sizes.sizes.items c.args.top c.requires.order c.in_ok-sizes.ensures in
+    let size = top_size c.args.subckts.now c.in_ok-sizes.sizes.items _ c.args.top c.entry-size.result.now known c.deref.ensures.value (c.entry-size.ensures c.entry-size.result.now) in
+    let ports : length c.ports_of.result.now ≡ length (ports_at c.args.subckts.now c.args.top) = ap length c.ports_of.ensures in
+    let rows = rows_long c.args.subckts.now c.args.top in
     let few = c.if-size-gt-MOST_LEAVES.false in
     let fits = c.if-saturating_add-gt-MOST_PINS.false in
     let sum = c.saturating_add.ensures in
-    (record { leaves = omega (arith, leaves, few); pins = omega (arith, pins, ports, rows, fits, sum) }, λ place r. c.in_ok-sizes.ensures place ((c.requires.order.exact place).1 r))
+    (record { leaves = omega (arith, size.leaves, few); pins = omega (arith, size.pins, ports, rows, fits, sum) }, λ index r. c.in_ok-sizes.ensures index ((c.requires.order.exact index).1 r))

@@ -14,4 +14,4 @@ pub unreachable-requires : goal.unreachable-requires
 unreachable-requires c =
     let cyclic = rw c.in_default.is at c.in_ok-order.ensures.cyclic in
     let none = rw c.in-None.is at c.in_ok-name.ensures in
-    cycle_named c.args.blocks.now c.args.top (subst (λ (g : List (List ℕ)). HasCycle g c.args.top) c.requires.graph cyclic) none
+    cycle_named c.args.subckts.now c.args.top (subst (λ (g : List (List ℕ)). HasCycle g c.args.top) c.requires.graph cyclic) none

@@ -1,5 +1,5 @@
 use Rattle.std.proofs.Common.{◌≡◌, map, take}
-use Rattle.spice_netlist.specs.Names.{lower}
+use Rattle.spice_text.specs.Words.{lower}
 use Rattle.spice_netlist.proofs.lower.lower_names.Given as goal
 
 abbrev pub invariant-loop-name : goal.invariant-loop-name

@@ -4,4 +4,4 @@ use Rattle.spice_netlist.proofs.TableLaws.{IsFilled}
 use Rattle.spice_netlist.proofs.ports.bad_marks.Given as goal
 
 abbrev pub invariant-loop-node : goal.invariant-loop-node
-invariant-loop-node l = IsFilled (has_bad l.blocks) (length l.blocks) l.order l.marks.items l.node-index
+invariant-loop-node l = IsFilled (has_bad l.subckts) (length l.subckts) l.order l.marks.items l.node-index

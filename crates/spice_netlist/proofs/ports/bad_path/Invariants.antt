@@ -4,7 +4,7 @@ use Rattle.spice_netlist.proofs.BadLaws.{GoesOn}
 use Rattle.spice_netlist.proofs.ports.bad_path.Given as goal
 
 abbrev pub invariant-levels : goal.invariant-levels
-invariant-levels l = GoesOn l.blocks l.fn.order l.top l.place l.path.items
+invariant-levels l = GoesOn l.subckts l.fn.order l.top l.index l.path.items
 
 abbrev pub decreases-levels : goal.decreases-levels
-decreases-levels l = length (walk_at l.blocks l.place)
+decreases-levels l = length (walk_at l.subckts l.index)

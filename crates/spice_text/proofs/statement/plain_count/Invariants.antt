@@ -2,5 +2,5 @@ use Rattle.std.proofs.Common.{◌≡◌, ◌++◌, take, drop}
 use Rattle.spice_text.specs.Words.{before_assignment}
 use Rattle.spice_text.proofs.statement.plain_count.Given as goal
 
-abbrev pub invariant-loop-place : goal.invariant-loop-place
-invariant-loop-place l = take l.place l.words ++ before_assignment (drop l.place l.words) ≡ before_assignment l.words
+abbrev pub invariant-loop-index : goal.invariant-loop-index
+invariant-loop-index l = take l.index l.words ++ before_assignment (drop l.index l.words) ≡ before_assignment l.words

@@ -1,4 +1,4 @@
--- A net that is there keeps its place, and another goes behind the others.
+-- A net that is there keeps its index, and another goes behind the others.
 use Rattle.std.proofs.Common.{sym}
 use Rattle.spice_netlist.proofs.NumberLaws.{found_number, new_number}
 use Rattle.spice_netlist.proofs.number.NetTable.number.Goals as goal

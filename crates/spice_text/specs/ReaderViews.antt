@@ -1,0 +1,55 @@
+-- What the reader's own types stand for.
+use Rattle.std.specs.Prelude.{ℕ, List, [], ◌∷◌, if◌then◌else◌, Option, Some, None, codes, ◌||◌}
+use Rattle.std.specs.Str.{bytes_eq}
+use Rattle.spice_text.specs.declared.statement.Keyword.{Keyword}
+use Rattle.spice_text.specs.declared.statement.Keyword.TheVariants as word
+use Rattle.spice_text.specs.declared.statement.Statement.{Statement}
+use Rattle.spice_text.specs.declared.statement.Statement.TheVariants as read
+use Rattle.spice_text.specs.declared.subcircuit.OpenSubckt.{OpenSubckt}
+use Rattle.spice_text.specs.declared.subcircuit.Reading.{Reading}
+use Rattle.spice_text.specs.LogicalLines.{starts_with}
+use Rattle.spice_text.specs.Words.{before_assignment}
+use Rattle.spice_text.specs.Statements.{LineMeaning}
+use Rattle.spice_text.specs.Statements as says
+use Rattle.spice_text.specs.Subcircuits.{BegunSubckt, DeckSoFar}
+
+-- what a statement says
+abbrev pub said : Statement → LineMeaning
+said read.Refused = says.Refused
+said (read.Begin words) = says.Begin words
+said (read.End words) = says.End words
+said read.Stop = says.Stop
+said read.Command = says.Command
+said (read.Instance words) = says.Instance words
+said read.Continuation = says.Continuation
+said read.Other = says.Other
+
+-- the kind of a first word
+abbrev pub keyword_of : List ℕ → Keyword
+keyword_of first =
+    if bytes_eq first (codes ".global") || bytes_eq first (codes ".include") then word.Refused else (
+    if bytes_eq first (codes ".subckt") then word.Subckt else (
+    if bytes_eq first (codes ".ends") then word.Ends else (
+    if bytes_eq first (codes ".end") then word.End else (
+    if starts_with 46 first then word.Command else (
+    if starts_with 120 first then word.Instance else word.Other)))))
+
+-- a line of these words, of which the first is of this kind
+abbrev pub said_by : Keyword → List ℕ → List (List ℕ) → LineMeaning
+said_by word.Refused first others = says.Refused
+said_by word.Subckt first others = says.Begin (before_assignment others)
+said_by word.Ends first others = says.End others
+said_by word.End first others = says.Stop
+said_by word.Command first others = says.Command
+said_by word.Instance first others = says.Instance (before_assignment (first ∷ others))
+said_by word.Other first others = says.Other
+
+abbrev pub begun_of : OpenSubckt → BegunSubckt
+begun_of o = record { line = o.line; subckt = o.subckt }
+
+abbrev pub current_of : Option OpenSubckt → Option BegunSubckt
+current_of None = None
+current_of (Some o) = Some (begun_of o)
+
+abbrev pub so_far : Reading → DeckSoFar
+so_far r = record { done = r.done; current = current_of r.current }

@@ -1,0 +1,6 @@
+ghost use Rattle.sram_deck.specs.Sample.{SampleAgrees};
+
+/// The subcircuits of one memory with masks and two banks are those that another program wrote.
+pub fn sample_agrees()
+    ensures { SampleAgrees }
+{}
