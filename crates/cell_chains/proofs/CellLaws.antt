@@ -10,8 +10,8 @@ use Rattle.reference_graph.specs.Reaches.{RefersTo, IsPath}
 use Rattle.reference_graph.specs.BottomUp.{IsBottomUp, IsOrder}
 use Rattle.reference_graph.specs.Height.{IsHeight, AreHeights}
 use Rattle.reference_graph.proofs.PathLaws.{reaches_start}
-use Rattle.gds_stream.specs.declared.library.Element.{Element}
-use Rattle.gds_stream.specs.declared.library.Structure.{Structure}
+use Rattle.gds_library.specs.declared.library.Element.{Element}
+use Rattle.gds_library.specs.declared.library.Structure.{Structure}
 use Rattle.cell_chains.specs.declared.cell.Cell.{Cell}
 use Rattle.cell_chains.specs.Chains.{elements_of}
 use Rattle.cell_chains.specs.Hierarchy.{referred_name, IsTarget, IsCell, AreCells}

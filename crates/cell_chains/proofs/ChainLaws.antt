@@ -11,10 +11,10 @@ use Rattle.or_geom.specs.declared.shape.Point.{Point}
 use Rattle.or_geom.specs.declared.place.Place.{Place}
 use Rattle.or_geom.proofs.ListLaws.{contains_none, contains_cases, contains_option, contains_map}
 use Rattle.reference_graph.specs.Reaches.{AreWithin, IsPath}
-use Rattle.gds_stream.specs.declared.library.Element.{Element}
-use Rattle.gds_stream.specs.declared.library.Element.TheVariants.{Boundary, Path, Sref, Aref, Text}
-use Rattle.gds_stream.specs.declared.library.Structure.{Structure}
-use Rattle.gds_stream.specs.Writable.{IsWritableElement, IsWritableCell, IsWritableArray}
+use Rattle.gds_library.specs.declared.library.Element.{Element}
+use Rattle.gds_library.specs.declared.library.Element.TheVariants.{Boundary, Path, Sref, Aref, Text}
+use Rattle.gds_library.specs.declared.library.Structure.{Structure}
+use Rattle.gds_library.specs.Writable.{IsWritableElement, IsWritableCell, IsWritableArray}
 use Rattle.cell_chains.specs.Instances.{Item, HasItem, IsArrayItem, reference_name, array_name, item_place}
 use Rattle.cell_chains.specs.Chains.{elements_of, IsItemFrom, IsItemOf, IsChain}
 use Rattle.cell_chains.specs.Hierarchy.{referred_name}

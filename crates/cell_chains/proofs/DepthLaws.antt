@@ -1,6 +1,6 @@
 -- A top has one depth.
 use Rattle.std.proofs.Common.{◌≡◌, ℕ, List, arith}
-use Rattle.gds_stream.specs.declared.library.Structure.{Structure}
+use Rattle.gds_library.specs.declared.library.Structure.{Structure}
 use Rattle.cell_chains.specs.Chains.{IsDepth}
 
 -- two depths of a top are the same

@@ -10,11 +10,11 @@ use Rattle.reference_graph.specs.Reaches as paths
 use Rattle.reference_graph.specs.Reaches.{IsPath, IsAcyclic, IsLeastCyclic}
 use Rattle.reference_graph.specs.Height.{IsHeight}
 use Rattle.reference_graph.proofs.PathLaws.{reaches_within}
-use Rattle.gds_stream.specs.declared.library.Structure.{Structure}
-use Rattle.gds_stream.specs.Writable.{IsWritableCell}
+use Rattle.gds_library.specs.declared.library.Structure.{Structure}
+use Rattle.gds_library.specs.Writable.{IsWritableCell}
 use Rattle.cell_chains.specs.Instances.{Item}
 use Rattle.cell_chains.specs.Chains.{IsThere, IsChain, Reaches, ReachesItself, IsMissing, IsCyclic, IsDepth}
-use Rattle.cell_chains.specs.Numbering.{texts, name_at, Rises, IsNode, AreFirsts, IsGraph, AreNodes}
+use Rattle.cell_chains.specs.Numbering.{texts, name_at, Rises, IsNodeNamed, AreFirsts, IsGraph, AreNamedNodes}
 use Rattle.cell_chains.specs.declared.nodes.Nodes.{Nodes}
 use Rattle.cell_chains.specs.Listing.{IsLeastUnknown, AreKnown}
 use Rattle.cell_chains.proofs.NameLaws.{one_node, not_greater, text_at}
@@ -27,7 +27,7 @@ pub record IsSetting (structs : List Structure) (top : List ℕ) (names : List (
   pub writable : AllByRecursion IsWritableCell structs
   pub rises : Rises names
   pub graph_is : IsGraph structs names graph
-  pub start_is : IsNode names top start
+  pub start_is : IsNodeNamed names top start
 
 -- what is reached in the graph is reached by its name
 pub reach_down : (structs : List Structure) (top : List ℕ) (names : List (List ℕ)) (graph : List (List ℕ)) (start : ℕ) → IsSetting structs top names graph start → (node : ℕ) → paths.Reaches graph start node → Reaches structs top (name_at names node)
@@ -140,7 +140,7 @@ pub chains_short : (structs : List Structure) (top : List ℕ) (names : List (Li
     → IsChain structs top chain to → length chain ≤ 32
 chains_short structs top names graph start s height low h chain to leads = let le = chain_high structs top names graph start s height h chain to leads in omega (arith, le, low)
 
-pub setting_of : (structs : List Structure) (top : List ℕ) (nodes : Nodes) → AllByRecursion IsWritableCell structs → AreNodes structs top nodes → IsSetting structs top (texts nodes.names.items) nodes.graph.items nodes.top
+pub setting_of : (structs : List Structure) (top : List ℕ) (nodes : Nodes) → AllByRecursion IsWritableCell structs → AreNamedNodes structs top nodes → IsSetting structs top (texts nodes.names.items) nodes.graph.items nodes.top
 setting_of structs top nodes w n = record { writable = w; rises = n.numbered.rises; graph_is = n.numbered.graph; start_is = n.start }
 
 -- the name that was read

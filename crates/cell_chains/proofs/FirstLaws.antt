@@ -9,9 +9,9 @@ use Rattle.std.proofs.lemmas.List.Elements.{Contains-get_or}
 use Rattle.std.proofs.lemmas.Slice.Eq.{bytes_eq-Decides}
 use Rattle.or_geom.proofs.ListLaws.{none_is}
 use Rattle.or_geom.proofs.NameLaws.{other_name}
-use Rattle.gds_stream.specs.declared.library.Structure.{Structure}
+use Rattle.gds_library.specs.declared.library.Structure.{Structure}
 use Rattle.cell_chains.specs.Chains.{elements_of, IsThere}
-use Rattle.cell_chains.specs.Numbering.{name_at, Rises, IsNode, first_from, AreFirsts}
+use Rattle.cell_chains.specs.Numbering.{name_at, Rises, IsNodeNamed, first_from, AreFirsts}
 use Rattle.cell_chains.proofs.NameLaws.{one_node}
 
 -- the first structure of a name, where places are counted from n
@@ -111,7 +111,7 @@ firsts_pass structs names firsts i d name lt is none f =
           ∙ sym (push_other 0 (take i structs) s (name_at names node) (other_name s.name (name_at names node) (λ e. none (subst (Contains names) (sym (is ∙ e)) (Contains-get_or names node [] below)))));
     })
 
-other_node : (names : List (List ℕ)) (s : Structure) (name : List ℕ) (node k : ℕ) → Rises names → name ≡ s.name → IsNode names name node → k < length names → (k ≡ node → ⊥) → bytes_eq s.name (name_at names k) ≡ false
+other_node : (names : List (List ℕ)) (s : Structure) (name : List ℕ) (node k : ℕ) → Rises names → name ≡ s.name → IsNodeNamed names name node → k < length names → (k ≡ node → ⊥) → bytes_eq s.name (name_at names k) ≡ false
 other_node names s name node k rises is here lt other = other_name s.name (name_at names k) (λ e. other (sym (one_node names node k rises here.within lt (here.named ∙ (is ∙ e)))))
 
 -- whether there is a first structure yet
@@ -125,7 +125,7 @@ some_in (Some k) e = (k, refl)
 
 -- one structure more, of a name that has one
 pub firsts_keep : (structs : List Structure) (names : List (List ℕ)) (firsts : List (Option ℕ)) (i : ℕ) (d : Structure) (name : List ℕ) (node : ℕ) → i < length structs → name ≡ (get_or structs i d).name → Rises names
-    → IsNode names name node → true ≡ is_some (get_or firsts node None) → AreFirsts (take i structs) names firsts → AreFirsts (take (i + 1) structs) names firsts
+    → IsNodeNamed names name node → true ≡ is_some (get_or firsts node None) → AreFirsts (take i structs) names firsts → AreFirsts (take (i + 1) structs) names firsts
 firsts_keep structs names firsts i d name node lt is rises here seen f =
     let s = get_or structs i d in
     let known = some_in (get_or firsts node None) seen in
@@ -142,7 +142,7 @@ firsts_keep structs names firsts i d name node lt is rises here seen f =
 
 -- one structure more, the first of its name
 pub firsts_add : (structs : List Structure) (names : List (List ℕ)) (firsts : List (Option ℕ)) (i : ℕ) (d : Structure) (name : List ℕ) (node : ℕ) → i < length structs → name ≡ (get_or structs i d).name → Rises names
-    → IsNode names name node → false ≡ is_some (get_or firsts node None) → AreFirsts (take i structs) names firsts → AreFirsts (take (i + 1) structs) names (set firsts node (Some i))
+    → IsNodeNamed names name node → false ≡ is_some (get_or firsts node None) → AreFirsts (take i structs) names firsts → AreFirsts (take (i + 1) structs) names (set firsts node (Some i))
 firsts_add structs names firsts i d name node lt is rises here unseen f =
     let s = get_or structs i d in
     rw (take_more structs i d lt)

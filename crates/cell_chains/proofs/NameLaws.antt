@@ -14,7 +14,7 @@ use Rattle.std.proofs.lemmas.List.Kept.{AllPairs-cons}
 use Rattle.std.proofs.lemmas.List.Sorted.{searchable_from_sorted}
 use Rattle.std.proofs.lemmas.Map.Lookups.{exact_bytes}
 use Rattle.or_geom.specs.Least.{name_order}
-use Rattle.cell_chains.specs.Numbering.{texts, name_at, Rises, IsNode}
+use Rattle.cell_chains.specs.Numbering.{texts, name_at, Rises, IsNodeNamed}
 use denote.Ref.{Bor}
 
 not_itself : (a : List ℕ) → name_order a a ≡ Less → ⊥
@@ -46,7 +46,7 @@ text_at names k d lt = get_or-map (λ (name : Bor (List ℕ)). name.now) names k
 pub texts_long : (names : List (Bor (List ℕ))) → length (texts names) ≡ length names
 texts_long names = length-map names (λ (name : Bor (List ℕ)). name.now)
 
-pub found_node : (names : List (Bor (List ℕ))) (name : Bor (List ℕ)) (node : ℕ) → node < length names → HoldsAt (λ y. name_order y.now name.now ≡ Equal) names node → IsNode (texts names) name.now node
+pub found_node : (names : List (Bor (List ℕ))) (name : Bor (List ℕ)) (node : ℕ) → node < length names → HoldsAt (λ y. name_order y.now name.now ≡ Equal) names node → IsNodeNamed (texts names) name.now node
 found_node names name node lt here = record {
   within = subst (λ (n : ℕ). node < n) (sym (texts_long names)) lt;
   named = text_at names node name lt ∙ exact_bytes (get_or names node name).now name.now (here name);

@@ -7,11 +7,11 @@ use Rattle.std.proofs.lemmas.Bool.{cases_lt}
 use Rattle.std.proofs.lemmas.List.{map_push, get_or_append_left, get_or_push, length_push}
 use Rattle.std.proofs.lemmas.List.Elements.{Contains-push_cases, Contains-append_left, Contains-append_right}
 use Rattle.or_geom.proofs.ListLaws.{contains_none, contains_first}
-use Rattle.gds_stream.specs.declared.library.Element.{Element}
-use Rattle.gds_stream.specs.declared.library.Structure.{Structure}
+use Rattle.gds_library.specs.declared.library.Element.{Element}
+use Rattle.gds_library.specs.declared.library.Structure.{Structure}
 use Rattle.cell_chains.specs.Chains.{elements_of}
 use Rattle.cell_chains.specs.Hierarchy.{referred_name}
-use Rattle.cell_chains.specs.Numbering.{name_at, referred_names, all_referred, IsNode, AreReferences}
+use Rattle.cell_chains.specs.Numbering.{name_at, referred_names, all_referred, IsNodeNamed, AreReferences}
 
 -- so far in a loop over the elements, of which `rest` are left
 pub record IsReading (names : List (List ℕ)) (elements rest : List Element) (nodes : List ℕ) : Type 0 where
@@ -21,7 +21,7 @@ pub record IsReading (names : List (List ℕ)) (elements rest : List Element) (n
 rest_named : (first : Element) (others rest : List Element) (name : Option (List ℕ)) → rest ≡ first ∷ others → referred_name first ≡ name → referred_names rest ≡ cons_option name (referred_names others)
 rest_named first others rest name e is = ap referred_names e ∙ ap (λ (o : Option (List ℕ)). cons_option o (referred_names others)) is
 
-pub reading_adds : (names : List (List ℕ)) (elements rest others : List Element) (first : Element) (nodes : List ℕ) (name : List ℕ) (node : ℕ) → rest ≡ first ∷ others → referred_name first ≡ Some name → IsNode names name node
+pub reading_adds : (names : List (List ℕ)) (elements rest others : List Element) (first : Element) (nodes : List ℕ) (name : List ℕ) (node : ℕ) → rest ≡ first ∷ others → referred_name first ≡ Some name → IsNodeNamed names name node
     → IsReading names elements rest nodes → IsReading names elements others (nodes ++ node ∷ [])
 reading_adds names elements rest others first nodes name node e is here r = record {
   within = λ k h. elim (Contains-push_cases nodes node k h) [ inl before ↦ r.within k before | inr same ↦ subst (λ (n : ℕ). n < length names) same here.within ];

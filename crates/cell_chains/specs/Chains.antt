@@ -1,8 +1,8 @@
 -- Chains of references from a structure down, an array counting as each of its items.
 use Rattle.std.specs.Prelude.{◌≡◌, ◌⊎◌, ℕ, suc, ◌≤◌, ◌^◌, ◌-◌, min, List, [], ◌∷◌, length, cond}
 use Rattle.std.specs.Str.{bytes_eq}
-use Rattle.gds_stream.specs.declared.library.Element.{Element}
-use Rattle.gds_stream.specs.declared.library.Structure.{Structure}
+use Rattle.gds_library.specs.declared.library.Element.{Element}
+use Rattle.gds_library.specs.declared.library.Structure.{Structure}
 use Rattle.cell_chains.specs.Instances.{Item, HasItem}
 
 -- the elements of the first structure of the name; none where there is no such structure

@@ -1,9 +1,9 @@
 -- The structures that a top reaches, from the bottom up, with their references resolved; and why there may be no such list.
 use Rattle.std.specs.Prelude.{◌≡◌, ◌<◌, ◌≤◌, ℕ, suc, List, length, slice_index, slice_get, Option, Some, None}
 use Rattle.or_geom.specs.Least.{IsLeast}
-use Rattle.gds_stream.specs.declared.library.Element.{Element}
-use Rattle.gds_stream.specs.declared.library.Element.TheVariants.{Boundary, Path, Sref, Aref, Text}
-use Rattle.gds_stream.specs.declared.library.Structure.{Structure}
+use Rattle.gds_library.specs.declared.library.Element.{Element}
+use Rattle.gds_library.specs.declared.library.Element.TheVariants.{Boundary, Path, Sref, Aref, Text}
+use Rattle.gds_library.specs.declared.library.Structure.{Structure}
 use Rattle.cell_chains.specs.declared.cell.Cell.{Cell}
 use Rattle.cell_chains.specs.declared.fault.ChainFault.{ChainFault}
 use Rattle.cell_chains.specs.declared.fault.ChainFault.TheVariants as chain_fault

@@ -5,10 +5,10 @@ use Rattle.std.specs.Char.{to_ascii_lowercase}
 use Rattle.std.specs.Fmt.{decimal}
 use Rattle.or_geom.specs.declared.shape.Point.{Point}
 use Rattle.or_geom.specs.declared.place.Place.{Place}
-use Rattle.gds_stream.specs.declared.library.Prop.{Prop}
-use Rattle.gds_stream.specs.declared.library.Element.{Element}
-use Rattle.gds_stream.specs.declared.library.Element.TheVariants.{Boundary, Path, Sref, Aref, Text}
-use Rattle.gds_stream.specs.Values.{displaced}
+use Rattle.gds_library.specs.declared.library.Prop.{Prop}
+use Rattle.gds_library.specs.declared.library.Element.{Element}
+use Rattle.gds_library.specs.declared.library.Element.TheVariants.{Boundary, Path, Sref, Aref, Text}
+use Rattle.gds_library.specs.Values.{displaced}
 
 -- an instance: its name, the name of its structure, and its place
 pub record Item : Type 0 where

@@ -1,12 +1,12 @@
 -- The nodes that a top reaches: whether each has a structure, where each stands in an order, and the cells in that order.
 use Rattle.std.specs.Prelude.{◌≡◌, ◌≢◌, ◌<◌, ℕ, List, length, slice_get, slice_index, slice_index_or, Option, Some, None}
 use Rattle.reference_graph.specs.Reaches.{Reaches}
-use Rattle.gds_stream.specs.declared.library.Element.{Element}
-use Rattle.gds_stream.specs.declared.library.Structure.{Structure}
+use Rattle.gds_library.specs.declared.library.Element.{Element}
+use Rattle.gds_library.specs.declared.library.Structure.{Structure}
 use Rattle.cell_chains.specs.declared.cell.Cell.{Cell}
 use Rattle.cell_chains.specs.Chains.{elements_of}
 use Rattle.cell_chains.specs.Hierarchy.{referred_name}
-use Rattle.cell_chains.specs.Numbering.{name_at, IsNode}
+use Rattle.cell_chains.specs.Numbering.{name_at, IsNodeNamed}
 
 -- a structure has the node's name
 abbrev pub IsKnown : List (Option ℕ) → ℕ → Type 0
@@ -31,7 +31,7 @@ pub record ArePositions (order : List ℕ) (count : ℕ) (positions : List ℕ) 
 -- the position of the name's node
 pub record LeadsTo (names : List (List ℕ)) (positions : List ℕ) (name : List ℕ) (target : ℕ) : Type 0 where
   pub node : ℕ
-  pub is : IsNode names name node
+  pub is : IsNodeNamed names name node
   pub stands : slice_index positions node ≡ target
 
 -- for each element that refers to a structure the position of its name's node

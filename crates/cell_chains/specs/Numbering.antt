@@ -5,8 +5,8 @@ use Rattle.std.specs.Ordering.{nat_cmp}
 use Rattle.std.specs.Cmp.Lexicographic.{slice_cmp}
 use Rattle.std.specs.Str.{bytes_eq}
 use Rattle.std.specs.declared.cmp.Ordering.TheVariants.{Less}
-use Rattle.gds_stream.specs.declared.library.Element.{Element}
-use Rattle.gds_stream.specs.declared.library.Structure.{Structure}
+use Rattle.gds_library.specs.declared.library.Element.{Element}
+use Rattle.gds_library.specs.declared.library.Structure.{Structure}
 use Rattle.cell_chains.specs.declared.nodes.Nodes.{Nodes}
 use Rattle.cell_chains.specs.Chains.{elements_of}
 use Rattle.cell_chains.specs.Hierarchy.{referred_name}
@@ -33,12 +33,12 @@ abbrev pub Rises : List (List ℕ) → Type 0
 Rises names = AllPairs (λ a b. slice_cmp nat_cmp a b ≡ Less) names
 
 -- the node has the name
-pub record IsNode (names : List (List ℕ)) (name : List ℕ) (node : ℕ) : Type 0 where
+pub record IsNodeNamed (names : List (List ℕ)) (name : List ℕ) (node : ℕ) : Type 0 where
   pub within : node < length names
   pub named : name_at names node ≡ name
 
 -- in order, each once, the top and the names to which structures refer
-pub record AreNames (structs : List Structure) (top : List ℕ) (names : List (List ℕ)) : Type 0 where
+pub record AreNodeNames (structs : List Structure) (top : List ℕ) (names : List (List ℕ)) : Type 0 where
   pub rises : Rises names
   pub all : (name : List ℕ) → Contains (top ∷ all_referred structs) name → Contains names name
 
@@ -63,13 +63,13 @@ pub record IsGraph (structs : List Structure) (names : List (List ℕ)) (graph :
   pub each : (node : ℕ) → node < length names → AreReferences names (elements_of structs (name_at names node)) (slice_index_or graph node [])
 
 -- the names in order, among them those to which structures refer, where their structures stand, and who refers to whom
-pub record AreNumbered (structs : List Structure) (nodes : Nodes) : Type 0 where
+pub record AreNumberedNodes (structs : List Structure) (nodes : Nodes) : Type 0 where
   pub rises : Rises (texts nodes.names.items)
   pub all : (name : List ℕ) → Contains (all_referred structs) name → Contains (texts nodes.names.items) name
   pub firsts : AreFirsts structs (texts nodes.names.items) nodes.firsts.items
   pub graph : IsGraph structs (texts nodes.names.items) nodes.graph.items
 
 -- and which is the top
-pub record AreNodes (structs : List Structure) (top : List ℕ) (nodes : Nodes) : Type 0 where
-  pub numbered : AreNumbered structs nodes
-  pub start : IsNode (texts nodes.names.items) top nodes.top
+pub record AreNamedNodes (structs : List Structure) (top : List ℕ) (nodes : Nodes) : Type 0 where
+  pub numbered : AreNumberedNodes structs nodes
+  pub start : IsNodeNamed (texts nodes.names.items) top nodes.top

@@ -7,9 +7,9 @@ pub enum ChainFault {
     UnknownStruct { name: Name },
     /// The least name reached that reaches itself.
     Cycle { name: Name },
-    /// The longest chain has this many references, which are more than 32. The number stands at 2^32 - 1 where it is longer.
+    /// The longest chain has this many references, which are more than 32. The number is saturated at 2^32 - 1.
     TooDeep { depth: u32 },
-    /// Memory was wanting.
+    /// Memory ran out.
     Memory,
 }
 

@@ -1,6 +1,6 @@
 ghost use Rattle.std.specs.Prelude.{◌≡◌, ◌<◌, ◌^◌, length, slice_index, IfOk, IfErr};
 ghost use Rattle.std.specs.List.{AllByRecursion};
-ghost use Rattle.gds_stream.specs.Writable.{IsWritableCell};
+ghost use Rattle.gds_library.specs.Writable.{IsWritableCell};
 ghost use Rattle.cell_chains.specs.Chains.{IsSound};
 ghost use Rattle.cell_chains.specs.Hierarchy.{AreCells, IsChainFault};
 
@@ -9,7 +9,7 @@ use crate::fault::ChainFault;
 use crate::listing::listed;
 use crate::nodes::nodes_of;
 use crate::unknown::first_unknown;
-use gds_stream::Structure;
+use gds_library::Structure;
 use or_geom::Name;
 use reference_graph::{heights, least_cyclic, order};
 use std::alloc::Global;

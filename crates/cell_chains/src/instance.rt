@@ -2,7 +2,7 @@ ghost use Rattle.std.specs.Prelude.{◌≡◌, map, IfOk};
 ghost use Rattle.std.specs.Char.{to_ascii_lowercase};
 ghost use Rattle.cell_chains.specs.Instances.{numbered, reference_name, array_name};
 
-use gds_stream::Prop;
+use gds_library::Prop;
 use or_geom::{Memory, Name};
 use std::alloc::Global;
 

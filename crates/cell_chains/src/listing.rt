@@ -1,12 +1,12 @@
 ghost use Rattle.std.specs.Prelude.{◌≡◌, ◌<◌, List, ℕ, length, Contains, All, IfOk};
 ghost use Rattle.reference_graph.specs.BottomUp.{IsBottomUp};
-ghost use Rattle.cell_chains.specs.Numbering.{texts, AreNumbered};
+ghost use Rattle.cell_chains.specs.Numbering.{texts, AreNumberedNodes};
 ghost use Rattle.cell_chains.specs.Listing.{IsKnown, IsListed, AreListed};
 
 use crate::cell::Cell;
 use crate::nodes::{Nodes, elements_at};
 use crate::target::{positions, targets};
-use gds_stream::Structure;
+use gds_library::Structure;
 use or_geom::Memory;
 use std::alloc::Global;
 
@@ -19,7 +19,7 @@ fn cell_of(
     height: u32,
     node: usize,
 ) -> Result<Cell, Memory>
-    requires nodes { AreNumbered structs.now nodes.now }
+    requires nodes { AreNumberedNodes structs.now nodes.now }
     requires sized { length positions.now ≡ length nodes.now.names.items }
     requires inside { node < length nodes.now.names.items }
     requires known { IsKnown nodes.now.firsts.items node }
@@ -45,7 +45,7 @@ pub fn listed(
     order: &[usize],
     heights: &[u32],
 ) -> Result<Vec<Cell>, Memory>
-    requires nodes { AreNumbered structs.now nodes.now }
+    requires nodes { AreNumberedNodes structs.now nodes.now }
     requires order { IsBottomUp nodes.now.graph.items order.now }
     requires sized { length heights.now ≡ length nodes.now.graph.items }
     requires known { All (IsKnown nodes.now.firsts.items) order.now }

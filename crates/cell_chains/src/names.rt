@@ -1,9 +1,9 @@
 ghost use Rattle.std.specs.Prelude.{◌≡◌, ◌∷◌, ◌++◌, List, ℕ, Contains, IfOk, OnOk, IfSome, IfNone, option_copied};
-ghost use Rattle.gds_stream.specs.declared.library.Structure.{Structure};
+ghost use Rattle.gds_library.specs.declared.library.Structure.{Structure};
 ghost use Rattle.cell_chains.specs.Hierarchy.{referred_name};
-ghost use Rattle.cell_chains.specs.Numbering.{texts, referred_names, all_referred, Rises, IsNode, AreNames};
+ghost use Rattle.cell_chains.specs.Numbering.{texts, referred_names, all_referred, Rises, IsNodeNamed, AreNodeNames};
 
-use gds_stream::{Element, Structure};
+use gds_library::{Element, Structure};
 use or_geom::{Memory, Name};
 use std::alloc::Global;
 
@@ -54,7 +54,7 @@ pub fn sorted_names<'a>(
     structs: &'a [Structure],
     top: &'a Name,
 ) -> Result<Vec<&'a [u8]>, Memory>
-    ensures { IfOk result (λ names. AreNames structs.now top.now (texts names.items)) }
+    ensures { IfOk result (λ names. AreNodeNames structs.now top.now (texts names.items)) }
 {
     let mut names = all_names(alloc, structs, top)?;
     names.sort_unstable();
@@ -65,7 +65,7 @@ pub fn sorted_names<'a>(
 /// The place of a name.
 pub fn node_of(names: &[&[u8]], name: &[u8]) -> Option<usize>
     requires { Rises (texts names.now) }
-    ensures found { IfSome result (IsNode (texts names.now) name.now) }
+    ensures found { IfSome result (IsNodeNamed (texts names.now) name.now) }
     ensures none { IfNone result (Contains (texts names.now) name.now → ⊥) }
 {
     match names.binary_search(&name) {

@@ -1,9 +1,9 @@
 ghost use Rattle.std.specs.Prelude.{◌≡◌, ◌<◌, List, ℕ, length, Contains, IfOk, IfSome};
 ghost use Rattle.cell_chains.specs.Chains.{elements_of};
-ghost use Rattle.cell_chains.specs.Numbering.{texts, referred_names, all_referred, first_from, Rises, AreFirsts, AreReferences, IsGraph, AreNodes};
+ghost use Rattle.cell_chains.specs.Numbering.{texts, referred_names, all_referred, first_from, Rises, AreFirsts, AreReferences, IsGraph, AreNamedNodes};
 
 use crate::names::{node_of, referred, sorted_names};
-use gds_stream::{Element, Structure};
+use gds_library::{Element, Structure};
 use or_geom::{Items, Memory, Name};
 use std::alloc::Global;
 
@@ -99,7 +99,7 @@ pub fn nodes_of<'a>(
     structs: &'a [Structure],
     top: &'a Name,
 ) -> Result<Nodes<'a>, Memory>
-    ensures { IfOk result (AreNodes structs.now top.now) }
+    ensures { IfOk result (AreNamedNodes structs.now top.now) }
 {
     let names = sorted_names(alloc, structs, top)?;
     let firsts = first_places(alloc, structs, &names)?;

@@ -5,7 +5,7 @@ ghost use Rattle.cell_chains.specs.Numbering.{texts, referred_names, Rises};
 ghost use Rattle.cell_chains.specs.Listing.{ArePositions, LeadsTo, AreTargets};
 
 use crate::names::{node_of, referred};
-use gds_stream::Element;
+use gds_library::Element;
 use or_geom::{Items, Memory};
 use std::alloc::Global;
 

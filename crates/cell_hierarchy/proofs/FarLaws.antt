@@ -13,10 +13,9 @@ use Rattle.or_geom.proofs.PlaceLaws.{same_point}
 use Rattle.or_geom.proofs.ListLaws.{contained_at}
 use Rattle.or_geom.specs.Place.{low_corner, high_corner}
 use Rattle.gds_records.specs.Values.{IsShort}
-use Rattle.element_drawing.specs.declared.label.OwnLabel.{OwnLabel}
 use Rattle.cell_hierarchy.specs.FlatLists.{point_order}
 use Rattle.cell_hierarchy.specs.Below.{SomeBelow}
-use Rattle.cell_hierarchy.specs.Far.{IsFirst, IsFirstOf, earlier, first_of, upper_left, lower_right, IsFarAt, IsFarCorner, HasFarCorner, HasFarLabel, IsFarCornerAt, IsFarLabelAt}
+use Rattle.cell_hierarchy.specs.Far.{IsFirst, IsFirstOf, earlier, first_of, upper_left, lower_right, IsFarAt, IsFarCorner, HasFarCorner, HasFarPoint, IsFarCornerAt, IsFarPointAt}
 use Rattle.cell_hierarchy.proofs.BelowLaws.{step_to, step_from}
 
 pub point_total : IsTotalOrder point_order
@@ -133,12 +132,12 @@ corner_goes_on shapes k shape now here next lt is e a b =
     first_goes_on (IsFarCornerAt shapes) k (IsFarCorner shape) now here next e (λ p h. record { shape = shape; stands = stands; is = h })
     (λ p h. subst (λ (s : Shape). IsFarCorner s p) (same_Some h.shape shape (sym h.stands ∙ stands)) h.is) a b
 
-pub label_goes_on : (labels : List OwnLabel) (k : ℕ) (label : OwnLabel) (now here next : Option Point) → k < length labels → label ≡ get_or labels k label → next ≡ first_of now here
-    → IsFirstOf (SomeBelow (IsFarLabelAt labels) k) now → IsFirstOf (IsFarAt label.at) here → IsFirstOf (SomeBelow (IsFarLabelAt labels) (k + 1)) next
-label_goes_on labels k label now here next lt is e a b =
-    let stands = slice_get_read labels _ k label refl lt is in
-    first_goes_on (IsFarLabelAt labels) k (IsFarAt label.at) now here next e (λ p h. record { label = label; stands = stands; is = h })
-    (λ p h. subst (λ (l : OwnLabel). IsFarAt l.at p) (same_Some h.label label (sym h.stands ∙ stands)) h.is) a b
+pub point_goes_on : (points : List Point) (k : ℕ) (own : Point) (now here next : Option Point) → k < length points → own ≡ get_or points k own → next ≡ first_of now here
+    → IsFirstOf (SomeBelow (IsFarPointAt points) k) now → IsFirstOf (IsFarAt own) here → IsFirstOf (SomeBelow (IsFarPointAt points) (k + 1)) next
+point_goes_on points k own now here next lt is e a b =
+    let stands = slice_get_read points _ k own refl lt is in
+    first_goes_on (IsFarPointAt points) k (IsFarAt own) now here next e (λ p h. record { own = own; stands = stands; is = h })
+    (λ p h. subst (λ (q : Point). IsFarAt q p) (same_Some h.own own (sym h.stands ∙ stands)) h.is) a b
 
 stands_at : {Y : Type 0} (ys : List Y) (k : ℕ) (y : Y) → k < length ys → get_or ys k y ≡ y → slice_get ys k ≡ Some y
 stands_at ys k y lt is = slice_get_read ys _ k y refl lt (sym is)
@@ -148,7 +147,7 @@ corner_ends shapes k o le a =
     first_as (SomeBelow (IsFarCornerAt shapes) k) (HasFarCorner shapes) o (λ p b. record { shape = b.has.shape; among = contained_at shapes b.index b.has.shape b.has.stands; is = b.has.is })
     (λ p h. record { index = h.among.0; below = omega (arith, h.among.1); has = record { shape = h.shape; stands = stands_at shapes h.among.0 h.shape h.among.1 h.among.2; is = h.is } }) a
 
-pub label_ends : (labels : List OwnLabel) (k : ℕ) (o : Option Point) → length labels ≤ k → IsFirstOf (SomeBelow (IsFarLabelAt labels) k) o → IsFirstOf (HasFarLabel labels) o
-label_ends labels k o le a =
-    first_as (SomeBelow (IsFarLabelAt labels) k) (HasFarLabel labels) o (λ p b. record { label = b.has.label; among = contained_at labels b.index b.has.label b.has.stands; is = b.has.is })
-    (λ p h. record { index = h.among.0; below = omega (arith, h.among.1); has = record { label = h.label; stands = stands_at labels h.among.0 h.label h.among.1 h.among.2; is = h.is } }) a
+pub point_ends : (points : List Point) (k : ℕ) (o : Option Point) → length points ≤ k → IsFirstOf (SomeBelow (IsFarPointAt points) k) o → IsFirstOf (HasFarPoint points) o
+point_ends points k o le a =
+    first_as (SomeBelow (IsFarPointAt points) k) (HasFarPoint points) o (λ p b. record { own = b.has.own; among = contained_at points b.index b.has.own b.has.stands; is = b.has.is })
+    (λ p h. record { index = h.among.0; below = omega (arith, h.among.1); has = record { own = h.own; stands = stands_at points h.among.0 h.own h.among.1 h.among.2; is = h.is } }) a

@@ -1,13 +1,33 @@
 mod StepLaws
 mod MovedLaws
 pub mod BelowLaws
-mod HeldLaws
-mod ChainLaws
+pub mod ChainLaws
 mod NearLaws
-mod CellLaws
-pub mod DrawnLaws
+pub mod ThingLaws
+pub mod NameLaws
+mod OwnLaws
+pub mod CellLaws
+mod PartLaws
+mod GrowsLaws
+pub mod ComposeLaws
+mod SortedLaws
+mod WalkLaws
+mod TopLaws
+pub mod AlongLaws
+pub mod AsciiLaws
 mod FarLaws
 mod CountLaws
 mod FlattenLaws
 pub mod OneListsLaws
 pub mod OneFaultLaws
+pub mod CountsBelowLaws
+pub mod ReferenceLaws
+pub mod CountedCellLaws
+pub mod PathLaws
+pub mod OneSetLaws
+pub mod DistinctLaws
+pub mod TotalLaws
+pub mod ListedLaws
+pub mod BoundedBelowLaws
+pub mod FlatLaws
+pub mod FlatShapeLaws

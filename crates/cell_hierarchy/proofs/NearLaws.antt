@@ -1,5 +1,5 @@
 -- How far shapes go that were moved.
-use Rattle.std.proofs.Common.{◌≡◌, ℕ, ◌+◌, ◌^◌, ◌≤◌, ℤ, pos, negsuc, ◌+ℤ◌, ◌≤ℤ◌, ◌<ℤ◌, refl, List, sym, subst, arith}
+use Rattle.std.proofs.Common.{◌≡◌, ℕ, ◌+◌, ◌^◌, ◌≤◌, ℤ, pos, negsuc, ◌+ℤ◌, ◌≤ℤ◌, ◌<ℤ◌, refl, sym, subst, arith}
 use Rattle.std.specs.Prelude.{unsigned_abs}
 use Rattle.std.specs.Int.{int_max, int_min}
 use Rattle.std.proofs.lemmas.Int.{ints, clamps}
@@ -7,18 +7,16 @@ use Rattle.or_geom.specs.declared.shape.Point.{Point}
 use Rattle.or_geom.specs.declared.shape.Rect.{Rect}
 use Rattle.or_geom.specs.declared.shape.Shape.{Shape}
 use Rattle.or_geom.specs.declared.place.Place.{Place}
-use Rattle.or_geom.specs.Place.{IsWithin, turned, placed, low_corner, high_corner, IsBetween}
+use Rattle.or_geom.specs.Place.{IsNearPoint, IsWithin, turned, placed, low_corner, high_corner, IsBetween}
 use Rattle.or_geom.proofs.PlaceLaws.{turned_within, plus_within}
 use Rattle.gds_records.specs.Values.{IsShort}
-use Rattle.gds_stream.specs.declared.library.Element.{Element}
-use Rattle.gds_stream.specs.declared.library.Element.TheVariants.{Boundary, Path, Sref, Aref, Text}
-use Rattle.gds_stream.specs.Writable.{IsWritableElement, IsWritableArray}
+use Rattle.gds_library.specs.declared.library.Element.{Element}
+use Rattle.gds_library.specs.declared.library.Element.TheVariants.{Boundary, Path, Sref, Aref, Text}
+use Rattle.gds_library.specs.Writable.{IsWritableElement, IsWritableArray}
 use Rattle.element_drawing.specs.OwnShapes.{IsRectWithin, IsShapeWithin}
 use Rattle.cell_chains.specs.Instances.{Item, HasItem, item_place}
-use Rattle.element_drawing.specs.declared.label.OwnLabel.{OwnLabel}
 use Rattle.cell_hierarchy.specs.FlatSet.{IsMoved}
-use Rattle.cell_hierarchy.specs.Below.{IsLabelUnder}
-use Rattle.cell_hierarchy.specs.declared.grid.Grid.{Grid}
+use Rattle.cell_hierarchy.specs.declared.grid.ArrayGrid.{ArrayGrid}
 use Rattle.cell_hierarchy.proofs.StepLaws.{near_in}
 
 pub placed_within : (m n : ℕ) (place : Place) (p : Point) → IsWithin m p → IsWithin n place.at → IsWithin (m + n) (placed place p)
@@ -54,7 +52,7 @@ further m n p le w = record { x_above = omega (arith, ints); x_below = omega (ar
 pub shape_further : (m n : ℕ) (s : Shape) → m ≤ n → IsShapeWithin m s → IsShapeWithin n s
 shape_further m n s le w = record { low = further m n _ le w.low; high = further m n _ le w.high }
 
-short_within : (p : Point) → IsShort p → IsWithin (2 ^ 33) p
+pub short_within : (p : Point) → IsShort p → IsWithin (2 ^ 33) p
 short_within p s = let x = s.x in let y = s.y in record { x_above = omega (arith, ints); x_below = omega (arith, ints); y_above = omega (arith, ints); y_below = omega (arith, ints) }
 
 pub by_size : (z : ℤ) → pos 1 ≤ℤ z → z ≡ pos (unsigned_abs z)
@@ -62,7 +60,7 @@ by_size (pos m) up = refl
 by_size (negsuc m) up = absurd (omega (arith, ints))
 
 -- where an item of an array stands
-grid_near : (grid : Grid) (columns rows : ℤ) → columns ≡ pos grid.columns → rows ≡ pos grid.rows → IsWritableArray grid.place columns rows grid.across grid.down → (column row : ℕ) → pos column <ℤ columns → pos row <ℤ rows
+grid_near : (grid : ArrayGrid) (columns rows : ℤ) → columns ≡ pos grid.columns → rows ≡ pos grid.rows → IsWritableArray grid.place columns rows grid.across grid.down → (column row : ℕ) → pos column <ℤ columns → pos row <ℤ rows
     → IsWithin (2 ^ 33) (item_place grid.place column row grid.across grid.down).at
 grid_near grid columns rows ec er w column row in_columns in_rows =
     let v = subst (λ (m : ℤ). IsWritableArray grid.place (pos grid.columns) m grid.across grid.down) er (subst (λ (m : ℤ). IsWritableArray grid.place m rows grid.across grid.down) ec w) in
@@ -79,5 +77,8 @@ item_near n (Sref name place props) item w h = subst (λ (p : Place). IsWithin (
 item_near n (Aref name place columns rows across down props) item w h = subst (λ (p : Place). IsWithin (2 ^ 33) p.at) (sym h.placed) (array_near place columns rows across down h.column h.row w.body.1 h.in_columns h.in_rows)
 item_near n (Text layer texttype at string props) item w h = absurd h
 
-pub label_within : (m n : ℕ) (name : List ℕ) (place : Place) (inner label : OwnLabel) → IsWithin n place.at → IsWithin m inner.at → IsLabelUnder name place inner label → IsWithin (m + n) label.at
-label_within m n name place inner label near w moved = subst (λ (p : Point). IsWithin (m + n) p) (sym moved.at) (placed_within m n place inner.at w near)
+pub near_point : (p : Point) → IsWithin (2 ^ 39) p → IsNearPoint p
+near_point p w = record { x = record { above = omega (arith, ints); below = omega (arith, ints) }; y = record { above = omega (arith, ints); below = omega (arith, ints) } }
+
+pub short_near : (p : Point) → IsShort p → IsNearPoint p
+short_near p s = near_point p (further (2 ^ 33) (2 ^ 39) p (omega arith) (short_within p s))

@@ -4,17 +4,18 @@ use Rattle.std.specs.Ordering.{int_cmp}
 use Rattle.std.proofs.lemmas.Map.Lookups.{exact_signed, exact_pairs}
 use Rattle.or_geom.specs.declared.shape.Point.{Point}
 use Rattle.or_geom.proofs.LeastLaws.{neither_after, least_is_one}
-use Rattle.gds_stream.specs.declared.library.Structure.{Structure}
+use Rattle.gds_library.specs.declared.library.Structure.{Structure}
 use Rattle.tech_rules.specs.declared.tech.Layer.{Layer}
 use Rattle.cell_chains.specs.Chains.{IsMissing, IsCyclic, IsDepth, IsSound}
 use Rattle.cell_chains.proofs.DepthLaws.{depth_is_one}
-use Rattle.cell_counts.specs.Counts.{Total, AreFew, AreMany, IsTotalWithin}
-use Rattle.cell_counts.specs.OneTotal.{IsOneTotal}
+use Rattle.cell_hierarchy.specs.Counts.{Total, AreFew, AreMany, IsTotalWithin}
+use Rattle.cell_hierarchy.specs.OneTotal.{IsOneTotal}
 use Rattle.cell_hierarchy.specs.declared.fault.FlattenFault.{FlattenFault}
 use Rattle.cell_hierarchy.specs.declared.fault.FlattenFault.TheVariants as flatten_fault
 use Rattle.cell_hierarchy.specs.FlatLists.{point_order, IsFirstFar, HasFew, HasMany, IsFault}
-use Rattle.cell_hierarchy.specs.OneAnswer.{FlattenFaultsAreUnique, FlattenFaultsExcludeLists}
+use Rattle.cell_hierarchy.specs.OneAnswer.{FlattenFaultsAreUnique, FlattenFaultsExcludeShapes, FlattenFaultsExcludeLists}
 use Rattle.cell_hierarchy.proofs.FarLaws.{point_total}
+use Rattle.cell_hierarchy.proofs.OneListsLaws.{shapes_of_lists}
 
 -- two totals of the top are the same
 abbrev HasOneTotal : List Layer → List Structure → List ℕ → Type 0
@@ -110,10 +111,13 @@ one_fault one layers structs top (flatten_fault.Far x y) g w f_known g_known p q
 one_fault one layers structs top flatten_fault.Memory g w f_known g_known p q = absurd (f_known refl)
 
 -- a top with flat lists has no fault
+pub fault_or_shapes : IsOneTotal → FlattenFaultsExcludeShapes
+fault_or_shapes one layers structs top shapes_ (flatten_fault.UnknownStruct name) w known p l = l.sound.there name p.has
+fault_or_shapes one layers structs top shapes_ (flatten_fault.Cycle name) w known p l = l.sound.acyclic name p.1.has
+fault_or_shapes one layers structs top shapes_ (flatten_fault.TooDeep depth) w known p l = deep_unsound structs top depth p.2 p.3 l.sound
+fault_or_shapes one layers structs top shapes_ (flatten_fault.TooMany shapes labels) w known p l = few_not_many layers structs top shapes labels (λ a b. one 32 layers structs top a b w) l.few p.1
+fault_or_shapes one layers structs top shapes_ (flatten_fault.Far x y) w known p l = l.near (record { x = x; y = y }) p.2.far
+fault_or_shapes one layers structs top shapes_ flatten_fault.Memory w known p l = absurd (known refl)
+
 pub fault_or_lists : IsOneTotal → FlattenFaultsExcludeLists
-fault_or_lists one layers structs top lists (flatten_fault.UnknownStruct name) w known p l = l.sound.there name p.has
-fault_or_lists one layers structs top lists (flatten_fault.Cycle name) w known p l = l.sound.acyclic name p.1.has
-fault_or_lists one layers structs top lists (flatten_fault.TooDeep depth) w known p l = deep_unsound structs top depth p.2 p.3 l.sound
-fault_or_lists one layers structs top lists (flatten_fault.TooMany shapes labels) w known p l = few_not_many layers structs top shapes labels (λ a b. one 32 layers structs top a b w) l.few p.1
-fault_or_lists one layers structs top lists (flatten_fault.Far x y) w known p l = l.near (record { x = x; y = y }) p.2.far
-fault_or_lists one layers structs top lists flatten_fault.Memory w known p l = absurd (known refl)
+fault_or_lists one layers structs top lists f w known p l = fault_or_shapes one layers structs top lists.shapes f w known p (shapes_of_lists layers structs top lists l)

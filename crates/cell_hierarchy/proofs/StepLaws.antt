@@ -1,4 +1,4 @@
--- Steps of one length that lead from a short coordinate to another, and some of them.
+-- AxisSteps of one length that lead from a short coordinate to another, and some of them.
 use Rattle.std.proofs.Common.{◌≡◌, ℕ, zero, suc, ◌+◌, ◌-◌, ◌<◌, ◌≤◌, ◌^◌, ℤ, pos, negsuc, ◌+ℤ◌, ◌*ℤ◌, ◌≤ℤ◌, w32, w64, FitsSigned, to_z, of_z, sym, ap, subst, ◌∙◌, arith}
 use Rattle.std.proofs.lemmas.Int.{ints, to_z-of_z}
 use Rattle.or_geom.specs.declared.shape.Point.{Point}
@@ -6,7 +6,7 @@ use Rattle.or_geom.specs.declared.place.Place.{Place}
 use Rattle.or_geom.specs.Place.{IsWithin, IsNearPoint}
 use Rattle.or_geom.proofs.PlaceLaws.{same_point}
 use Rattle.cell_hierarchy.specs.Grid.{IsShortWay, IsWritableGrid, IsSpotOf, place_in}
-use Rattle.cell_hierarchy.specs.declared.grid.Grid.{Grid}
+use Rattle.cell_hierarchy.specs.declared.grid.ArrayGrid.{ArrayGrid}
 use Rattle.cell_hierarchy.specs.declared.grid.Spot.{Spot}
 
 more : (c : ℕ) (z : ℤ) → pos (suc c) *ℤ z ≡ z +ℤ (pos c *ℤ z)
@@ -91,30 +91,30 @@ near_end x y c d u v f g a b =
     record { x_above = omega (arith, ints); x_below = omega (arith, ints); y_above = omega (arith, ints); y_below = omega (arith, ints) }
 
 -- the ways of an array's items
-pub across_x : (grid : Grid) (spot : Spot) → IsWritableGrid grid → IsSpotOf grid spot → IsShortWay spot.column grid.across.x
+pub across_x : (grid : ArrayGrid) (spot : Spot) → IsWritableGrid grid → IsSpotOf grid spot → IsShortWay spot.column grid.across.x
 across_x grid spot w s = short_way grid.place.at.x grid.across.x spot.column grid.columns s.in_columns w.at.x w.by_columns.x
 
-pub across_y : (grid : Grid) (spot : Spot) → IsWritableGrid grid → IsSpotOf grid spot → IsShortWay spot.column grid.across.y
+pub across_y : (grid : ArrayGrid) (spot : Spot) → IsWritableGrid grid → IsSpotOf grid spot → IsShortWay spot.column grid.across.y
 across_y grid spot w s = short_way grid.place.at.y grid.across.y spot.column grid.columns s.in_columns w.at.y w.by_columns.y
 
-pub down_x : (grid : Grid) (spot : Spot) → IsWritableGrid grid → IsSpotOf grid spot → IsShortWay spot.row grid.down.x
+pub down_x : (grid : ArrayGrid) (spot : Spot) → IsWritableGrid grid → IsSpotOf grid spot → IsShortWay spot.row grid.down.x
 down_x grid spot w s = short_way grid.place.at.x grid.down.x spot.row grid.rows s.in_rows w.at.x w.by_rows.x
 
-pub down_y : (grid : Grid) (spot : Spot) → IsWritableGrid grid → IsSpotOf grid spot → IsShortWay spot.row grid.down.y
+pub down_y : (grid : ArrayGrid) (spot : Spot) → IsWritableGrid grid → IsSpotOf grid spot → IsShortWay spot.row grid.down.y
 down_y grid spot w s = short_way grid.place.at.y grid.down.y spot.row grid.rows s.in_rows w.at.y w.by_rows.y
 
-pub end_x : (grid : Grid) (spot : Spot) → IsWritableGrid grid → IsSpotOf grid spot → FitsSigned w32 (grid.place.at.x +ℤ (pos spot.column *ℤ grid.across.x))
+pub end_x : (grid : ArrayGrid) (spot : Spot) → IsWritableGrid grid → IsSpotOf grid spot → FitsSigned w32 (grid.place.at.x +ℤ (pos spot.column *ℤ grid.across.x))
 end_x grid spot w s = short_end grid.place.at.x grid.across.x spot.column grid.columns s.in_columns w.at.x w.by_columns.x
 
-pub end_y : (grid : Grid) (spot : Spot) → IsWritableGrid grid → IsSpotOf grid spot → FitsSigned w32 (grid.place.at.y +ℤ (pos spot.column *ℤ grid.across.y))
+pub end_y : (grid : ArrayGrid) (spot : Spot) → IsWritableGrid grid → IsSpotOf grid spot → FitsSigned w32 (grid.place.at.y +ℤ (pos spot.column *ℤ grid.across.y))
 end_y grid spot w s = short_end grid.place.at.y grid.across.y spot.column grid.columns s.in_columns w.at.y w.by_columns.y
 
-pub near_in : (grid : Grid) (spot : Spot) → IsWritableGrid grid → IsSpotOf grid spot → IsWithin (2 ^ 33) (place_in grid spot.column spot.row).at
+pub near_in : (grid : ArrayGrid) (spot : Spot) → IsWritableGrid grid → IsSpotOf grid spot → IsWithin (2 ^ 33) (place_in grid spot.column spot.row).at
 near_in grid spot w s =
     near_end (grid.place.at.x +ℤ (pos spot.column *ℤ grid.across.x)) (grid.place.at.y +ℤ (pos spot.column *ℤ grid.across.y)) spot.row spot.row grid.down.x grid.down.y (end_x grid spot w s) (end_y grid spot w s)
     (down_x grid spot w s) (down_y grid spot w s)
 
-pub place_is : (grid : Grid) (spot : Spot) (ax ay x y : ℤ) → ax ≡ grid.place.at.x +ℤ (pos spot.column *ℤ grid.across.x) → ay ≡ grid.place.at.y +ℤ (pos spot.column *ℤ grid.across.y)
+pub place_is : (grid : ArrayGrid) (spot : Spot) (ax ay x y : ℤ) → ax ≡ grid.place.at.x +ℤ (pos spot.column *ℤ grid.across.x) → ay ≡ grid.place.at.y +ℤ (pos spot.column *ℤ grid.across.y)
     → x ≡ ax +ℤ (pos spot.row *ℤ grid.down.x) → y ≡ ay +ℤ (pos spot.row *ℤ grid.down.y)
     → ◌≡◌ {A = Place} (record { orient = grid.place.orient; at = record { x = x; y = y } }) (place_in grid spot.column spot.row)
 place_is grid spot ax ay x y ex ey fx fy =

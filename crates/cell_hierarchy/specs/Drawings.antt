@@ -1,61 +1,90 @@
--- What the drawings of cells hold, from the bottom up.
-use Rattle.std.specs.Prelude.{◌≡◌, ◌↔◌, ℕ, ◌+◌, ◌*◌, ◌^◌, List, Contains, Some, slice_get}
+-- What cells draw themselves, and which of their references lead to something that is drawn.
+use Rattle.std.specs.Prelude.{◌≡◌, ℕ, ◌<◌, Bool, true, false, List, [], Contains, Some, slice_get, slice_index, length, map}
 use Rattle.std.specs.List.{AllByRecursion}
-use Rattle.or_geom.specs.declared.shape.Shape.{Shape}
-use Rattle.ordered_set.specs.Adds.{Adds}
-use Rattle.ordered_set.specs.Reachable.{AreReachable}
-use Rattle.gds_stream.specs.declared.library.Element.{Element}
-use Rattle.gds_stream.specs.declared.library.Structure.{Structure}
+use Rattle.or_geom.specs.Place.{IsNearPoint}
+use Rattle.or_geom.specs.Reachable.{AreReachable}
+use Rattle.gds_library.specs.declared.library.Element.{Element}
+use Rattle.gds_library.specs.declared.library.Element.TheVariants.{Boundary, Path, Sref, Aref, Text}
+use Rattle.gds_library.specs.declared.library.Structure.{Structure}
 use Rattle.tech_rules.specs.declared.tech.Layer.{Layer}
-use Rattle.element_drawing.specs.declared.label.OwnLabel.{OwnLabel}
-use Rattle.element_drawing.specs.OwnShapes.{AreOwnShapes, IsShapeWithin}
-use Rattle.element_drawing.specs.OwnLabels.{own_labels, IsLabelWithin}
+use Rattle.element_drawing.specs.PlainLabel.{PlainLabel}
+use Rattle.element_drawing.specs.OwnShapes.{AreOwnShapes}
+use Rattle.element_drawing.specs.OwnLabels.{own_labels}
 use Rattle.cell_chains.specs.declared.cell.Cell.{Cell}
+use Rattle.cell_chains.specs.Instances.{Item, HasItem}
 use Rattle.cell_chains.specs.Hierarchy.{IsCell}
+use Rattle.cell_hierarchy.specs.Plain.{plain_label}
+use Rattle.cell_hierarchy.specs.Things.{Thing, IsFlatThing}
+use Rattle.cell_hierarchy.specs.declared.flat.Label.{Label}
 use Rattle.cell_hierarchy.specs.declared.drawing.Drawing.{Drawing}
-use Rattle.cell_hierarchy.specs.FlatSet.{IsFlatShape, IsFlatLabel}
-use Rattle.cell_hierarchy.specs.Below.{SomeElementGives, MovesShape, HoldsShape, MovesLabel, HoldsLabel, AreNearLabels}
+use Rattle.cell_hierarchy.specs.declared.parts.CellPart.{CellPart}
 
--- the elements' own shapes, and those that they take over
-pub record AreCellShapes (layers : List Layer) (elements : List Element) (targets : List ℕ) (below : List Drawing) (shapes : List Shape) : Type 0 where
-  pub own : List Shape
-  pub drawn : AreOwnShapes layers elements own
-  pub near : AllByRecursion (IsShapeWithin (2 ^ 32)) own
-  pub adds : Adds own shapes (SomeElementGives MovesShape (HoldsShape below targets) 0 elements)
+-- all that it has is within 2^40, and its labels have no paths
+pub record IsOwnDrawing (own : Drawing) : Type 0 where
+  pub shapes : AreReachable own.shapes.items
+  pub labels : AllByRecursion (λ (label : Label). IsNearPoint label.at) own.labels.items
+  pub bare : AllByRecursion (λ (label : Label). label.path.now ≡ []) own.labels.items
+  pub points : AllByRecursion IsNearPoint own.points.items
 
--- the same for labels
-pub record AreCellLabels (layers : List Layer) (elements : List Element) (targets : List ℕ) (below : List Drawing) (labels : List OwnLabel) : Type 0 where
-  pub near : AllByRecursion (IsLabelWithin (2 ^ 32)) (own_labels layers elements)
-  pub adds : Adds (own_labels layers elements) labels (SomeElementGives MovesLabel (HoldsLabel below targets) 0 elements)
+-- the labels, where they are kept
+abbrev pub kept_labels : Bool → List PlainLabel → List PlainLabel
+kept_labels true labels = labels
+kept_labels false labels = []
 
--- all that the drawing holds is within 2^40
-pub record IsNearDrawing (drawing : Drawing) : Type 0 where
-  pub shapes : AreReachable drawing.shapes
-  pub labels : AreNearLabels drawing.labels
+-- what the elements draw themselves
+pub record IsDrawingOf (layers : List Layer) (kept : Bool) (elements : List Element) (drawing : Drawing) : Type 0 where
+  pub shapes : AreOwnShapes layers elements drawing.shapes.items
+  pub labels : map plain_label drawing.labels.items ≡ kept_labels kept (own_labels layers elements)
+  pub points : drawing.points.items ≡ map (λ (label : PlainLabel). label.at) (own_labels layers elements)
+  pub near : IsOwnDrawing drawing
 
--- the drawing of the cell, over the drawings of the cells below
-pub record IsCellDrawing (layers : List Layer) (structs : List Structure) (below : List Drawing) (cell : Cell) (drawing : Drawing) : Type 0 where
+-- the cell draws nothing, and its references lead to none that does
+pub record IsBlank (part : CellPart) : Type 0 where
+  pub shapes : part.own.shapes.items ≡ []
+  pub labels : part.own.labels.items ≡ []
+  pub points : part.own.points.items ≡ []
+  pub live : part.live.items ≡ []
+
+-- there is a part at this index, and it isn't blank
+pub record IsSomeAt (parts : List CellPart) (target : ℕ) : Type 0 where
+  pub part : CellPart
+  pub is : slice_get parts target ≡ Some part
+  pub some : IsBlank part → ⊥
+
+abbrev pub LeadsToSome : Element → ℕ → List CellPart → Type 0
+LeadsToSome (Boundary layer datatype points props) target parts = ⊥
+LeadsToSome (Path layer datatype kind width points props) target parts = ⊥
+LeadsToSome (Sref name place props) target parts = IsSomeAt parts target
+LeadsToSome (Aref name place columns rows across down props) target parts = IsSomeAt parts target
+LeadsToSome (Text layer texttype at string props) target parts = ⊥
+
+-- the indices of the elements that lead to something
+pub record IsLiveOf (elements : List Element) (targets : List ℕ) (parts : List CellPart) (live : List ℕ) : Type 0 where
+  pub inside : (n : ℕ) → Contains live n → n < length elements
+  pub all : (n : ℕ) (e : Element) → slice_get elements n ≡ Some e → LeadsToSome e (slice_index targets n) parts → Contains live n
+
+-- what the cell draws itself, and its references that lead to something in the parts of the cells below
+pub record IsCellPart (layers : List Layer) (kept : Bool) (structs : List Structure) (cell : Cell) (below : List CellPart) (part : CellPart) : Type 0 where
   pub structure : Structure
   pub stands : slice_get structs cell.structure ≡ Some structure
-  pub shapes : AreCellShapes layers structure.elements cell.targets below drawing.shapes
-  pub labels : AreCellLabels layers structure.elements cell.targets below drawing.labels
+  pub drawn : IsDrawingOf layers kept structure.elements part.own
+  pub live : IsLiveOf structure.elements cell.targets below part.live.items
 
--- how far a cell of this height goes
-abbrev pub reach : ℕ → ℕ
-reach height = 2 ^ 32 + height * 2 ^ 33
+-- an element of which something flat is taken over is among those that count
+pub record IsLive (layers : List Layer) (kept : Bool) (structs : List Structure) (elements : List Element) (live : List ℕ) : Type 0 where
+  pub inside : (n : ℕ) → Contains live n → n < length elements
+  pub all : (n : ℕ) (e : Element) (item : Item) (x : Thing) → slice_get elements n ≡ Some e → HasItem n e item → IsFlatThing layers kept structs item.cell x → Contains live n
 
--- exactly the flat shapes and labels of the cell's structure, which lie near
-pub record IsFlatDrawing (layers : List Layer) (structs : List Structure) (cell : Cell) (drawing : Drawing) : Type 0 where
-  pub structure : Structure
-  pub stands : slice_get structs cell.structure ≡ Some structure
-  pub shapes : (s : Shape) → Contains drawing.shapes s ↔ IsFlatShape layers structs structure.name s
-  pub shapes_near : (s : Shape) → Contains drawing.shapes s → IsShapeWithin (reach cell.height) s
-  pub labels : (label : OwnLabel) → Contains drawing.labels label ↔ IsFlatLabel layers structs structure.name label
-  pub labels_near : (label : OwnLabel) → Contains drawing.labels label → IsLabelWithin (reach cell.height) label
+-- what the structure draws itself, and the references that count
+pub record IsPartOf (layers : List Layer) (kept : Bool) (structs : List Structure) (structure : Structure) (part : CellPart) : Type 0 where
+  pub drawn : IsDrawingOf layers kept structure.elements part.own
+  pub live : IsLive layers kept structs structure.elements part.live.items
 
--- the drawings of the first cells
-pub record AreFlatDrawings (layers : List Layer) (structs : List Structure) (cells : List Cell) (drawings : List Drawing) : Type 0 where
-  pub each : (k : ℕ) (cell : Cell) (drawing : Drawing) → slice_get cells k ≡ Some cell → slice_get drawings k ≡ Some drawing → IsFlatDrawing layers structs cell drawing
+-- the parts of the first cells
+pub record AreCellParts (layers : List Layer) (kept : Bool) (structs : List Structure) (cells : List Cell) (count : ℕ) (parts : List CellPart) : Type 0 where
+  pub sized : length parts ≡ count
+  pub each : (k : ℕ) (cell : Cell) (structure : Structure) (part : CellPart) → slice_get cells k ≡ Some cell → slice_get structs cell.structure ≡ Some structure
+      → slice_get parts k ≡ Some part → IsPartOf layers kept structs structure part
 
 -- cells from the bottom up
 pub record AreAllCells (structs : List Structure) (cells : List Cell) : Type 0 where

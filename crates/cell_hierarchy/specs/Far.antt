@@ -1,4 +1,4 @@
--- The first far point of some shapes and labels.
+-- The first far point of some shapes and points of labels.
 use Rattle.std.specs.Prelude.{◌≡◌, ◌≢◌, ◌⊎◌, ℕ, List, Contains, Option, Some, None, slice_get}
 use Rattle.std.specs.declared.cmp.Ordering.{Ordering}
 use Rattle.std.specs.declared.cmp.Ordering.TheVariants.{Less, Equal, Greater}
@@ -6,7 +6,6 @@ use Rattle.or_geom.specs.declared.shape.Point.{Point}
 use Rattle.or_geom.specs.declared.shape.Rect.{Rect}
 use Rattle.or_geom.specs.declared.shape.Shape.{Shape}
 use Rattle.gds_records.specs.Values.{IsShort}
-use Rattle.element_drawing.specs.declared.label.OwnLabel.{OwnLabel}
 use Rattle.cell_hierarchy.specs.FlatSet.{IsCorner}
 use Rattle.cell_hierarchy.specs.FlatLists.{point_order}
 
@@ -52,10 +51,10 @@ pub record HasFarCorner (shapes : List Shape) (p : Point) : Type 0 where
   pub among : Contains shapes shape
   pub is : IsFarCorner shape p
 
-pub record HasFarLabel (labels : List OwnLabel) (p : Point) : Type 0 where
-  pub label : OwnLabel
-  pub among : Contains labels label
-  pub is : IsFarAt label.at p
+pub record HasFarPoint (points : List Point) (p : Point) : Type 0 where
+  pub own : Point
+  pub among : Contains points own
+  pub is : IsFarAt own p
 
 -- a far corner of the shape at place k
 pub record IsFarCornerAt (shapes : List Shape) (k : ℕ) (p : Point) : Type 0 where
@@ -63,11 +62,11 @@ pub record IsFarCornerAt (shapes : List Shape) (k : ℕ) (p : Point) : Type 0 wh
   pub stands : slice_get shapes k ≡ Some shape
   pub is : IsFarCorner shape p
 
--- the far point of the label at place k
-pub record IsFarLabelAt (labels : List OwnLabel) (k : ℕ) (p : Point) : Type 0 where
-  pub label : OwnLabel
-  pub stands : slice_get labels k ≡ Some label
-  pub is : IsFarAt label.at p
+-- the far point at index k
+pub record IsFarPointAt (points : List Point) (k : ℕ) (p : Point) : Type 0 where
+  pub own : Point
+  pub stands : slice_get points k ≡ Some own
+  pub is : IsFarAt own p
 
-abbrev pub IsFarIn : List Shape → List OwnLabel → Point → Type 0
-IsFarIn shapes labels p = HasFarCorner shapes p ⊎ HasFarLabel labels p
+abbrev pub IsFarIn : List Shape → List Point → Point → Type 0
+IsFarIn shapes points p = HasFarCorner shapes p ⊎ HasFarPoint points p

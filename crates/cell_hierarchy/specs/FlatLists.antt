@@ -6,16 +6,16 @@ use Rattle.std.specs.declared.cmp.Ordering.{Ordering}
 use Rattle.std.specs.declared.cmp.Ordering.TheVariants.{Greater}
 use Rattle.or_geom.specs.declared.shape.Point.{Point}
 use Rattle.or_geom.specs.declared.shape.Shape.{Shape}
-use Rattle.gds_stream.specs.declared.library.Structure.{Structure}
+use Rattle.gds_library.specs.declared.library.Structure.{Structure}
 use Rattle.tech_rules.specs.declared.tech.Layer.{Layer}
-use Rattle.ordered_set.specs.ShapeOrder.{shape_order}
-use Rattle.element_drawing.specs.declared.label.OwnLabel.{OwnLabel}
+use Rattle.or_geom.specs.ShapeOrder.{shape_order}
+use Rattle.element_drawing.specs.PlainLabel.{PlainLabel}
 use Rattle.element_drawing.specs.LabelOrder.{label_order}
 use Rattle.cell_chains.specs.declared.fault.ChainFault.TheVariants as chain_fault
 use Rattle.cell_chains.specs.Chains.{IsSound}
 use Rattle.cell_chains.specs.Hierarchy.{IsChainFault}
-use Rattle.cell_counts.specs.Counts.{Total, IsTotalWithin, IsStanding, AreFew, AreMany}
-use Rattle.cell_hierarchy.specs.declared.flat.FlatLists.{FlatLists}
+use Rattle.cell_hierarchy.specs.Counts.{Total, IsTotalWithin, IsSaturated, AreFew, AreMany}
+use Rattle.cell_hierarchy.specs.Plain.{FlatLists}
 use Rattle.cell_hierarchy.specs.declared.fault.FlattenFault.{FlattenFault}
 use Rattle.cell_hierarchy.specs.declared.fault.FlattenFault.TheVariants as flatten_fault
 use Rattle.cell_hierarchy.specs.FlatSet.{IsFlatShape, IsFlatLabel, IsFar}
@@ -40,7 +40,7 @@ pub record HasMany (layers : List Layer) (structs : List Structure) (top : List 
   pub total : Total
   pub is : IsTotalWithin 32 layers structs top total
   pub many : AreMany total
-  pub standing : IsStanding total (record { shapes = shapes; labels = labels })
+  pub standing : IsSaturated total (record { shapes = shapes; labels = labels })
 
 -- why a structure has no flat lists: the first of these that holds
 abbrev pub IsFault : List Layer → List Structure → List ℕ → FlattenFault → Type 0
@@ -51,6 +51,14 @@ IsFault layers structs top (flatten_fault.TooMany shapes labels) = IsSound struc
 IsFault layers structs top (flatten_fault.Far x y) = IsSound structs top × HasFew layers structs top × IsFirstFar layers structs top (record { x = x; y = y })
 IsFault layers structs top flatten_fault.Memory = Unit {0}
 
+-- exactly the flat shapes, in order and once; and none of the faults holds
+pub record AreFlatShapes (layers : List Layer) (structs : List Structure) (top : List ℕ) (shapes : List Shape) : Type 0 where
+  pub sound : IsSound structs top
+  pub few : HasFew layers structs top
+  pub near : (p : Point) → IsFar layers structs top p → ⊥
+  pub rise : IsStrictlySortedBy shape_order shapes
+  pub exact : (s : Shape) → Contains shapes s ↔ IsFlatShape layers structs top s
+
 -- exactly the flat shapes and labels, each in order and once; and none of the faults holds
 pub record AreFlatLists (layers : List Layer) (structs : List Structure) (top : List ℕ) (lists : FlatLists) : Type 0 where
   pub sound : IsSound structs top
@@ -59,4 +67,4 @@ pub record AreFlatLists (layers : List Layer) (structs : List Structure) (top : 
   pub shapes_rise : IsStrictlySortedBy shape_order lists.shapes
   pub shapes_exact : (s : Shape) → Contains lists.shapes s ↔ IsFlatShape layers structs top s
   pub labels_rise : IsStrictlySortedBy label_order lists.labels
-  pub labels_exact : (label : OwnLabel) → Contains lists.labels label ↔ IsFlatLabel layers structs top label
+  pub labels_exact : (label : PlainLabel) → Contains lists.labels label ↔ IsFlatLabel layers structs top label

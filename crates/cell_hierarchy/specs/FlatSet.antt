@@ -5,10 +5,10 @@ use Rattle.or_geom.specs.declared.shape.Shape.{Shape}
 use Rattle.or_geom.specs.declared.place.Place.{Place}
 use Rattle.or_geom.specs.Place.{placed, IsImage}
 use Rattle.gds_records.specs.Values.{IsShort}
-use Rattle.gds_stream.specs.declared.library.Element.{Element}
-use Rattle.gds_stream.specs.declared.library.Structure.{Structure}
+use Rattle.gds_library.specs.declared.library.Element.{Element}
+use Rattle.gds_library.specs.declared.library.Structure.{Structure}
 use Rattle.tech_rules.specs.declared.tech.Layer.{Layer}
-use Rattle.element_drawing.specs.declared.label.OwnLabel.{OwnLabel}
+use Rattle.element_drawing.specs.PlainLabel.{PlainLabel}
 use Rattle.element_drawing.specs.OwnShapes.{AreOwnShapes}
 use Rattle.element_drawing.specs.OwnLabels.{own_labels}
 use Rattle.cell_chains.specs.Instances.{Item}
@@ -42,19 +42,19 @@ path_under name [] = name
 path_under name (b ∷ bs) = name ++ (47 ∷ b ∷ bs)
 
 -- the label of an instance's structure, moved to the instance's place and named below the instance
-pub record IsLabelMoved (item : Item) (inner label : OwnLabel) : Type 0 where
+pub record IsLabelMoved (item : Item) (inner label : PlainLabel) : Type 0 where
   pub path : label.path ≡ path_under item.name inner.path
   pub name : label.name ≡ inner.name
   pub layer : label.layer ≡ inner.layer
   pub at : label.at ≡ placed item.place inner.at
 
 -- the same for labels
-abbrev pub IsLabelBy : List Layer → List Structure → List ℕ → List Item → OwnLabel → Type 0
+abbrev pub IsLabelBy : List Layer → List Structure → List ℕ → List Item → PlainLabel → Type 0
 IsLabelBy layers structs name [] label = Contains (own_labels layers (elements_of structs name)) label
 IsLabelBy layers structs name (item ∷ items) label =
-    IsItemOf structs name item × (inner : OwnLabel) × IsLabelBy layers structs item.cell items inner × IsLabelMoved item inner label
+    IsItemOf structs name item × (inner : PlainLabel) × IsLabelBy layers structs item.cell items inner × IsLabelMoved item inner label
 
-pub record IsFlatLabel (layers : List Layer) (structs : List Structure) (top : List ℕ) (label : OwnLabel) : Type 0 where
+pub record IsFlatLabel (layers : List Layer) (structs : List Structure) (top : List ℕ) (label : PlainLabel) : Type 0 where
   pub chain : List Item
   pub stands : IsLabelBy layers structs top chain label
 
@@ -69,7 +69,7 @@ pub record IsCornerOfFlat (layers : List Layer) (structs : List Structure) (top 
   pub corner : IsCorner shape p
 
 pub record IsPointOfLabel (layers : List Layer) (structs : List Structure) (top : List ℕ) (p : Point) : Type 0 where
-  pub label : OwnLabel
+  pub label : PlainLabel
   pub flat : IsFlatLabel layers structs top label
   pub is : label.at ≡ p
 

@@ -1,9 +1,27 @@
-use element_drawing::OwnLabel;
-use or_geom::{Items, Shape};
+ghost use Rattle.std.specs.Prelude.{◌≡◌, []};
 
-/// What a cell and all cells below it draw, in the cell's own coordinates: in no order, and perhaps some of it twice.
-#[derive(Debug, Drop)]
-pub struct Drawing {
-    pub shapes: Items<Shape>,
-    pub labels: Items<OwnLabel>,
+use crate::flat::Label;
+use or_geom::{Point, Shape};
+use std::alloc::Global;
+
+/// What a cell draws, in no order and perhaps some of it twice: shapes, labels, and the points of all labels, which are
+/// listed also where the labels themselves are not kept.
+#[derive(Drop)]
+pub struct Drawing<'b> {
+    pub shapes: Vec<Shape>,
+    pub labels: Vec<Label<'b>>,
+    pub points: Vec<Point>,
+}
+
+/// Nothing yet.
+pub fn blank<'b>(alloc: Global) -> Drawing<'b>
+    ensures shapes { result.shapes.items ≡ [] }
+    ensures labels { result.labels.items ≡ [] }
+    ensures points { result.points.items ≡ [] }
+{
+    Drawing {
+        shapes: Vec::new(alloc),
+        labels: Vec::new(alloc),
+        points: Vec::new(alloc),
+    }
 }

@@ -1,9 +1,8 @@
 ghost use Rattle.std.specs.Prelude.{◌≡◌, ◌↔◌, IsTrue};
 ghost use Rattle.gds_records.specs.Values.{IsShort};
 ghost use Rattle.or_geom.specs.Place.{low_corner, high_corner};
-ghost use Rattle.cell_hierarchy.specs.Far.{IsFirstOf, first_of, upper_left, lower_right, IsFarAt, IsFarCorner, HasFarCorner, HasFarLabel, IsFarIn};
+ghost use Rattle.cell_hierarchy.specs.Far.{IsFirstOf, first_of, upper_left, lower_right, IsFarAt, IsFarCorner, HasFarCorner, HasFarPoint, IsFarIn};
 
-use element_drawing::OwnLabel;
 use or_geom::{Point, Rect, Shape};
 use std::cmp::Ordering;
 
@@ -102,19 +101,19 @@ fn far_corner(shapes: &[Shape]) -> Option<Point>
     first
 }
 
-fn far_label(labels: &[OwnLabel]) -> Option<Point>
-    ensures { IsFirstOf (HasFarLabel labels.now) result }
+fn far_of(points: &[Point]) -> Option<Point>
+    ensures { IsFirstOf (HasFarPoint points.now) result }
 {
     let mut first = None;
-    for label in labels {
-        first = first_of(first, far_at(label.at));
+    for p in points {
+        first = first_of(first, far_at(*p));
     }
     first
 }
 
 /// The first corner of a shape or point of a label, by x and then y, that lies outside 32 bits.
-pub fn far_point(shapes: &[Shape], labels: &[OwnLabel]) -> Option<Point>
-    ensures { IsFirstOf (IsFarIn shapes.now labels.now) result }
+pub fn far_point(shapes: &[Shape], points: &[Point]) -> Option<Point>
+    ensures { IsFirstOf (IsFarIn shapes.now points.now) result }
 {
-    first_of(far_corner(shapes), far_label(labels))
+    first_of(far_corner(shapes), far_of(points))
 }

@@ -7,13 +7,13 @@ pub enum FlattenFault {
     UnknownStruct { name: Name },
     /// The least name reached that reaches itself.
     Cycle { name: Name },
-    /// The longest chain has this many references, which are more than 32. The number stands at 2^32 - 1 where it is longer.
+    /// The longest chain has this many references, which are more than 32. The number is saturated at 2^32 - 1.
     TooDeep { depth: u32 },
-    /// More than 2^24 shapes or 2^22 labels, before equal ones are merged. Each number stands at 2^32 where it is larger.
+    /// More than 2^24 shapes or 2^22 labels, before equal ones are merged. Each number is saturated at 2^32.
     TooMany { shapes: u64, labels: u64 },
     /// The first corner of a shape or point of a label, by x and then y, that lies outside 32 bits.
     Far { x: i64, y: i64 },
-    /// Memory was wanting.
+    /// Memory ran out.
     Memory,
 }
 

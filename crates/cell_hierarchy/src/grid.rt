@@ -7,7 +7,7 @@ use or_geom::{Place, Point};
 
 /// An array of references: `across` leads from one column to the next, `down` from one row to the next.
 #[derive(Clone, Copy)]
-pub struct Grid {
+pub struct ArrayGrid {
     pub place: Place,
     pub columns: u16,
     pub rows: u16,
@@ -24,14 +24,14 @@ pub struct Spot {
 
 /// So many steps of one length from a coordinate.
 #[derive(Clone, Copy)]
-struct Steps {
+struct AxisSteps {
     from: i64,
     count: u16,
     length: i64,
 }
 
 /// Where the steps lead.
-fn end_of(steps: Steps) -> i64
+fn end_of(steps: AxisSteps) -> i64
     requires from { FitsSigned w32 steps.from }
     requires way { IsShortWay steps.count steps.length }
     ensures { result ≡ steps.from +ℤ pos steps.count *ℤ steps.length }
@@ -41,28 +41,28 @@ fn end_of(steps: Steps) -> i64
 }
 
 /// The place of an array's item.
-pub fn place_at(grid: Grid, spot: Spot) -> Place
+pub fn place_at(grid: ArrayGrid, spot: Spot) -> Place
     requires writable { IsWritableGrid grid }
     requires spot { IsSpotOf grid spot }
     ensures is { result ≡ place_in grid spot.column spot.row }
     ensures near { IsWithin (2 ^ 33) result.at }
 {
-    let across_x = end_of(Steps {
+    let across_x = end_of(AxisSteps {
         from: grid.place.at.x,
         count: spot.column,
         length: grid.across.x,
     });
-    let across_y = end_of(Steps {
+    let across_y = end_of(AxisSteps {
         from: grid.place.at.y,
         count: spot.column,
         length: grid.across.y,
     });
-    let x = end_of(Steps {
+    let x = end_of(AxisSteps {
         from: across_x,
         count: spot.row,
         length: grid.down.x,
     });
-    let y = end_of(Steps {
+    let y = end_of(AxisSteps {
         from: across_y,
         count: spot.row,
         length: grid.down.y,

@@ -1,27 +1,34 @@
 //! Flattening: the shapes and labels of a structure and of all structures below it.
 #![tactic(auto)]
 
-mod array;
-mod cell;
+mod arena;
+mod arithmetic;
+mod below;
 mod convert;
 mod count;
+mod counts;
 mod drawing;
 mod far;
 mod fault;
 mod flat;
-mod flatten;
+mod flattening;
 mod grid;
-mod label;
-mod label_array;
-mod labels_below;
 mod laws;
-mod moved;
-mod settle;
-mod shapes_below;
+mod order;
+mod own;
+mod parts;
+mod placement;
+mod references;
+mod sorted;
 mod top;
+mod tree;
+mod walk;
 
-pub use element_drawing::OwnLabel;
 pub use fault::FlattenFault;
-pub use flat::FlatLists;
-pub use flatten::flat_lists;
-pub use laws::{flat_lists_are_unique, flatten_faults_are_unique, flatten_faults_exclude_lists};
+pub use flat::{Flat, Label, flat_is_shared};
+pub use flattening::{flatten, flatten_shapes};
+pub use laws::{
+    flat_lists_are_few, flat_lists_are_unique, flat_lists_have_flat_shapes, flat_shapes_are_images,
+    flat_shapes_are_unique, flat_texts_are_ascii, flatten_faults_are_unique,
+    flatten_faults_exclude_lists, flatten_faults_exclude_shapes,
+};

@@ -1,34 +1,35 @@
-ghost use Rattle.std.specs.Prelude.{◌≤◌, length, IfOk};
-ghost use Rattle.std.specs.List.{AllByRecursion};
-ghost use Rattle.gds_stream.specs.Writable.{IsWritableCell};
+ghost use Rattle.std.specs.Prelude.{IfOk};
 ghost use Rattle.cell_chains.specs.Hierarchy.{AreCells};
-ghost use Rattle.cell_counts.specs.OneSet.{AreOneSet};
+ghost use Rattle.cell_hierarchy.specs.Parts.{IsCellTree};
 ghost use Rattle.cell_hierarchy.specs.Settled.{IsTopDrawing};
 
-use crate::cell::drawings_of;
-use crate::drawing::Drawing;
-use cell_chains::Cell;
-use gds_stream::Structure;
-use or_geom::{Memory, Name};
+use crate::drawing::{Drawing, blank};
+use crate::placement::Placement;
+use crate::tree::Tree;
+use crate::walk::add_cell;
+use bumpalo::Bump;
+use or_geom::{Memory, Name, Orient, Place, Point};
 use std::alloc::Global;
-use tech_rules::Layer;
 
-/// The drawing of the top, which is the last of the cells.
-pub fn top_drawing(
+/// What the top draws with all cells below it; it is the last of the cells.
+pub fn top_drawing<'b>(
     alloc: Global,
-    layers: &[Layer],
-    structs: &[Structure],
+    bump: &'b Bump,
+    tree: &Tree<'_, 'b>,
     _top: &Name,
-    cells: &[Cell],
-) -> Result<Drawing, Memory>
-    requires one_set { AreOneSet }
-    requires few { length layers.now ≤ 64 }
-    requires writable { AllByRecursion IsWritableCell structs.now }
-    requires cells { AreCells structs.now _top.now cells.now }
-    ensures { IfOk result (IsTopDrawing layers.now structs.now _top.now) }
+) -> Result<Drawing<'b>, Memory>
+    requires tree { IsCellTree tree.now }
+    requires cells { AreCells tree.now.structs.now _top.now tree.now.cells.now }
+    ensures { IfOk result (IsTopDrawing tree.now.layers.now tree.now.keeps_labels tree.now.structs.now _top.now) }
 {
-    let mut drawings = drawings_of(alloc, layers, structs, cells)?;
-    let last = cells.len() - 1;
-    let drawing = drawings.swap_remove(last);
+    let at = Placement {
+        path: "",
+        place: Place {
+            orient: Orient::R0,
+            at: Point { x: 0, y: 0 },
+        },
+    };
+    let mut drawing = blank(alloc);
+    add_cell(alloc, bump, tree, tree.cells.len() - 1, &at, &mut drawing)?;
     Ok(drawing)
 }

@@ -8,13 +8,13 @@ use Rattle.or_geom.specs.declared.shape.Point.{Point}
 use Rattle.or_geom.specs.declared.shape.Rect.{Rect}
 use Rattle.rectilinear.specs.Simple.{AllStraight}
 use Rattle.gds_records.specs.Values.{IsShort}
-use Rattle.gds_stream.specs.Values.{segments_from}
-use Rattle.element_drawing.specs.declared.extent.Extent.{Extent}
+use Rattle.gds_library.specs.Values.{segments_from}
+use Rattle.element_drawing.specs.declared.extent.AxisExtent.{AxisExtent}
 use Rattle.element_drawing.specs.declared.boxes.Stroke.{Stroke}
 use Rattle.element_drawing.specs.declared.boxes.Tip.{Tip}
 use Rattle.element_drawing.specs.declared.boxes.Segment.{Segment}
 use Rattle.element_drawing.specs.Paths.{IsSegmentBox, AreBoxesFrom}
-use Rattle.element_drawing.specs.Segments.{IsLength, IsExtentOf, IsOver}
+use Rattle.element_drawing.specs.Segments.{IsLength, IsStretchExtent, IsOver}
 
 -- the boxes so far, which those of the rest complete
 pub record AreBoxesBut (stroke : Stroke) (first : Point) (others : List Point) (tip : Tip) (rest : List Point) (boxes : List Rect) : Type 0 where
@@ -27,8 +27,8 @@ pub record AreBoxesBut (stroke : Stroke) (first : Point) (others : List Point) (
 pub boxes_all : (stroke : Stroke) (first : Point) (others : List Point) (tip : Tip) (boxes : List Rect) → AreBoxesBut stroke first others tip [] boxes → AreBoxesFrom stroke.half stroke.last stroke.last first others boxes
 boxes_all stroke first others tip boxes but = subst (AreBoxesFrom stroke.half stroke.last stroke.last first others) (append-nil boxes) (but.completes [] refl)
 
-pub upright_is_box : (s : Segment) (across upward : Extent) (r : Rect) → s.from.x ≡ s.to.x → IsExtentOf (record { from = s.from.x; to = s.from.x; before = s.half; after = s.half }) across
-    → IsExtentOf (record { from = s.from.y; to = s.to.y; before = s.before; after = s.after }) upward → IsOver across upward r → IsSegmentBox s.half s.before s.after s.from s.to r
+pub upright_is_box : (s : Segment) (across upward : AxisExtent) (r : Rect) → s.from.x ≡ s.to.x → IsStretchExtent (record { from = s.from.x; to = s.from.x; before = s.half; after = s.half }) across
+    → IsStretchExtent (record { from = s.from.y; to = s.to.y; before = s.before; after = s.after }) upward → IsOver across upward r → IsSegmentBox s.half s.before s.after s.from s.to r
 upright_is_box s across upward r level x y over =
     let x_is = x.rising (omega (arith, ints)) in
     record {
@@ -38,8 +38,8 @@ upright_is_box s across upward r level x y over =
       down = λ h. let y_is = y.falling h.rises in record { x1 = over.x1 ∙ x_is.low; y1 = over.y1 ∙ y_is.low; x2 = over.x2 ∙ x_is.high; y2 = over.y2 ∙ y_is.high };
     }
 
-pub level_is_box : (s : Segment) (across upward : Extent) (r : Rect) → s.from.y ≡ s.to.y → IsExtentOf (record { from = s.from.x; to = s.to.x; before = s.before; after = s.after }) across
-    → IsExtentOf (record { from = s.from.y; to = s.from.y; before = s.half; after = s.half }) upward → IsOver across upward r → IsSegmentBox s.half s.before s.after s.from s.to r
+pub level_is_box : (s : Segment) (across upward : AxisExtent) (r : Rect) → s.from.y ≡ s.to.y → IsStretchExtent (record { from = s.from.x; to = s.to.x; before = s.before; after = s.after }) across
+    → IsStretchExtent (record { from = s.from.y; to = s.from.y; before = s.half; after = s.half }) upward → IsOver across upward r → IsSegmentBox s.half s.before s.after s.from s.to r
 level_is_box s across upward r level x y over =
     let y_is = y.rising (omega (arith, ints)) in
     record {

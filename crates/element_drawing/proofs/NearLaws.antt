@@ -11,14 +11,14 @@ use Rattle.or_geom.specs.Place.{IsWithin}
 use Rattle.or_geom.proofs.ListLaws.{contains_first, contains_later}
 use Rattle.rectilinear.specs.Simple.{IsStraight, AllStraight}
 use Rattle.gds_records.specs.Values.{IsShort}
-use Rattle.gds_stream.specs.declared.library.Element.{Element}
-use Rattle.gds_stream.specs.declared.library.Element.TheVariants.{Boundary, Path, Sref, Aref, Text}
-use Rattle.gds_stream.specs.Values.{segments_from}
-use Rattle.gds_stream.specs.Writable.{IsWritableTrack, IsWritableElement}
-use Rattle.slabs.specs.Slabs.{IsSlabList}
-use Rattle.slabs.proofs.NearLaws.{slabs_stay_near}
+use Rattle.gds_library.specs.declared.library.Element.{Element}
+use Rattle.gds_library.specs.declared.library.Element.TheVariants.{Boundary, Path, Sref, Aref, Text}
+use Rattle.gds_library.specs.Values.{segments_from}
+use Rattle.gds_library.specs.Writable.{IsWritableTrack, IsWritableElement}
+use Rattle.rectilinear.specs.Slabs.{IsSlabList}
+use Rattle.rectilinear.proofs.NearLaws.{slabs_stay_near}
 use Rattle.tech_rules.specs.declared.tech.Layer.{Layer}
-use Rattle.element_drawing.specs.declared.label.OwnLabel.{OwnLabel}
+use Rattle.element_drawing.specs.PlainLabel.{PlainLabel}
 use Rattle.element_drawing.specs.Paths.{IsBox, IsSegmentBox, AreBoxesFrom, IsEnd, AreBoxes}
 use Rattle.element_drawing.specs.Drawing.{IsDrawing}
 use Rattle.element_drawing.specs.OwnLabels.{own_labels, with_label, text_place_of, IsLabelWithin}
@@ -40,7 +40,7 @@ points_near (p ∷ ps) short = (point_near p short.0, points_near ps short.1)
 
 -- labels
 
-label_near : (place : Option ℕ) (name : List ℕ) (at : Point) (labels : List OwnLabel) → IsShort at → AllByRecursion (IsLabelWithin (2 ^ 32)) labels → AllByRecursion (IsLabelWithin (2 ^ 32)) (with_label place name at labels)
+label_near : (place : Option ℕ) (name : List ℕ) (at : Point) (labels : List PlainLabel) → IsShort at → AllByRecursion (IsLabelWithin (2 ^ 32)) labels → AllByRecursion (IsLabelWithin (2 ^ 32)) (with_label place name at labels)
 label_near None name at labels short near = near
 label_near (Some layer) name at labels short near = (point_near at short, near)
 

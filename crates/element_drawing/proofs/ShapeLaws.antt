@@ -3,8 +3,8 @@ use Rattle.std.proofs.Common.{◌≡◌, List, [], ◌∷◌, ◌++◌, refl, ap
 use Rattle.std.proofs.lemmas.List.{append-nil}
 use Rattle.std.specs.List.{AllByRecursion}
 use Rattle.or_geom.specs.declared.shape.Shape.{Shape}
-use Rattle.gds_stream.specs.declared.library.Element.{Element}
-use Rattle.gds_stream.specs.Writable.{IsWritableElement}
+use Rattle.gds_library.specs.declared.library.Element.{Element}
+use Rattle.gds_library.specs.Writable.{IsWritableElement}
 use Rattle.tech_rules.specs.declared.tech.Layer.{Layer}
 use Rattle.element_drawing.specs.OwnShapes.{AreOwnShapes, AreShapesOf}
 

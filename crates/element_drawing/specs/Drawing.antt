@@ -1,9 +1,9 @@
 -- The rectangles that an element draws: the slabs of a polygon, or the boxes of a path.
 use Rattle.std.specs.Prelude.{◌≡◌, List, []}
 use Rattle.or_geom.specs.declared.shape.Rect.{Rect}
-use Rattle.gds_stream.specs.declared.library.Element.{Element}
-use Rattle.gds_stream.specs.declared.library.Element.TheVariants.{Boundary, Path, Sref, Aref, Text}
-use Rattle.slabs.specs.Slabs.{IsSlabList}
+use Rattle.gds_library.specs.declared.library.Element.{Element}
+use Rattle.gds_library.specs.declared.library.Element.TheVariants.{Boundary, Path, Sref, Aref, Text}
+use Rattle.rectilinear.specs.Slabs.{IsSlabList}
 use Rattle.element_drawing.specs.Paths.{AreBoxes}
 
 abbrev pub IsDrawing : Element → List Rect → Type 0

@@ -3,10 +3,10 @@ use Rattle.std.specs.Prelude.{◌≡◌, IsTrue}
 use Rattle.std.specs.Ordering.{ordering_then, int_cmp, nat_cmp, eq_by_cmp}
 use Rattle.std.specs.Cmp.Lexicographic.{slice_cmp}
 use Rattle.std.specs.declared.cmp.Ordering.{Ordering}
-use Rattle.element_drawing.specs.declared.label.OwnLabel.{OwnLabel}
+use Rattle.element_drawing.specs.PlainLabel.{PlainLabel}
 
 -- by path, name, layer, x and y; texts by their bytes
-abbrev pub label_order : OwnLabel → OwnLabel → Ordering
+abbrev pub label_order : PlainLabel → PlainLabel → Ordering
 label_order a b =
     ordering_then (slice_cmp nat_cmp a.path b.path)
     (ordering_then (slice_cmp nat_cmp a.name b.name)
@@ -15,4 +15,4 @@ label_order a b =
 
 -- Labels that compare as equal are the same label.
 abbrev pub EqIsSame : Type 0
-EqIsSame = (a b : OwnLabel) → IsTrue (eq_by_cmp label_order a b) → a ≡ b
+EqIsSame = (a b : PlainLabel) → IsTrue (eq_by_cmp label_order a b) → a ≡ b

@@ -1,7 +1,9 @@
+pub mod PlainLabel
 pub mod Paths
 pub mod Drawing
 pub mod OwnShapes
 pub mod OwnLabels
+pub mod ElementLabels
 pub mod LabelOrder
 pub mod OrderLaws
 pub mod Segments

@@ -3,20 +3,20 @@ use Rattle.std.specs.Prelude.{◌≡◌, ℕ, ℤ, List, [], ◌∷◌, ◌++◌
 use Rattle.or_geom.specs.declared.shape.Rect.{Rect}
 use Rattle.or_geom.specs.declared.shape.Shape.{Shape}
 use Rattle.or_geom.specs.Place.{IsWithin, low_corner, high_corner}
-use Rattle.gds_stream.specs.declared.library.Element.{Element}
-use Rattle.gds_stream.specs.declared.library.Element.TheVariants.{Boundary, Path, Sref, Aref, Text}
+use Rattle.gds_library.specs.declared.library.Element.{Element}
+use Rattle.gds_library.specs.declared.library.Element.TheVariants.{Boundary, Path, Sref, Aref, Text}
 use Rattle.tech_rules.specs.declared.tech.Layer.{Layer}
 use Rattle.tech_rules.specs.WireRules.{has_numbers}
 use Rattle.element_drawing.specs.Drawing.{IsDrawing}
 
 -- the place of the first layer whose shapes have these numbers
-abbrev pub place_of : List Layer → ℤ → ℤ → Option ℕ
-place_of layers number datatype = position (has_numbers number datatype) layers
+abbrev pub layer_with_numbers : List Layer → ℤ → ℤ → Option ℕ
+layer_with_numbers layers number datatype = position (has_numbers number datatype) layers
 
 -- the layer on which an element draws, if the technology has it
 abbrev pub layer_of : List Layer → Element → Option ℕ
-layer_of layers (Boundary layer datatype points props) = place_of layers layer datatype
-layer_of layers (Path layer datatype kind width points props) = place_of layers layer datatype
+layer_of layers (Boundary layer datatype points props) = layer_with_numbers layers layer datatype
+layer_of layers (Path layer datatype kind width points props) = layer_with_numbers layers layer datatype
 layer_of layers (Sref name place props) = None
 layer_of layers (Aref name place columns rows across down props) = None
 layer_of layers (Text layer texttype at string props) = None

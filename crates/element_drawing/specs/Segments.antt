@@ -5,7 +5,7 @@ use Rattle.or_geom.specs.declared.shape.Point.{Point}
 use Rattle.or_geom.specs.declared.shape.Rect.{Rect}
 use Rattle.rectilinear.specs.Simple.{IsStraight}
 use Rattle.gds_records.specs.Values.{IsShort}
-use Rattle.element_drawing.specs.declared.extent.Extent.{Extent}
+use Rattle.element_drawing.specs.declared.extent.AxisExtent.{AxisExtent}
 use Rattle.element_drawing.specs.declared.stretch.Stretch.{Stretch}
 use Rattle.element_drawing.specs.declared.boxes.Stroke.{Stroke}
 use Rattle.element_drawing.specs.declared.boxes.Tip.{Tip}
@@ -27,16 +27,16 @@ abbrev pub turned_stretch : Stretch → Stretch
 turned_stretch s = record { from = s.to; to = s.from; before = s.after; after = s.before }
 
 -- from a low number to a high one
-pub record IsFromTo (from to : ℤ) (e : Extent) : Type 0 where
+pub record IsFromTo (from to : ℤ) (e : AxisExtent) : Type 0 where
   pub low : e.low ≡ from
   pub high : e.high ≡ to
 
 -- longer before its beginning and after its end, whichever of them is the lower
-pub record IsExtentOf (s : Stretch) (e : Extent) : Type 0 where
+pub record IsStretchExtent (s : Stretch) (e : AxisExtent) : Type 0 where
   pub rising : s.from ≤ℤ s.to → IsFromTo (s.from -ℤ s.before) (s.to +ℤ s.after) e
   pub falling : s.to <ℤ s.from → IsFromTo (s.to -ℤ s.after) (s.from +ℤ s.before) e
 
-pub record IsOver (across upward : Extent) (r : Rect) : Type 0 where
+pub record IsOver (across upward : AxisExtent) (r : Rect) : Type 0 where
   pub x1 : r.x1 ≡ across.low
   pub y1 : r.y1 ≡ upward.low
   pub x2 : r.x2 ≡ across.high

@@ -2,8 +2,8 @@ ghost use Rattle.std.specs.Prelude.{◌≡◌, ◌∷◌, IfOk};
 ghost use Rattle.std.specs.List.{AllByRecursion};
 ghost use Rattle.rectilinear.specs.Simple.{AllStraight};
 ghost use Rattle.gds_records.specs.Values.{IsShort};
-ghost use Rattle.gds_stream.specs.Values.{segments_from};
-ghost use Rattle.gds_stream.specs.Writable.{IsWritableTrack};
+ghost use Rattle.gds_library.specs.Values.{segments_from};
+ghost use Rattle.gds_library.specs.Writable.{IsWritableTrack};
 ghost use Rattle.element_drawing.specs.Paths.{AreBoxes, AreBoxesFrom, IsSegmentBox};
 ghost use Rattle.element_drawing.specs.Segments.{IsShortSegment, IsShortStroke, IsStroke, segment_at};
 

@@ -1,11 +1,11 @@
 ghost use Rattle.std.specs.Prelude.{IfOk};
-ghost use Rattle.gds_stream.specs.Writable.{IsWritableElement};
+ghost use Rattle.gds_library.specs.Writable.{IsWritableElement};
 ghost use Rattle.element_drawing.specs.Drawing.{IsDrawing};
 
 use crate::boxes::path_boxes;
-use gds_stream::Element;
+use gds_library::Element;
 use or_geom::{Memory, Rect};
-use slabs::slabs;
+use rectilinear::slabs;
 use std::alloc::Global;
 
 /// The rectangles that an element draws.

@@ -1,11 +1,10 @@
-use or_geom::{Name, Point};
+use or_geom::Point;
 
-/// A label of the flat layout: its path, which is the names of the instances from the top separated by `/`, its name, the
-/// place of its layer in the technology's list, and its point in nanometres.
-#[derive(Debug, Drop)]
-pub struct OwnLabel {
-    pub path: Name,
-    pub name: Name,
+/// A label among a cell's own elements: its text, the index of its layer in the technology's list, and its point in
+/// nanometres.
+#[derive(Clone, Copy, Debug)]
+pub struct ElementLabel<'a> {
+    pub name: &'a [u8],
     pub layer: u16,
     pub at: Point,
 }

@@ -1,6 +1,6 @@
 ghost use Rattle.std.specs.Prelude.{◌≡◌, ◌<◌, ◌≤◌, length, IfSome};
 ghost use Rattle.tech_rules.specs.WireRules.{has_numbers};
-ghost use Rattle.element_drawing.specs.OwnShapes.{place_of};
+ghost use Rattle.element_drawing.specs.OwnShapes.{layer_with_numbers};
 ghost use Rattle.element_drawing.specs.OwnLabels.{has_text_numbers, text_place_of};
 
 use tech_rules::Layer;
@@ -18,7 +18,7 @@ fn is_label_layer(layer: &Layer, number: i16, texttype: i16) -> bool
 }
 
 fn shape_index(layers: &[Layer], number: i16, datatype: i16) -> Option<usize>
-    ensures first { result ≡ place_of layers.now number datatype }
+    ensures first { result ≡ layer_with_numbers layers.now number datatype }
     ensures below { IfSome result (λ i. i < length layers.now) }
 {
     layers
@@ -38,7 +38,7 @@ fn label_index(layers: &[Layer], number: i16, texttype: i16) -> Option<usize>
 /// The place of the first layer whose shapes have these numbers.
 pub fn shape_layer(layers: &[Layer], number: i16, datatype: i16) -> Option<u16>
     requires { length layers.now ≤ 64 }
-    ensures { result ≡ place_of layers.now number datatype }
+    ensures { result ≡ layer_with_numbers layers.now number datatype }
 {
     match shape_index(layers, number, datatype) {
         Some(place) => Some(place as u16),

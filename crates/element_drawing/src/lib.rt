@@ -8,11 +8,10 @@ mod label;
 mod labels;
 mod laws;
 mod layer;
-mod order;
 mod shapes;
 mod stretch;
 
-pub use label::OwnLabel;
+pub use label::ElementLabel;
 pub use labels::own_labels;
 pub use laws::eq_is_same;
 pub use shapes::own_shapes;

@@ -1,12 +1,12 @@
 ghost use Rattle.std.specs.Prelude.{◌≡◌, ◌++◌, ◌≤◌, ◌^◌, length, map, List, IfOk, OnOk};
 ghost use Rattle.std.specs.List.{AllByRecursion};
 ghost use Rattle.or_geom.specs.declared.shape.Shape.{Shape};
-ghost use Rattle.gds_stream.specs.Writable.{IsWritableElement};
+ghost use Rattle.gds_library.specs.Writable.{IsWritableElement};
 ghost use Rattle.element_drawing.specs.OwnShapes.{AreOwnShapes, AreShapesOf, IsShapeWithin, layer_of, on_layer};
 
 use crate::drawing::drawing_of;
 use crate::layer::shape_layer;
-use gds_stream::Element;
+use gds_library::Element;
 use or_geom::{Memory, Rect, Shape};
 use std::alloc::Global;
 use tech_rules::Layer;

@@ -1,7 +1,7 @@
 ghost use Rattle.std.specs.Prelude.{◌≡◌, pos, ◌≤ℤ◌, ◌<ℤ◌, ◌+ℤ◌, ◌-ℤ◌};
-ghost use Rattle.element_drawing.specs.Segments.{IsShortStretch, IsExtentOf, turned_stretch, IsOver};
+ghost use Rattle.element_drawing.specs.Segments.{IsShortStretch, IsStretchExtent, turned_stretch, IsOver};
 
-use crate::extent::Extent;
+use crate::extent::AxisExtent;
 use or_geom::Rect;
 
 /// What a segment of a path takes of one axis, in nanometres: from where to where, and how much longer its box is before
@@ -25,23 +25,23 @@ fn turned(s: Stretch) -> Stretch
     }
 }
 
-fn rising(s: Stretch) -> Extent
+fn rising(s: Stretch) -> AxisExtent
     requires short { IsShortStretch s }
     requires ordered { (s.from -ℤ s.before) <ℤ (s.to +ℤ s.after) }
     ensures low { result.low ≡ s.from -ℤ s.before }
     ensures high { result.high ≡ s.to +ℤ s.after }
 {
-    Extent {
+    AxisExtent {
         low: s.from - s.before,
         high: s.to + s.after,
     }
 }
 
 /// What the box takes of the axis.
-pub fn extent_of(s: Stretch) -> Extent
+pub fn extent_of(s: Stretch) -> AxisExtent
     requires short { IsShortStretch s }
     requires some { s.from ≡ s.to → pos 0 <ℤ s.before }
-    ensures { IsExtentOf s result }
+    ensures { IsStretchExtent s result }
 {
     if s.from <= s.to {
         rising(s)
@@ -51,7 +51,7 @@ pub fn extent_of(s: Stretch) -> Extent
 }
 
 /// The rectangle that takes these numbers of the axes.
-pub fn rect_over(across: Extent, upward: Extent) -> Rect
+pub fn rect_over(across: AxisExtent, upward: AxisExtent) -> Rect
     ensures { IsOver across upward result }
 {
     Rect {

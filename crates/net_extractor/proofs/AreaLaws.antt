@@ -3,7 +3,8 @@ use Rattle.std.proofs.Common.{◌<ℤ◌, arith}
 use Rattle.std.specs.Int.{int_max}
 use Rattle.std.proofs.lemmas.Int.{ints, clamps}
 use Rattle.or_geom.specs.declared.shape.Rect.{Rect}
-use Rattle.net_extractor.specs.Touch.{ShareArea}
+use Rattle.shape_bins.specs.Meets.{Overlap}
+use Rattle.tech_rules.specs.Touch.{ShareArea}
 
 pub overlap_shares : (a b : Rect) → b.x1 <ℤ a.x2 → a.x1 <ℤ b.x2 → b.y1 <ℤ a.y2 → a.y1 <ℤ b.y2 → ShareArea a b
 overlap_shares a b right left high low =
@@ -17,3 +18,11 @@ overlap_shares a b right left high low =
       in_a = record { left = omega (arith, ints, clamps); right = omega (arith, ints, clamps); low = omega (arith, ints, clamps); high = omega (arith, ints, clamps) };
       in_b = record { left = omega (arith, ints, clamps); right = omega (arith, ints, clamps); low = omega (arith, ints, clamps); high = omega (arith, ints, clamps) };
     }
+
+pub shares_overlap : (a b : Rect) → ShareArea a b → Overlap a b
+shares_overlap a b s = record {
+  left = omega (arith, ints, s.in_a.left, s.in_b.right);
+  right = omega (arith, ints, s.in_b.left, s.in_a.right);
+  low = omega (arith, ints, s.in_a.low, s.in_b.high);
+  high = omega (arith, ints, s.in_b.low, s.in_a.high);
+}

@@ -4,8 +4,8 @@ use Rattle.std.specs.Prelude.{slice_get, Some}
 use Rattle.std.proofs.lemmas.Bool.{cases_lt, cases_eq}
 use Rattle.std.proofs.lemmas.Option.{slice_get_within}
 use Rattle.or_geom.proofs.ListLaws.{one_at}
-use Rattle.ordered_set.specs.Gathering.{SomeHas}
-use Rattle.ordered_set.proofs.GatheringLaws.{some_has, who_has}
+use Rattle.or_geom.specs.Gathering.{SomeHas}
+use Rattle.or_geom.proofs.GatheringLaws.{some_has, who_has}
 use Rattle.netlist.specs.declared.rows.RowPin.{RowPin}
 use Rattle.net_extractor.specs.declared.label.NetLabel.{NetLabel}
 use Rattle.net_extractor.specs.declared.pins.PinNet.{PinNet}

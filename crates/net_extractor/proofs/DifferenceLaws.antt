@@ -13,7 +13,7 @@ use Rattle.net_extractor.specs.declared.difference.NetDiff.TheVariants.{Unlabell
 use Rattle.net_extractor.specs.declared.difference.PinName.{PinName}
 use Rattle.net_extractor.specs.Difference.{HasNet, Agree, AreAlike}
 use Rattle.net_extractor.specs.FirstDifference.{IsUnlabelledAt, IsStrangerAt, AreLabelled, AreRightBefore, AreOpen, AreShort, IsTornAt, IsWrongAt, name_of_pin, name_of_label, ArePaired, FirstUnlabelled, FirstStranger, FirstTorn, FirstWrong, IsFirstDifference}
-use Rattle.net_extractor.specs.Conflicts.{IsConflict, AreWithin, AreNames, IsNamed}
+use Rattle.net_extractor.specs.Conflicts.{IsConflict, AreConflictPins, ArePinNames, IsNamed}
 use Rattle.net_extractor.proofs.PlaceLaws.{at_contained}
 
 turned : (labels : List NetLabel) (q p : RowPin) → Agree labels q p → Agree labels p q
@@ -71,7 +71,7 @@ unlabelled labels pins place pin name lack here named = record { place = place; 
 pub stranger : (labels : List NetLabel) (pins : List RowPin) (place : ℕ) (label : NetLabel) (name : PinName) → AreLabelled labels pins → IsStrangerAt labels pins place → slice_get labels place ≡ Some label → name ≡ name_of_label label → FirstStranger labels pins name
 stranger labels pins place label name labelled s here named = record { labelled = labelled; place = place; stranger = s; named = named ∙ ap name_of_label (one_at labels place label s.label here s.first.here) }
 
-torn : (labels : List NetLabel) (pins : List RowPin) (i j : ℕ) (first second : PinName) → ArePaired labels pins → i ≡ j → IsTornAt labels pins j → AreNames pins i j first second → FirstTorn labels pins first second
+torn : (labels : List NetLabel) (pins : List RowPin) (i j : ℕ) (first second : PinName) → ArePaired labels pins → i ≡ j → IsTornAt labels pins j → ArePinNames pins i j first second → FirstTorn labels pins first second
 torn labels pins i j first second paired e t n = record {
   paired = paired;
   place = j;
@@ -80,7 +80,7 @@ torn labels pins i j first second paired e t n = record {
   again = n.second_is ∙ ap name_of_pin (one_at pins j n.p t.pin n.at_p t.here);
 }
 
-wrong : (Wrong : RowPin → RowPin → Type 0) (labels : List NetLabel) (pins : List RowPin) (i j : ℕ) (first second : PinName) → ArePaired labels pins → IsWrongAt Wrong labels pins i j → AreNames pins i j first second → FirstWrong Wrong labels pins first second
+wrong : (Wrong : RowPin → RowPin → Type 0) (labels : List NetLabel) (pins : List RowPin) (i j : ℕ) (first second : PinName) → ArePaired labels pins → IsWrongAt Wrong labels pins i j → ArePinNames pins i j first second → FirstWrong Wrong labels pins first second
 wrong Wrong labels pins i j first second paired w n = record {
   paired = paired;
   earlier = i;
@@ -101,7 +101,7 @@ conflict_first labels pins (conflict.Short i j) (Stranger name) paired h n = abs
 conflict_first labels pins (conflict.Short i j) (Open first second) paired h n = absurd n
 conflict_first labels pins (conflict.Short i j) (Short first second) paired h n = wrong (AreShort labels) labels pins i j first second paired h n
 
-pub conflict_within : (labels : List NetLabel) (pins : List RowPin) (c : Conflict) → IsConflict labels pins c → AreWithin pins c
+pub conflict_within : (labels : List NetLabel) (pins : List RowPin) (c : Conflict) → IsConflict labels pins c → AreConflictPins pins c
 conflict_within labels pins (conflict.Open i j) (inl h) = let lt = slice_get_within pins j h.1.pin h.1.here in let e = h.0 in (omega (arith, e, lt), lt)
 conflict_within labels pins (conflict.Open i j) (inr h) = (slice_get_within pins i h.other h.there, slice_get_within pins j h.pin h.here)
 conflict_within labels pins (conflict.Short i j) h = (slice_get_within pins i h.other h.there, slice_get_within pins j h.pin h.here)

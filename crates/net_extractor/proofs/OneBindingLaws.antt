@@ -9,9 +9,9 @@ use Rattle.or_geom.specs.declared.shape.Point.{Point}
 use Rattle.or_geom.specs.declared.shape.Rect.{Rect}
 use Rattle.or_geom.specs.declared.shape.Shape.{Shape}
 use Rattle.or_geom.proofs.ListLaws.{contains_none, contains_cases, contains_first, contains_later}
-use Rattle.ordered_set.specs.ShapeOrder.{shape_order}
-use Rattle.ordered_set.proofs.OneListLaws.{not_both}
-use Rattle.ordered_set.proofs.ShapeOrderLaws.{shape_total}
+use Rattle.or_geom.specs.ShapeOrder.{shape_order}
+use Rattle.or_geom.proofs.OneListLaws.{not_both}
+use Rattle.or_geom.proofs.ShapeOrderLaws.{shape_total}
 use Rattle.net_extractor.specs.declared.label.Anchor.{Anchor}
 use Rattle.net_extractor.specs.Binding.{IsUnder, Binds, BindsNone}
 

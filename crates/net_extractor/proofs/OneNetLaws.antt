@@ -5,7 +5,7 @@ use Rattle.std.proofs.lemmas.Bool.{cases_lt}
 use Rattle.or_geom.specs.declared.shape.Shape.{Shape}
 use Rattle.or_geom.proofs.ListLaws.{contained_at}
 use Rattle.or_geom.proofs.NumberingLaws.{one_by, Follows, one_number}
-use Rattle.element_drawing.specs.declared.label.OwnLabel.{OwnLabel}
+use Rattle.element_drawing.specs.PlainLabel.{PlainLabel}
 use Rattle.tech_rules.specs.declared.tech.Tech.{Tech}
 use Rattle.net_extractor.specs.declared.label.Anchor.{Anchor}
 use Rattle.net_extractor.specs.declared.label.NetLabel.{NetLabel}
@@ -81,9 +81,9 @@ twin (x ∷ xs) (y ∷ ys) (suc place) e same h = let t = twin xs ys place e (cc
 
 -- entries of one label stand at one place
 one_anchor : (e f : NetLabel) → label_of e ≡ label_of f → anchor_of e ≡ anchor_of f
-one_anchor e f same = ap (λ (l : OwnLabel). let made : Anchor = record { layer = l.layer; at = l.at } in made) same
+one_anchor e f same = ap (λ (l : PlainLabel). let made : Anchor = record { layer = l.layer; at = l.at } in made) same
 
-module _ (tech : Tech) (shapes : List Shape) (labels : List OwnLabel) (a b : List NetLabel) (x : AreNets tech shapes labels a) (y : AreNets tech shapes labels b) where
+module _ (tech : Tech) (shapes : List Shape) (labels : List PlainLabel) (a b : List NetLabel) (x : AreNets tech shapes labels a) (y : AreNets tech shapes labels b) where
   -- where the one has no net the other has none
   none_too : (k : ℕ) (e f : NetLabel) → slice_get a k ≡ Some e → slice_get b k ≡ Some f → label_of e ≡ label_of f → f.net ≡ None → e.net ≡ None
   none_too k e f at_e at_f same none =
@@ -134,7 +134,7 @@ module _ (tech : Tech) (shapes : List Shape) (labels : List OwnLabel) (a b : Lis
   }
 
 -- of entries of one label neither has a net where the other has none, and the numbers are one
-same_net : (tech : Tech) (shapes : List Shape) (labels : List OwnLabel) (a b : List NetLabel) (k : ℕ) (e f : NetLabel) (m n : Option ℕ) → AreNets tech shapes labels a → AreNets tech shapes labels b → slice_get a k ≡ Some e → slice_get b k ≡ Some f
+same_net : (tech : Tech) (shapes : List Shape) (labels : List PlainLabel) (a b : List NetLabel) (k : ℕ) (e f : NetLabel) (m n : Option ℕ) → AreNets tech shapes labels a → AreNets tech shapes labels b → slice_get a k ≡ Some e → slice_get b k ≡ Some f
     → label_of e ≡ label_of f → e.net ≡ m → f.net ≡ n → e.net ≡ f.net
 same_net tech shapes labels a b k e f None n x y at_e at_f same is_m is_n = is_m ∙ sym (none_too tech shapes labels b a y x k f e at_f at_e (sym same) is_m)
 same_net tech shapes labels a b k e f (Some m) None x y at_e at_f same is_m is_n = none_too tech shapes labels a b x y k e f at_e at_f same is_n ∙ sym is_n

@@ -1,6 +1,6 @@
 -- The nets of the pins, found one by one.
 use Rattle.std.proofs.Common.{◌≡◌, ◌⊎◌, inl, inr, ℕ, ◌+◌, ◌<◌, List, [], ◌∷◌, ◌++◌, length, get_or, sym, ap, subst, ◌∙◌, arith, refl}
-use Rattle.std.specs.Prelude.{slice_get, Some}
+use Rattle.std.specs.Prelude.{slice_get, Option, None, Some, MatchOption}
 use Rattle.std.proofs.lemmas.Bool.{cases_lt}
 use Rattle.std.proofs.lemmas.List.{get_or_append_left, get_or_push, length_push}
 use Rattle.std.proofs.lemmas.Option.{slice_get_within, slice_get_cases, get_or_from_slice_get, slice_get_read}
@@ -68,3 +68,12 @@ labelled_all labels pins nets a place pin here =
 -- a label that gives a pin no net
 abbrev pub GivesNone : RowPin → NetLabel → Type 0
 GivesNone pin label = IsLabelOf pin label → (n : ℕ) → label.net ≡ Some n → ⊥
+
+-- what an option says that is none, or some
+pub match_none : {X : Type 0} (P : Type 0) (Q : X → Type 0) (o : Option X) → MatchOption o P Q → ((x : X) → o ≡ Some x → ⊥) → P
+match_none P Q None m none = m
+match_none P Q (Some x) m none = absurd (none x refl)
+
+pub match_some : {X : Type 0} (P : Type 0) (Q : X → Type 0) (o : Option X) (x : X) → MatchOption o P Q → o ≡ Some x → Q x
+match_some P Q None x m is = absurd cc
+match_some P Q (Some y) x m is = let same : y ≡ x = cc in subst Q same m

@@ -3,7 +3,7 @@ use Rattle.std.specs.Prelude.{◌≡◌, List, Contains}
 use Rattle.std.specs.declared.cmp.Ordering.TheVariants.{Less}
 use Rattle.or_geom.specs.declared.shape.Shape.{Shape}
 use Rattle.or_geom.specs.Joined.{IsIn}
-use Rattle.ordered_set.specs.ShapeOrder.{shape_order}
+use Rattle.or_geom.specs.ShapeOrder.{shape_order}
 use Rattle.net_extractor.specs.declared.label.Anchor.{Anchor}
 
 -- the shape is on the label's layer, and its closed box contains the label's point

@@ -30,12 +30,12 @@ IsConflict labels pins (Open first second) = ((first ≡ second) × IsTornAt lab
 IsConflict labels pins (Short first second) = IsWrongAt (AreShort labels) labels pins first second
 
 -- the conflict's places are those of pins
-abbrev pub AreWithin : List RowPin → Conflict → Type 0
-AreWithin pins (Open first second) = (first < length pins) × (second < length pins)
-AreWithin pins (Short first second) = (first < length pins) × (second < length pins)
+abbrev pub AreConflictPins : List RowPin → Conflict → Type 0
+AreConflictPins pins (Open first second) = (first < length pins) × (second < length pins)
+AreConflictPins pins (Short first second) = (first < length pins) × (second < length pins)
 
 -- the names of the pins at two places
-pub record AreNames (pins : List RowPin) (i j : ℕ) (first second : PinName) : Type 0 where
+pub record ArePinNames (pins : List RowPin) (i j : ℕ) (first second : PinName) : Type 0 where
   pub q : RowPin
   pub p : RowPin
   pub at_q : slice_get pins i ≡ Some q
@@ -47,9 +47,9 @@ pub record AreNames (pins : List RowPin) (i j : ℕ) (first second : PinName) : 
 abbrev pub IsNamed : List RowPin → Conflict → NetDiff → Type 0
 IsNamed pins (Open i j) (diff.Unlabelled pin) = ⊥
 IsNamed pins (Open i j) (diff.Stranger pin) = ⊥
-IsNamed pins (Open i j) (diff.Open first second) = AreNames pins i j first second
+IsNamed pins (Open i j) (diff.Open first second) = ArePinNames pins i j first second
 IsNamed pins (Open i j) (diff.Short first second) = ⊥
 IsNamed pins (Short i j) (diff.Unlabelled pin) = ⊥
 IsNamed pins (Short i j) (diff.Stranger pin) = ⊥
 IsNamed pins (Short i j) (diff.Open first second) = ⊥
-IsNamed pins (Short i j) (diff.Short first second) = AreNames pins i j first second
+IsNamed pins (Short i j) (diff.Short first second) = ArePinNames pins i j first second

@@ -1,9 +1,11 @@
--- Which shapes touch, as references from place to place.
-use Rattle.std.specs.Prelude.{◌≡◌, ◌↔◌, ℕ, List, length, slice_get, Some}
+-- Which shapes touch, by their places.
+use Rattle.std.specs.Prelude.{◌≡◌, ℕ, List, slice_get, Some}
 use Rattle.or_geom.specs.declared.shape.Shape.{Shape}
-use Rattle.reference_graph.specs.Reaches.{RefersTo}
+use Rattle.or_geom.specs.Gathering.{SomeGives}
 use Rattle.tech_rules.specs.declared.tech.Tech.{Tech}
-use Rattle.net_extractor.specs.Touch.{Touch}
+use Rattle.shape_bins.specs.declared.query.Query.{Query}
+use Rattle.shape_bins.specs.Hits.{IsHit}
+use Rattle.tech_rules.specs.Touch.{Touch, TouchOnLayer}
 
 -- the shape at this place touches the shape
 pub record TouchesAt (tech : Tech) (shapes : List Shape) (shape : Shape) (place : ℕ) : Type 0 where
@@ -11,7 +13,12 @@ pub record TouchesAt (tech : Tech) (shapes : List Shape) (shape : Shape) (place 
   pub there : slice_get shapes place ≡ Some other
   pub touch : Touch tech shape other
 
--- for each shape the places of those that touch it
-pub record AreContacts (tech : Tech) (shapes : List Shape) (graph : List (List ℕ)) : Type 0 where
-  pub sized : length graph ≡ length shapes
-  pub each : (from to : ℕ) (shape : Shape) → slice_get shapes from ≡ Some shape → RefersTo graph from to ↔ TouchesAt tech shapes shape to
+-- the shape at this place touches the shape on its own layer
+pub record TouchesOnLayerAt (tech : Tech) (shapes : List Shape) (shape : Shape) (place : ℕ) : Type 0 where
+  pub other : Shape
+  pub there : slice_get shapes place ≡ Some other
+  pub touch : TouchOnLayer tech shape other
+
+-- the shape at this place is of one of the layers, and one that is looked for
+abbrev pub IsHitOnSome : List Shape → Query → List ℕ → ℕ → Type 0
+IsHitOnSome shapes query layers place = SomeGives (λ (layer : ℕ). IsHit shapes layer query) layers place

@@ -1,7 +1,8 @@
 -- How entries are made one by one.
 use Rattle.std.specs.Prelude.{◌≡◌, ℕ, List, Option, Some, None}
 use Rattle.or_geom.specs.declared.shape.Shape.{Shape}
-use Rattle.element_drawing.specs.declared.label.OwnLabel.{OwnLabel}
+use Rattle.element_drawing.specs.PlainLabel.{PlainLabel}
+use Rattle.tech_rules.specs.declared.tech.Tech.{Tech}
 use Rattle.net_extractor.specs.declared.label.Anchor.{Anchor}
 use Rattle.net_extractor.specs.declared.label.NetLabel.{NetLabel}
 use Rattle.net_extractor.specs.declared.numbering.Numbering.{Numbering}
@@ -10,7 +11,7 @@ use Rattle.net_extractor.specs.Bound.{IsBoundAt}
 use Rattle.net_extractor.specs.Numbering.{Numbers}
 
 -- the label with its net
-abbrev pub entry : OwnLabel → Option ℕ → NetLabel
+abbrev pub entry : PlainLabel → Option ℕ → NetLabel
 entry label net = record { path = label.path; name = label.name; layer = label.layer; at = label.at; net = net }
 
 -- the label binds no shape, and the numbers stay
@@ -19,11 +20,11 @@ pub record IsUnbound (shapes : List Shape) (label : Anchor) (old new : Numbering
   pub same : new ≡ old
 
 -- the label binds the shape at a place, which has the number
-pub record IsNumbered (graph : List (List ℕ)) (shapes : List Shape) (label : Anchor) (old : Numbering) (number : ℕ) (new : Numbering) : Type 0 where
+pub record IsNumbered (tech : Tech) (shapes : List Shape) (label : Anchor) (old : Numbering) (number : ℕ) (new : Numbering) : Type 0 where
   pub place : ℕ
   pub bound : IsBoundAt shapes label place
-  pub numbers : Numbers graph old place number new
+  pub numbers : Numbers tech shapes old place number new
 
-abbrev pub IsNetOf : List (List ℕ) → List Shape → Anchor → Numbering → Option ℕ → Numbering → Type 0
-IsNetOf graph shapes label old None new = IsUnbound shapes label old new
-IsNetOf graph shapes label old (Some number) new = IsNumbered graph shapes label old number new
+abbrev pub IsNetOf : Tech → List Shape → Anchor → Numbering → Option ℕ → Numbering → Type 0
+IsNetOf tech shapes label old None new = IsUnbound shapes label old new
+IsNetOf tech shapes label old (Some number) new = IsNumbered tech shapes label old number new

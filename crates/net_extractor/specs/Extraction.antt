@@ -2,15 +2,15 @@
 use Rattle.std.specs.Prelude.{◌≡◌, ◌↔◌, List, Contains, None, map}
 use Rattle.or_geom.specs.declared.shape.Shape.{Shape}
 use Rattle.tech_rules.specs.declared.tech.Tech.{Tech}
-use Rattle.element_drawing.specs.declared.label.OwnLabel.{OwnLabel}
+use Rattle.element_drawing.specs.PlainLabel.{PlainLabel}
 use Rattle.net_extractor.specs.declared.label.Anchor.{Anchor}
 use Rattle.net_extractor.specs.declared.label.NetLabel.{NetLabel}
 use Rattle.net_extractor.specs.Binding.{Binds, BindsNone}
 use Rattle.net_extractor.specs.FirstAppearance.{AreNumberedInOrder}
-use Rattle.net_extractor.specs.Net.{AreOnOneNet}
+use Rattle.tech_rules.specs.Net.{AreOnOneNet}
 
 -- the label of an entry, without its net
-abbrev pub label_of : NetLabel → OwnLabel
+abbrev pub label_of : NetLabel → PlainLabel
 label_of entry = record { path = entry.path; name = entry.name; layer = entry.layer; at = entry.at }
 
 -- where its label stands
@@ -19,7 +19,7 @@ anchor_of entry = record { layer = entry.layer; at = entry.at }
 
 -- One entry for each label, in order. Its net is None exactly where it binds no shape, two nets are equal exactly where
 -- the bound shapes are on one net, and the numbers run from 0 by first appearance.
-pub record AreNets (tech : Tech) (shapes : List Shape) (labels : List OwnLabel) (entries : List NetLabel) : Type 0 where
+pub record AreNets (tech : Tech) (shapes : List Shape) (labels : List PlainLabel) (entries : List NetLabel) : Type 0 where
   pub each : map label_of entries ≡ labels
   pub unbound : (e : NetLabel) → Contains entries e → (e.net ≡ None) ↔ BindsNone shapes (anchor_of e)
   pub one : (e f : NetLabel) (s t : Shape) → Contains entries e → Contains entries f → Binds shapes (anchor_of e) s → Binds shapes (anchor_of f) t → (e.net ≡ f.net) ↔ AreOnOneNet tech shapes s t

@@ -3,7 +3,7 @@ use Rattle.std.specs.Prelude.{◌≡◌, List}
 use Rattle.or_geom.specs.declared.shape.Shape.{Shape}
 use Rattle.netlist.specs.declared.rows.RowPin.{RowPin}
 use Rattle.tech_rules.specs.declared.tech.Tech.{Tech}
-use Rattle.element_drawing.specs.declared.label.OwnLabel.{OwnLabel}
+use Rattle.element_drawing.specs.PlainLabel.{PlainLabel}
 use Rattle.net_extractor.specs.declared.label.NetLabel.{NetLabel}
 use Rattle.net_extractor.specs.declared.difference.NetDiff.{NetDiff}
 use Rattle.net_extractor.specs.Extraction.{AreNets}
@@ -12,7 +12,7 @@ use Rattle.net_extractor.specs.FirstDifference.{IsFirstDifference}
 
 -- labels have one list of nets
 abbrev pub NetsAreUnique : Type 0
-NetsAreUnique = (tech : Tech) (shapes : List Shape) (labels : List OwnLabel) (a b : List NetLabel) → AreNets tech shapes labels a → AreNets tech shapes labels b → a ≡ b
+NetsAreUnique = (tech : Tech) (shapes : List Shape) (labels : List PlainLabel) (a b : List NetLabel) → AreNets tech shapes labels a → AreNets tech shapes labels b → a ≡ b
 
 -- labels and rows have one first difference
 abbrev pub DifferencesAreUnique : Type 0

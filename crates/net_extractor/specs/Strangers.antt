@@ -1,6 +1,6 @@
 -- Labels that stand at no leaf instance.
 use Rattle.std.specs.Prelude.{ℕ, List}
-use Rattle.ordered_set.specs.Gathering.{SomeHas}
+use Rattle.or_geom.specs.Gathering.{SomeHas}
 use Rattle.netlist.specs.declared.rows.RowPin.{RowPin}
 use Rattle.net_extractor.specs.Difference.{IsPlacedBy}
 

@@ -1,5 +1,5 @@
 ghost use Rattle.std.specs.Prelude.{◌≡◌, ◌↔◌, ◌<◌, length, slice_get, Some, None, IfOk, IfSome};
-ghost use Rattle.net_extractor.specs.Conflicts.{AreWithin, IsNamed};
+ghost use Rattle.net_extractor.specs.Conflicts.{AreConflictPins, IsNamed};
 ghost use Rattle.net_extractor.specs.Difference.{AreAlike};
 ghost use Rattle.net_extractor.specs.FirstDifference.{IsFirstDifference, name_of_label, name_of_pin};
 
@@ -36,7 +36,7 @@ fn label_name(alloc: Global, labels: &[NetLabel], place: usize) -> Result<PinNam
 
 /// The conflict with the names of its pins.
 fn named(alloc: Global, pins: &[RowPin], conflict: Conflict) -> Result<NetDiff, Memory>
-    requires { AreWithin pins.now conflict }
+    requires { AreConflictPins pins.now conflict }
     ensures { IfOk result (IsNamed pins.now conflict) }
 {
     match conflict {
@@ -71,7 +71,8 @@ fn first_difference(
         let pin = label_name(alloc, labels, place)?;
         return Ok(Some(NetDiff::Stranger { pin }));
     }
-    let Some(conflict) = first_conflict(labels, pins, &nets) else {
+    let conflict = first_conflict(alloc, labels, pins, &nets)?;
+    let Some(conflict) = conflict else {
         return Ok(None);
     };
     let difference = named(alloc, pins, conflict)?;

@@ -1,11 +1,18 @@
-ghost use Rattle.std.specs.Prelude.{◌≡◌, ◌↔◌, ◌<◌, length, slice_get, Some, IsTrue, MatchOption};
+ghost use Rattle.std.specs.Prelude.{◌≡◌, ◌↔◌, ◌<◌, length, slice_get, Some, IsTrue, IfOk, OnOk, MatchOption};
+ghost use Rattle.std.specs.BTreeMap.{get};
+ghost use Rattle.std.specs.Ordering.{nat_cmp};
+ghost use Rattle.or_geom.specs.Gathering.{SomeHas};
 ghost use Rattle.net_extractor.specs.Conflicts.{AgreeBefore, AgreeOn, IsConflict, IsFirstOdd};
+ghost use Rattle.net_extractor.specs.Matching.{AreMatched, GoTogether, IsPut};
 ghost use Rattle.net_extractor.specs.FirstDifference.{AreRightBefore};
-ghost use Rattle.net_extractor.specs.PinNets.{ArePinNets};
+ghost use Rattle.net_extractor.specs.PinNets.{ArePinNets, IsElsewhere, IsPinNet};
 
 use crate::label::NetLabel;
 use crate::pins::{PinNet, is_elsewhere};
 use netlist::RowPin;
+use or_geom::Memory;
+use std::alloc::Global;
+use std::collections::BTreeMap;
 
 /// The places of two pins that are on one net in the rows or in the layout alone; or of one pin, twice, that has labels on
 /// two nets.
@@ -47,33 +54,105 @@ fn first_odd(nets: &[PinNet], place: usize) -> Option<usize>
     None
 }
 
-/// The first pin that has labels on two nets or does not agree with an earlier pin.
-pub fn first_conflict(labels: &[NetLabel], pins: &[RowPin], nets: &[PinNet]) -> Option<Conflict>
-    requires { ArePinNets labels.now pins.now nets.now }
-    ensures { MatchOption result (AreRightBefore labels.now pins.now (length pins.now)) (IsConflict labels.now pins.now) }
+/// The net that goes with this one.
+fn net_in(nets: &BTreeMap<u32, u32>, net: u32) -> Option<u32>
+    ensures { result ≡ get nat_cmp nets.now net }
 {
+    nets.get(&net).copied()
+}
+
+/// Whether a pin's nets go with one another, or are both ones that no pin before it has.
+fn go_together(layout: Option<u32>, rows: Option<u32>, net: PinNet) -> bool
+    ensures { IsTrue result → GoTogether layout rows net }
+{
+    let Some(layout) = layout else {
+        return rows.is_none();
+    };
+    let Some(rows) = rows else {
+        return false;
+    };
+    layout == net.layout && rows == net.rows
+}
+
+/// For each net of the rows the net of the layout that pins have together with it, and the other way round.
+#[derive(Drop)]
+struct Matching {
+    layouts: BTreeMap<u32, u32>,
+    rows: BTreeMap<u32, u32>,
+}
+
+/// The place of the first pin before this one that does not agree with it. Those before all agree.
+fn first_unlike(nets: &[PinNet], place: usize, matching: &Matching) -> Option<usize>
+    requires inside { place < length nets.now }
+    requires matched { AreMatched nets.now place matching.now }
+    ensures { MatchOption result (AgreeBefore nets.now place place) (IsFirstOdd nets.now place) }
+{
+    let net = net_at(nets, place);
+    let layout = net_in(&matching.layouts, net.rows);
+    let rows = net_in(&matching.rows, net.layout);
+    if go_together(layout, rows, net) {
+        return None;
+    }
+    first_odd(nets, place)
+}
+
+/// Keeps a pin's nets.
+fn put(matching: &mut Matching, net: PinNet) -> Result<(), Memory>
+    ensures { OnOk result (IsPut net matching.old matching.new) }
+{
+    matching.layouts.insert(net.rows, net.layout)?;
+    matching.rows.insert(net.layout, net.rows)?;
+    Ok(())
+}
+
+/// Whether a bound label of the pin is on another net than the pin's.
+fn is_torn(labels: &[NetLabel], pin: &RowPin, net: PinNet) -> bool
+    requires { IsPinNet labels.now pin.now net }
+    ensures { IsTrue result ↔ SomeHas (IsElsewhere pin.now net.layout) labels.now }
+{
+    if !net.mixed {
+        return false;
+    }
+    is_elsewhere(labels, pin, net.layout)
+}
+
+/// The first pin that has labels on two nets or does not agree with an earlier pin.
+pub fn first_conflict(
+    alloc: Global,
+    labels: &[NetLabel],
+    pins: &[RowPin],
+    nets: &[PinNet],
+) -> Result<Option<Conflict>, Memory>
+    requires { ArePinNets labels.now pins.now nets.now }
+    ensures { IfOk result (λ found. MatchOption found (AreRightBefore labels.now pins.now (length pins.now)) (IsConflict labels.now pins.now)) }
+{
+    let mut matching = Matching {
+        layouts: BTreeMap::new(alloc),
+        rows: BTreeMap::new(alloc),
+    };
     for place in 0..nets.len() {
         let net = net_at(nets, place);
-        if is_elsewhere(labels, &pins[place], net.layout) {
-            return Some(Conflict::Open {
+        if is_torn(labels, &pins[place], net) {
+            return Ok(Some(Conflict::Open {
                 first: place,
                 second: place,
-            });
+            }));
         }
-        let Some(earlier) = first_odd(nets, place) else {
+        let Some(earlier) = first_unlike(nets, place, &matching) else {
+            put(&mut matching, net)?;
             continue;
         };
         let other = net_at(nets, earlier);
         if other.rows == net.rows {
-            return Some(Conflict::Open {
+            return Ok(Some(Conflict::Open {
                 first: earlier,
                 second: place,
-            });
+            }));
         }
-        return Some(Conflict::Short {
+        return Ok(Some(Conflict::Short {
             first: earlier,
             second: place,
-        });
+        }));
     }
-    None
+    Ok(None)
 }

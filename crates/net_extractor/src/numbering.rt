@@ -1,51 +1,39 @@
-ghost use Rattle.std.specs.Prelude.{◌≡◌, ◌+◌, ◌^◌, ◌<◌, length, OnOk, IfOk};
-ghost use Rattle.reference_graph.specs.Reaches.{AreWithin, MarksReached};
-ghost use Rattle.net_extractor.specs.Numbering.{AreGiven, AreMutual, IsNumbering, Numbers};
+ghost use Rattle.std.specs.Prelude.{◌≡◌, ◌+◌, ◌^◌, ◌<◌, length, IfOk};
+ghost use Rattle.std.specs.List.Sorted.{IsStrictlySortedBy};
+ghost use Rattle.or_geom.specs.ShapeOrder.{shape_order};
+ghost use Rattle.net_extractor.specs.Numbering.{IsNumbering, Numbers};
 
-use or_geom::{Items, Memory};
-use reference_graph::reached;
-use std::alloc::Global;
+use crate::flood::{Scratch, flood};
+use or_geom::{Memory, Shape};
+use shape_bins::ShapeNumbers;
+use tech_rules::Tech;
 
-/// The numbers of nets so far: for each place of a shape its net's, where it has one, and the number of the next net.
+/// The numbers of nets so far: for each shape its net's, where it has one, and the number of the next net.
 #[derive(Drop)]
-pub struct Numbering {
-    pub nets: Vec<Option<u32>>,
+pub struct Numbering<'b> {
+    pub numbers: ShapeNumbers<'b>,
     pub next: u32,
 }
 
-/// Gives the number to each marked place.
-fn give(number: u32, marks: &[bool], nets: &mut [Option<u32>])
-    requires { length marks.now ≡ length nets.old }
-    ensures { AreGiven number marks.now nets.old nets.new }
-{
-    for place in 0..nets.len() {
-        if !marks[place] {
-            continue;
-        }
-        nets[place] = Some(number);
-    }
-}
-
-/// The number of the net of a place. A net that has none gets the next number, at all its places.
+/// The number of the net of the shape at a place. A net that has none gets the next number, at all its shapes.
 pub fn number_at(
-    alloc: Global,
-    graph: &[Items<usize>],
+    tech: &Tech,
+    shapes: &[Shape],
     place: usize,
     numbering: &mut Numbering,
+    scratch: &mut Scratch,
 ) -> Result<u32, Memory>
-    requires within { AreWithin graph.now }
-    requires both { AreMutual graph.now }
-    requires inside { place < length graph.now }
-    requires numbered { IsNumbering graph.now numbering.old }
+    requires rises { IsStrictlySortedBy shape_order shapes.now }
+    requires inside { place < length shapes.now }
+    requires numbered { IsNumbering tech.now shapes.now numbering.old }
     requires few { numbering.old.next + 1 < 2 ^ 32 }
-    ensures { IfOk result (λ number. Numbers graph.now numbering.old place number numbering.new) }
+    ensures { IfOk result (λ number. Numbers tech.now shapes.now numbering.old place number numbering.new) }
 {
-    if let Some(number) = numbering.nets[place] {
+    if let Some(number) = numbering.numbers.get(place) {
         return Ok(number);
     }
-    let marks = reached(alloc, graph, place)?;
     let number = numbering.next;
-    give(number, &marks, &mut numbering.nets);
+    flood(tech, shapes, place, number, &mut numbering.numbers, scratch)?;
     numbering.next = number + 1;
     Ok(number)
 }

@@ -1,8 +1,11 @@
-ghost use Rattle.std.specs.Prelude.{◌≡◌, ◌↔◌, IsTrue, IfOk, MatchOption};
-ghost use Rattle.ordered_set.specs.Gathering.{SomeHas};
+ghost use Rattle.std.specs.Prelude.{◌≡◌, ◌↔◌, ℕ, List, map, Some, IsTrue, IfOk, MatchOption};
+ghost use Rattle.or_geom.specs.Gathering.{SomeHas};
 ghost use Rattle.net_extractor.specs.Difference.{in_lower_case, HasNet, IsLabelOf, IsLabelled};
-ghost use Rattle.net_extractor.specs.PinNets.{IsElsewhere, IsPinNets};
+ghost use Rattle.net_extractor.specs.KeyPlaces.{AreMixed, first_place, label_key, pin_key, place_under};
+ghost use Rattle.net_extractor.specs.PinNets.{IsElsewhere, IsPinNet, IsPinNets};
 
+use crate::key_places::{KeyPlaces, key_places};
+use crate::keys::{key_of_pin, keys_of, mixed_marks};
 use crate::label::NetLabel;
 use netlist::RowPin;
 use or_geom::Memory;
@@ -13,6 +16,8 @@ use std::alloc::Global;
 pub struct PinNet {
     pub rows: u32,
     pub layout: u32,
+    /// Whether a bound label of the pin may be on another net of the layout.
+    pub mixed: bool,
 }
 
 /// The nets of all pins, or the place of the first that has no bound label.
@@ -80,19 +85,90 @@ pub fn is_elsewhere(labels: &[NetLabel], pin: &RowPin, net: u32) -> bool
     false
 }
 
-/// The nets of the pins, each in the layout that of its first bound label.
-pub fn pin_nets(alloc: Global, labels: &[NetLabel], pins: &[RowPin]) -> Result<PinNets, Memory>
+/// The net of a pin by its labels one after another, None where it has no bound label.
+fn searched_net(labels: &[NetLabel], pin: &RowPin) -> Option<PinNet>
+    ensures { MatchOption result (IsLabelled labels.now pin.now → ⊥) (IsPinNet labels.now pin.now) }
+{
+    let Some(layout) = first_net(labels, pin) else {
+        return None;
+    };
+    Some(PinNet {
+        rows: pin.net,
+        layout,
+        mixed: true,
+    })
+}
+
+/// The net of a pin whose first label is likely the one at the place.
+fn net_by(labels: &[NetLabel], mixed: &[bool], pin: &RowPin, place: usize) -> Option<PinNet>
+    requires mixed { AreMixed labels.now mixed.now }
+    requires first { first_place (map label_key labels.now) (pin_key pin.now) ≡ Some place }
+    ensures { MatchOption result (IsLabelled labels.now pin.now → ⊥) (IsPinNet labels.now pin.now) }
+{
+    if labels.len() <= place {
+        return searched_net(labels, pin);
+    }
+    let Some(layout) = labels[place].net else {
+        return searched_net(labels, pin);
+    };
+    if !is_label_of(pin, &labels[place]) {
+        return searched_net(labels, pin);
+    }
+    Some(PinNet {
+        rows: pin.net,
+        layout,
+        mixed: mixed[place],
+    })
+}
+
+/// The net of a pin, None where it has no bound label.
+fn pin_net(
+    alloc: Global,
+    labels: &[NetLabel],
+    table: &KeyPlaces,
+    mixed: &[bool],
+    pin: &RowPin,
+) -> Result<Option<PinNet>, Memory>
+    requires table { (key : List ℕ) → place_under table.now key ≡ first_place (map label_key labels.now) key }
+    requires mixed { AreMixed labels.now mixed.now }
+    ensures { IfOk result (λ net. MatchOption net (IsLabelled labels.now pin.now → ⊥) (IsPinNet labels.now pin.now)) }
+{
+    let key = key_of_pin(alloc, pin)?;
+    let Some(place) = table.find(key.as_bytes()) else {
+        return Ok(None);
+    };
+    Ok(net_by(labels, mixed, pin, place))
+}
+
+/// The nets of the pins, each in the layout that of a bound label, over a table of the labels' keys.
+fn nets_of_pins(
+    alloc: Global,
+    labels: &[NetLabel],
+    table: &KeyPlaces,
+    mixed: &[bool],
+    pins: &[RowPin],
+) -> Result<PinNets, Memory>
+    requires table { (key : List ℕ) → place_under table.now key ≡ first_place (map label_key labels.now) key }
+    requires mixed { AreMixed labels.now mixed.now }
     ensures { IfOk result (IsPinNets labels.now pins.now) }
 {
     let mut nets = Vec::new(alloc);
     for place in 0..pins.len() {
-        let Some(layout) = first_net(labels, &pins[place]) else {
+        let found = pin_net(alloc, labels, table, mixed, &pins[place])?;
+        let Some(net) = found else {
             return Ok(PinNets::Unlabelled(place));
         };
-        nets.push(PinNet {
-            rows: pins[place].net,
-            layout,
-        })?;
+        nets.push(net)?;
     }
     Ok(PinNets::All(nets))
+}
+
+/// The nets of the pins, each in the layout that of a bound label.
+pub fn pin_nets(alloc: Global, labels: &[NetLabel], pins: &[RowPin]) -> Result<PinNets, Memory>
+    ensures { IfOk result (IsPinNets labels.now pins.now) }
+{
+    let keys = keys_of(alloc, labels)?;
+    let table = key_places(alloc, &keys)?;
+    let mixed = mixed_marks(alloc, labels, &keys, &table)?;
+    nets_of_pins(alloc, labels, &table, &mixed, pins)
 }

@@ -38,8 +38,8 @@ fn is_along(path: &[u8], other: &[u8]) -> bool
     is_above(path, other) || is_above(other, path)
 }
 
-/// Whether the path stands at a leaf instance that has a pin.
-fn is_placed(path: &[u8], pins: &[RowPin]) -> bool
+/// Whether the path stands at a leaf instance that has a pin, looking at one pin after another.
+fn is_placed_among(path: &[u8], pins: &[RowPin]) -> bool
     ensures { IsTrue result ↔ IsPlaced pins.now path.now }
 {
     for pin in pins {
@@ -54,8 +54,73 @@ fn is_placed(path: &[u8], pins: &[RowPin]) -> bool
     false
 }
 
+/// The paths of the pins' instances in order, each with the place of the pin.
+fn instances_of<'a>(alloc: Global, pins: &'a [RowPin]) -> Result<Vec<(&'a [u8], usize)>, Memory> {
+    let mut instances = Vec::new(alloc);
+    for place in 0..pins.len() {
+        instances.push((pins[place].path.as_bytes(), place))?;
+    }
+    instances.sort_unstable();
+    Ok(instances)
+}
+
+/// The place of a pin whose instance has this path, or else the first path behind it. Nothing is claimed of it: the pin is
+/// looked at.
+fn likely_pin(instances: &[(&[u8], usize)], path: &[u8]) -> usize {
+    let at = match instances.binary_search(&(path, 0)) {
+        Ok(at) => at,
+        Err(at) => at,
+    };
+    if at < instances.len() {
+        return instances[at].1;
+    }
+    at
+}
+
+/// Whether the path stands at the instance of the pin at the place.
+fn stands_at(path: &[u8], pins: &[RowPin], place: usize) -> bool
+    ensures { IsTrue result → IsPlaced pins.now path.now }
+{
+    if pins.len() <= place {
+        return false;
+    }
+    let instance = pins[place].path.as_bytes();
+    if instance.is_empty() {
+        return false;
+    }
+    is_along(path, instance)
+}
+
+/// Whether a pin is found by the path, or by a path above it, at whose instance the path stands.
+fn is_found(path: &[u8], pins: &[RowPin], instances: &[(&[u8], usize)]) -> bool
+    ensures { IsTrue result → IsPlaced pins.now path.now }
+{
+    if stands_at(path, pins, likely_pin(instances, path)) {
+        return true;
+    }
+    for at in 0..path.len() {
+        if path[at] != b'/' {
+            continue;
+        }
+        if stands_at(path, pins, likely_pin(instances, &path[..at])) {
+            return true;
+        }
+    }
+    false
+}
+
+/// Whether the path stands at a leaf instance that has a pin.
+fn is_placed(path: &[u8], pins: &[RowPin], instances: &[(&[u8], usize)]) -> bool
+    ensures { IsTrue result ↔ IsPlaced pins.now path.now }
+{
+    if is_found(path, pins, instances) {
+        return true;
+    }
+    is_placed_among(path, pins)
+}
+
 /// The text in lower case.
-fn lowered(alloc: Global, text: &[u8]) -> Result<Vec<u8>, Memory>
+pub fn lowered(alloc: Global, text: &[u8]) -> Result<Vec<u8>, Memory>
     ensures { IfOk result (λ lower. lower.items ≡ in_lower_case text.now) }
 {
     Ok(text.to_ascii_lowercase(alloc)?)
@@ -69,13 +134,14 @@ pub fn first_stranger(
 ) -> Result<Option<usize>, Memory>
     ensures { IfOk result (λ found. MatchOption found (AreNoStrangers labels.now pins.now) (IsStrangerAt labels.now pins.now)) }
 {
+    let instances = instances_of(alloc, pins)?;
     for place in 0..labels.len() {
         let path = labels[place].path.as_bytes();
         if path.is_empty() {
             continue;
         }
         let lower = lowered(alloc, path)?;
-        if !is_placed(&lower, pins) {
+        if !is_placed(&lower, pins, &instances) {
             return Ok(Some(place));
         }
     }

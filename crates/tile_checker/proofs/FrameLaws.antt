@@ -11,7 +11,7 @@ use Rattle.or_geom.specs.Covered.{HasCellInSome, IsCovered}
 use Rattle.or_geom.proofs.ListLaws.{contains_none, contains_cases, rest_at}
 use Rattle.tile_checker.specs.Breaks.{HasWidth}
 use Rattle.tile_checker.specs.Frame.{IsFrame, point, CoversFrom, HasBoxAt, HasBoxAtLow, HasBoxAlong, HasBoxAtLeft, HasBox}
-use Rattle.tile_checker.specs.declared.width.Frame.{Frame}
+use Rattle.tile_checker.specs.declared.frame.Frame.{Frame}
 
 -- one of the rectangles begins at this x
 abbrev HasLeft : List Rect → ℤ → Type 0
@@ -117,7 +117,7 @@ along rects f x y b =
       | inr h ↦ inr (low_tried rects f x s.to rects (turn_left rects s.to h) stands)
     ]
 
-found : (rects : List Rect) (f : Frame) (x y : ℤ) → HasBoxAt rects f (point x y) → HasBox rects f
+pub found : (rects : List Rect) (f : Frame) (x y : ℤ) → HasBoxAt rects f (point x y) → HasBox rects f
 found rects f x y b =
     let wide : pos 0 <ℤ f.width = f.wide in
     let gap = gap_of f.low.x x b.left in
@@ -135,20 +135,11 @@ low_at all f x [] h = absurd h
 low_at all f x (r ∷ rs) (inl b) = (r.y1, b)
 low_at all f x (r ∷ rs) (inr h) = low_at all f x rs h
 
-along_at : (all : List Rect) (f : Frame) (x : ℤ) → HasBoxAlong all f x → (y : ℤ) × HasBoxAt all f (point x y)
+pub along_at : (all : List Rect) (f : Frame) (x : ℤ) → HasBoxAlong all f x → (y : ℤ) × HasBoxAt all f (point x y)
 along_at all f x (inl b) = (f.low.y, b)
 along_at all f x (inr h) = low_at all f x all h
 
-left_at : (all : List Rect) (f : Frame) (rects : List Rect) → HasBoxAtLeft all f rects → (corner : Point) × HasBoxAt all f corner
-left_at all f [] h = absurd h
-left_at all f (r ∷ rs) (inl a) = let b = along_at all f r.x1 a in (point r.x1 b.0, b.1)
-left_at all f (r ∷ rs) (inr h) = left_at all f rs h
-
-box_at : (all : List Rect) (f : Frame) → HasBox all f → (corner : Point) × HasBoxAt all f corner
-box_at all f (inl a) = let b = along_at all f f.low.x a in (point f.low.x b.0, b.1)
-box_at all f (inr h) = left_at all f all h
-
-box_covers : (rects : List Rect) (f : Frame) (corner : Point) (min : ℤ) (r : Rect) → IsFrame min r f → HasBoxAt rects f corner → HasWidth rects min r
+pub box_covers : (rects : List Rect) (f : Frame) (corner : Point) (min : ℤ) (r : Rect) → IsFrame min r f → HasBoxAt rects f corner → HasWidth rects min r
 box_covers rects f corner min r frame b =
     let wide : pos 0 <ℤ f.width = f.wide in
     let tall : pos 0 <ℤ f.height = f.tall in
@@ -164,7 +155,7 @@ box_covers rects f corner min r frame b =
       covered = λ x y h. b.covered x y h.left h.right h.low h.high;
     }
 
-shrunk : (rects : List Rect) (f : Frame) (min : ℤ) (r : Rect) → IsFrame min r f → (h : HasWidth rects min r) → HasBoxAt rects f (point (int_max h.box.x1 f.low.x) (int_max h.box.y1 f.low.y))
+pub shrunk : (rects : List Rect) (f : Frame) (min : ℤ) (r : Rect) → IsFrame min r f → (h : HasWidth rects min r) → HasBoxAt rects f (point (int_max h.box.x1 f.low.x) (int_max h.box.y1 f.low.y))
 shrunk rects f min r frame h =
     let in_left = h.holds.left in
     let in_right = h.holds.right in
@@ -186,12 +177,6 @@ shrunk rects f min r frame h =
     }
 
 -- A rectangle has a width exactly where one of the boxes that are tried is covered.
-pub tried_enough : (rects : List Rect) (f : Frame) (min : ℤ) (r : Rect) → IsFrame min r f → (HasBox rects f → HasWidth rects min r) × (HasWidth rects min r → HasBox rects f)
-tried_enough rects f min r frame = (
-  λ h. let b = box_at rects f h in box_covers rects f b.0 min r frame b.1,
-  λ h. found rects f (int_max h.box.x1 f.low.x) (int_max h.box.y1 f.low.y) (shrunk rects f min r frame h),
-)
-
 -- a box and its cells
 pub covers_box : (rects : List Rect) (f : Frame) (corner : Point) (area : Rect) → area.x1 ≡ corner.x → area.y1 ≡ corner.y → area.x2 ≡ corner.x +ℤ f.width → area.y2 ≡ corner.y +ℤ f.height
     → (IsCovered area rects → CoversFrom rects corner f.width f.height) × (CoversFrom rects corner f.width f.height → IsCovered area rects)
@@ -200,50 +185,9 @@ covers_box rects f corner area x1 y1 x2 y2 = (
   λ c x y h. c x y (omega (arith, ints, h.left)) (omega (arith, ints, h.right)) (omega (arith, ints, h.low)) (omega (arith, ints, h.high)),
 )
 
-at_index : (rects : List Rect) (i : ℕ) (r : Rect) → i < length rects → r ≡ get_or rects i r → Contains rects r
-at_index rects i r lt is = (i, lt, sym is)
-
-found_low : (all : List Rect) (f : Frame) (x : ℤ) (r : Rect) → HasBoxAt all f (point x r.y1) → (rects : List Rect) → Contains rects r → HasBoxAtLow all f x rects
-found_low all f x r b [] h = absurd (contains_none r h)
-found_low all f x r b (s ∷ ss) h = elim (contains_cases s ss r h) [
-  | inl e ↦ inl (subst (λ (t : Rect). HasBoxAt all f (point x t.y1)) e b)
-  | inr k ↦ inr (found_low all f x r b ss k)
-]
-
-found_left : (all : List Rect) (f : Frame) (r : Rect) → HasBoxAlong all f r.x1 → (rects : List Rect) → Contains rects r → HasBoxAtLeft all f rects
-found_left all f r b [] h = absurd (contains_none r h)
-found_left all f r b (s ∷ ss) h = elim (contains_cases s ss r h) [
-  | inl e ↦ inl (subst (λ (t : Rect). HasBoxAlong all f t.x1) e b)
-  | inr k ↦ inr (found_left all f r b ss k)
-]
-
--- what is found among the rectangles stands among those left
-abbrev pub IsLowLeft : List Rect → Frame → ℤ → ℕ → Type 0
-IsLowLeft rects f x i = HasBoxAlong rects f x → HasBoxAtLow rects f x (drop i rects)
-
-pub low_goes_on : (rects : List Rect) (f : Frame) (x : ℤ) (i : ℕ) (r : Rect) → i < length rects → r ≡ get_or rects i r → (HasBoxAt rects f (point x r.y1) → ⊥) → IsLowLeft rects f x i → IsLowLeft rects f x (i + 1)
-low_goes_on rects f x i r lt is none left h =
-    elim (subst (λ (rs : List Rect). HasBoxAtLow rects f x rs) (rest_at rects i r lt is) (left h)) [ inl b ↦ absurd (none b) | inr k ↦ k ]
-
-pub low_found : (rects : List Rect) (f : Frame) (x : ℤ) (i : ℕ) (r : Rect) → i < length rects → r ≡ get_or rects i r → HasBoxAt rects f (point x r.y1) → HasBoxAlong rects f x
-low_found rects f x i r lt is b = inr (found_low rects f x r b rects (at_index rects i r lt is))
-
-abbrev pub IsLeftLeft : List Rect → Frame → ℕ → Type 0
-IsLeftLeft rects f i = HasBox rects f → HasBoxAtLeft rects f (drop i rects)
-
-pub left_goes_on : (rects : List Rect) (f : Frame) (i : ℕ) (r : Rect) → i < length rects → r ≡ get_or rects i r → (HasBoxAlong rects f r.x1 → ⊥) → IsLeftLeft rects f i → IsLeftLeft rects f (i + 1)
-left_goes_on rects f i r lt is none left h =
-    elim (subst (λ (rs : List Rect). HasBoxAtLeft rects f rs) (rest_at rects i r lt is) (left h)) [ inl b ↦ absurd (none b) | inr k ↦ k ]
-
-pub left_found : (rects : List Rect) (f : Frame) (i : ℕ) (r : Rect) → i < length rects → r ≡ get_or rects i r → HasBoxAlong rects f r.x1 → HasBox rects f
-left_found rects f i r lt is b = inr (found_left rects f r b rects (at_index rects i r lt is))
-
 -- a corner with the same coordinates
 pub box_moved : (rects : List Rect) (f : Frame) (p q : Point) → p.x ≡ q.x → p.y ≡ q.y → HasBoxAt rects f p → HasBoxAt rects f q
 box_moved rects f p q x y b = subst (λ (c : Point). HasBoxAt rects f c) (same_point p q x y) b
-
-pub along_moved : (rects : List Rect) (f : Frame) (x z : ℤ) → x ≡ z → HasBoxAlong rects f x → HasBoxAlong rects f z
-along_moved rects f x z e b = subst (λ (y : ℤ). HasBoxAlong rects f y) e b
 
 pub frame_of_same : (m n : ℤ) (r : Rect) (f : Frame) → m ≡ n → IsFrame m r f → IsFrame n r f
 frame_of_same m n r f e frame = subst (λ (k : ℤ). IsFrame k r f) e frame

@@ -1,8 +1,13 @@
 mod FrameLaws
 mod SpaceLaws
 mod AloneLaws
-mod EncloseLaws
 mod ReportLaws
 mod ViolationLaws
 mod UnjoinedLaws
+mod ShareLaws
+mod NearLaws
+mod PlaceLaws
+mod FirstLaws
+mod PairLaws
+mod BoxLaws
 pub mod OneReportLaws

@@ -2,8 +2,8 @@
 use Rattle.std.specs.Cmp.{IsTotalOrder}
 use Rattle.std.specs.Cmp.Lexicographic.{options_total}
 use Rattle.std.proofs.lemmas.Cmp.{on_total, then_total, nat_cmp_total}
-use Rattle.ordered_set.proofs.ShapeOrderLaws.{shape_total}
-use Rattle.ordered_set.proofs.OneListLaws.{one_list}
+use Rattle.or_geom.proofs.ShapeOrderLaws.{shape_total}
+use Rattle.or_geom.proofs.OneListLaws.{one_list}
 use Rattle.tile_checker.specs.declared.violation.Violation.{Violation}
 use Rattle.tile_checker.specs.RuleReport.{violation_order}
 use Rattle.tile_checker.specs.OneReport.{ReportsAreUnique}

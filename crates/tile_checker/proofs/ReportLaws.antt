@@ -3,8 +3,8 @@ use Rattle.std.proofs.Common.{◌≡◌, ◌⊎◌, inl, inr, ℕ, ◌+◌, ◌<
 use Rattle.std.specs.Prelude.{Contains, All, slice_get}
 use Rattle.std.specs.List.Sorted.{IsStrictlySortedBy}
 use Rattle.or_geom.specs.declared.shape.Shape.{Shape}
-use Rattle.ordered_set.specs.Adds.{Adds}
-use Rattle.ordered_set.proofs.AddsLaws.{adds_none, adds_both, adds_as}
+use Rattle.or_geom.specs.Adds.{Adds}
+use Rattle.or_geom.proofs.AddsLaws.{adds_none, adds_both, adds_as}
 use Rattle.tech_rules.specs.declared.tech.Rule.{Rule}
 use Rattle.tech_rules.specs.declared.tech.Rule.TheVariants.{Width, Space, Enclose}
 use Rattle.tech_rules.specs.declared.tech.Layer.{Layer}
@@ -34,14 +34,14 @@ minimums layers rules seen is all = subst (λ (rs : List Rule). All HasMinimum r
 pub minimum_at : (rules : List Rule) (i : ℕ) (rule : Rule) → All HasMinimum rules → i < length rules → rule ≡ get_or rules i rule → HasMinimum rule
 minimum_at rules i rule all lt is = All-contains HasMinimum rules rule all (i, lt, sym is)
 
-step_to : (rules : List Rule) (shapes : List Shape) (n : ℕ) (rule : Rule) → n < length rules → rule ≡ get_or rules n rule → (v : Violation) → IsBelow rules shapes n v ⊎ IsViolationOf n rule shapes v → IsBelow rules shapes (n + 1) v
+pub step_to : (rules : List Rule) (shapes : List Shape) (n : ℕ) (rule : Rule) → n < length rules → rule ≡ get_or rules n rule → (v : Violation) → IsBelow rules shapes n v ⊎ IsViolationOf n rule shapes v → IsBelow rules shapes (n + 1) v
 step_to rules shapes n rule lt is v (inl b) = record { below = omega (arith, b.below); violation = b.violation }
 step_to rules shapes n rule lt is v (inr w) = record {
   below = omega (arith, w.numbered);
   violation = record { rule = rule; numbered = ap (slice_get rules) w.numbered ∙ slice_get_read rules (length rules) n rule refl lt is; first = w.first; second = w.second; breaks = w.breaks };
 }
 
-step_from : (rules : List Rule) (shapes : List Shape) (n : ℕ) (rule : Rule) → n < length rules → rule ≡ get_or rules n rule → (v : Violation) → IsBelow rules shapes (n + 1) v → IsBelow rules shapes n v ⊎ IsViolationOf n rule shapes v
+pub step_from : (rules : List Rule) (shapes : List Shape) (n : ℕ) (rule : Rule) → n < length rules → rule ≡ get_or rules n rule → (v : Violation) → IsBelow rules shapes (n + 1) v → IsBelow rules shapes n v ⊎ IsViolationOf n rule shapes v
 step_from rules shapes n rule lt is v b = elim (below_or v.rule n b.below) [
   | inl less ↦ inl (record { below = less; violation = b.violation })
   | inr same ↦
@@ -49,17 +49,3 @@ step_from rules shapes n rule lt is v b = elim (below_or v.rule n b.below) [
       let e : w.rule ≡ rule = same_Some w.rule rule (sym w.numbered ∙ (ap (slice_get rules) same ∙ slice_get_read rules (length rules) n rule refl lt is)) in
       inr (record { numbered = same; first = w.first; second = w.second; breaks = subst (λ (r : Rule). Breaks r shapes v.first v.second) e w.breaks })
 ]
-
-pub report_goes_on : (rules : List Rule) (shapes : List Shape) (n : ℕ) (rule : Rule) (old now next : List Violation) → n < length rules → rule ≡ get_or rules n rule
-    → Adds old now (IsBelow rules shapes n) → Adds now next (IsViolationOf n rule shapes) → Adds old next (IsBelow rules shapes (n + 1))
-report_goes_on rules shapes n rule old now next lt is a b =
-    adds_as old next (λ v. IsBelow rules shapes n v ⊎ IsViolationOf n rule shapes v) (IsBelow rules shapes (n + 1)) (step_to rules shapes n rule lt is) (step_from rules shapes n rule lt is)
-    (adds_both old now next (IsBelow rules shapes n) (IsViolationOf n rule shapes) a b)
-
-pub report_ends : (rules : List Rule) (shapes : List Shape) (n : ℕ) (found list : List Violation) → length rules ≤ n → Adds [] found (IsBelow rules shapes n) → IsStrictlySortedBy violation_order list
-    → ((v : Violation) → Contains found v → Contains list v) → ((v : Violation) → Contains list v → Contains found v) → IsReport rules shapes list
-report_ends rules shapes n found list le a rises keeps adds_none = record {
-  rises = rises;
-  only = λ v h. (a.only v (subst (λ (l : List Violation). Contains l v) a.is (adds_none v h))).violation;
-  each = λ v w. keeps v (subst (λ (l : List Violation). Contains l v) (sym a.is) (a.each v (record { below = omega (arith, slice_get_within rules v.rule w.rule w.numbered); violation = w })));
-}

@@ -11,19 +11,19 @@ use Rattle.or_geom.specs.Distance.{IsLeastDist2, IsReachable}
 use Rattle.or_geom.specs.Gap.{IsGap, IsGapBox, IsFromTo}
 use Rattle.or_geom.specs.Span.{across, upward}
 use Rattle.or_geom.proofs.PlaceLaws.{same_rect}
-use Rattle.ordered_set.specs.Adds.{Adds}
-use Rattle.ordered_set.specs.Gathering.{SomePairGives}
-use Rattle.ordered_set.specs.ShapeOrder.{shape_order}
-use Rattle.ordered_set.proofs.AddsLaws.{adds_as}
-use Rattle.ordered_set.proofs.GatheringLaws.{pair_of, pair_gives}
-use Rattle.ordered_set.proofs.ShapeOrderLaws.{shape_total}
+use Rattle.or_geom.specs.Adds.{Adds}
+use Rattle.or_geom.specs.Gathering.{SomePairGives}
+use Rattle.or_geom.specs.ShapeOrder.{shape_order}
+use Rattle.or_geom.proofs.AddsLaws.{adds_as}
+use Rattle.or_geom.proofs.GatheringLaws.{pair_of, pair_gives}
+use Rattle.or_geom.proofs.ShapeOrderLaws.{shape_total}
 use Rattle.tech_rules.specs.declared.tech.Rule.{Rule}
 use Rattle.tech_rules.specs.declared.tech.Rule.TheVariants.{Space}
-use Rattle.tile_checker.specs.Layers.{rects_on}
+use Rattle.shape_bins.specs.Layers.{rects_on, IsCoveredBy}
 use Rattle.tile_checker.specs.Breaks.{AreNear, IsGapCovered, Breaks}
 use Rattle.tile_checker.specs.RuleReport.{IsLater}
-use Rattle.tile_checker.specs.Found.{AreOn, IsGapCoveredIn, IsSpaceFound, IsSpaceViolation, IsViolationOf}
-use Rattle.ordered_set.specs.Reachable.{AreReachable}
+use Rattle.tile_checker.specs.Found.{AreOn, IsGapCoveredIn, IsSpaceFound}
+use Rattle.or_geom.specs.Reachable.{AreReachable}
 use Rattle.tile_checker.specs.declared.violation.Violation.{Violation}
 use Rattle.tile_checker.specs.declared.space.SpaceRule.{SpaceRule}
 
@@ -66,9 +66,6 @@ gap_box_once a b g h p q =
     let y = gap_once (upward a) (upward b) (upward g) (upward h) p.in_y q.in_y in
     same_rect g h x.low y.low x.high y.high
 
-pub others_reachable : (rest others : List Shape) (first : Shape) → rest ≡ first ∷ others → AreReachable rest → IsReachable first.rect × AreReachable others
-others_reachable rest others first e all = subst AreReachable e all
-
 -- where the layers fit and the shapes are near, it is the gap that decides
 pub space_found : (rule : SpaceRule) (rects : List Rect) (a b : Shape) (gap : Rect) (r : Bool) → AreOn rule a b → AreNear rule.min.value a.rect b.rect → a.layer ≡ b.layer → IsGapBox a.rect b.rect gap → (IsTrue r ↔ IsCovered gap rects)
     → IsTrue (not r) ↔ IsSpaceFound rule rects a b
@@ -82,52 +79,18 @@ own_layer : (rule : SpaceRule) (a b : Shape) → AreOn rule a b → a.layer ≡ 
 own_layer rule a b (inl on) one = on.0
 own_layer rule a b (inr on) one = one ∙ on.1
 
-gap_in : (rule : SpaceRule) (shapes : List Shape) (rects : List Rect) (a b : Shape) → rects ≡ rects_on rule.layer shapes → AreOn rule a b → IsGapCovered shapes a b → IsGapCoveredIn rects a b
-gap_in rule shapes rects a b e on g = record {
+pub gap_in : (rule : SpaceRule) (shapes : List Shape) (a b : Shape) → AreOn rule a b → IsGapCovered shapes a b → IsGapCoveredIn (rects_on rule.layer shapes) a b
+gap_in rule shapes a b on g = record {
   one_layer = g.one_layer;
   gap = g.gap;
   is = g.is;
-  covered = subst (λ (rs : List Rect). IsCovered g.gap rs) (ap (λ (layer : ℕ). rects_on layer shapes) (own_layer rule a b on g.one_layer) ∙ sym e) g.covered;
+  covered = subst (λ (layer : ℕ). IsCoveredBy layer shapes g.gap) (own_layer rule a b on g.one_layer) g.covered;
 }
 
-gap_out : (rule : SpaceRule) (shapes : List Shape) (rects : List Rect) (a b : Shape) → rects ≡ rects_on rule.layer shapes → AreOn rule a b → IsGapCoveredIn rects a b → IsGapCovered shapes a b
-gap_out rule shapes rects a b e on g = record {
+pub gap_out : (rule : SpaceRule) (shapes : List Shape) (a b : Shape) → AreOn rule a b → IsGapCoveredIn (rects_on rule.layer shapes) a b → IsGapCovered shapes a b
+gap_out rule shapes a b on g = record {
   one_layer = g.one_layer;
   gap = g.gap;
   is = g.is;
-  covered = subst (λ (rs : List Rect). IsCovered g.gap rs) (e ∙ ap (λ (layer : ℕ). rects_on layer shapes) (sym (own_layer rule a b on g.one_layer))) g.covered;
+  covered = subst (λ (layer : ℕ). IsCoveredBy layer shapes g.gap) (sym (own_layer rule a b on g.one_layer)) g.covered;
 }
-
-abbrev kind : SpaceRule → Rule
-kind rule = Space rule.layer rule.other rule.min.value
-
--- each pair that is found is a violation
-space_is : (rule : SpaceRule) (shapes : List Shape) (rects : List Rect) (v : Violation) → rects ≡ rects_on rule.layer shapes → IsStrictlySortedBy shape_order shapes
-    → SomePairGives (IsSpaceViolation rule rects) shapes v → IsViolationOf rule.number (kind rule) shapes v
-space_is rule shapes rects v e rises g =
-    let p = pair_of shape_order (IsSpaceViolation rule rects) shapes v rises g in
-    let f = p.5.found in
-    let base : IsViolationOf rule.number (kind rule) shapes (record { rule = rule.number; first = p.0; second = Some p.1 }) = record {
-      numbered = refl;
-      first = p.2;
-      second = (p.3, p.4);
-      breaks = record { on = f.on; near = f.near; bare = λ c. f.bare (gap_in rule shapes rects p.0 p.1 e f.on c) };
-    } in
-    subst (λ (w : Violation). IsViolationOf rule.number (kind rule) shapes w) (sym p.5.is) base
-
--- and each violation is found
-space_each : (rule : SpaceRule) (shapes : List Shape) (rects : List Rect) (v : Violation) (second : Option Shape) → v.second ≡ second → v.rule ≡ rule.number → rects ≡ rects_on rule.layer shapes → IsStrictlySortedBy shape_order shapes
-    → Contains shapes v.first → IsLater shapes v.first second → Breaks (kind rule) shapes v.first second → SomePairGives (IsSpaceViolation rule rects) shapes v
-space_each rule shapes rects v None is numbered e rises first later breaks = absurd breaks
-space_each rule shapes rects v (Some b) is numbered e rises first later breaks =
-    pair_gives shape_order (IsSpaceViolation rule rects) shapes v v.first b shape_total rises first later.0 later.1 (record {
-      is = λ i. record { rule = numbered i; first = v.first; second = is i };
-      found = record { on = breaks.on; near = breaks.near; bare = λ c. breaks.bare (gap_out rule shapes rects v.first b e breaks.on c) };
-    })
-
-pub spaces_found : (rule : SpaceRule) (shapes : List Shape) (rects : List Rect) (old new : List Violation) → rects ≡ rects_on rule.layer shapes → IsStrictlySortedBy shape_order shapes
-    → Adds old new (SomePairGives (IsSpaceViolation rule rects) shapes) → Adds old new (IsViolationOf rule.number (kind rule) shapes)
-spaces_found rule shapes rects old new e rises a =
-    adds_as old new (SomePairGives (IsSpaceViolation rule rects) shapes) (IsViolationOf rule.number (kind rule) shapes)
-    (λ v g. space_is rule shapes rects v e rises g)
-    (λ v w. space_each rule shapes rects v v.second refl w.numbered e rises w.first w.second w.breaks) a

@@ -10,8 +10,9 @@ use Rattle.or_geom.specs.Joined.{AreJoined}
 use Rattle.or_geom.specs.Covered.{HasCell, HasCellInSome, IsCovered}
 use Rattle.or_geom.proofs.ListLaws.{contains_none, contains_cases, contains_first, contains_later, contains_here}
 use Rattle.or_geom.proofs.CoverLaws.{cell_among}
-use Rattle.tile_checker.specs.Breaks.{Holds, IsAsWide, HasWidth}
-use Rattle.tile_checker.specs.Layers.{rects_on}
+use Rattle.shape_bins.specs.Meets.{HoldsRect}
+use Rattle.tile_checker.specs.Breaks.{IsAsWide, HasWidth}
+use Rattle.shape_bins.specs.Layers.{rects_on}
 use Rattle.tile_checker.specs.Unjoined.{AreUnjoined, WidthOfUnjoinedShapes}
 
 -- only a rectangle and itself are joined
@@ -36,7 +37,7 @@ differ_y x y e = let h : y ≡ y +ℤ pos 1 = ap (λ (p : Point). p.y) e in omeg
 differ_x : (x y : ℤ) → ◌≢◌ {A = Point} (record { x = x; y = y }) (record { x = x +ℤ pos 1; y = y })
 differ_x x y e = let h : x ≡ x +ℤ pos 1 = ap (λ (p : Point). p.x) e in omega (arith, ints)
 
-not_left : (rects : List Rect) (a box : Rect) → AreAlone rects → Contains rects a → Holds box a → IsCovered box rects → a.x1 ≤ℤ box.x1
+not_left : (rects : List Rect) (a box : Rect) → AreAlone rects → Contains rects a → HoldsRect box a → IsCovered box rects → a.x1 ≤ℤ box.x1
 not_left rects a box alone one c covers =
     let wide : a.x1 <ℤ a.x2 = a.wide in
     let tall : a.y1 <ℤ a.y2 = a.tall in
@@ -54,7 +55,7 @@ not_left rects a box alone one c covers =
     })))
     (λ ge. ge)
 
-not_right : (rects : List Rect) (a box : Rect) → AreAlone rects → Contains rects a → Holds box a → IsCovered box rects → box.x2 ≤ℤ a.x2
+not_right : (rects : List Rect) (a box : Rect) → AreAlone rects → Contains rects a → HoldsRect box a → IsCovered box rects → box.x2 ≤ℤ a.x2
 not_right rects a box alone one c covers =
     let wide : a.x1 <ℤ a.x2 = a.wide in
     let tall : a.y1 <ℤ a.y2 = a.tall in
@@ -72,7 +73,7 @@ not_right rects a box alone one c covers =
     })))
     (λ ge. ge)
 
-not_low : (rects : List Rect) (a box : Rect) → AreAlone rects → Contains rects a → Holds box a → IsCovered box rects → a.y1 ≤ℤ box.y1
+not_low : (rects : List Rect) (a box : Rect) → AreAlone rects → Contains rects a → HoldsRect box a → IsCovered box rects → a.y1 ≤ℤ box.y1
 not_low rects a box alone one c covers =
     let wide : a.x1 <ℤ a.x2 = a.wide in
     let tall : a.y1 <ℤ a.y2 = a.tall in
@@ -90,7 +91,7 @@ not_low rects a box alone one c covers =
     })))
     (λ ge. ge)
 
-not_high : (rects : List Rect) (a box : Rect) → AreAlone rects → Contains rects a → Holds box a → IsCovered box rects → box.y2 ≤ℤ a.y2
+not_high : (rects : List Rect) (a box : Rect) → AreAlone rects → Contains rects a → HoldsRect box a → IsCovered box rects → box.y2 ≤ℤ a.y2
 not_high rects a box alone one c covers =
     let wide : a.x1 <ℤ a.x2 = a.wide in
     let tall : a.y1 <ℤ a.y2 = a.tall in

@@ -3,7 +3,7 @@ use Rattle.std.specs.Option.{option_eq}
 use Rattle.std.proofs.Common.{◌≡◌, true, ◌&&◌, eqb, Option, Some, None, refl, ap}
 use Rattle.std.proofs.lemmas.Bool.{eqb-true, and_parts}
 use Rattle.or_geom.specs.declared.shape.Shape.{Shape}
-use Rattle.ordered_set.proofs.ShapeOrderLaws.{shape_eq, same_shape}
+use Rattle.or_geom.proofs.ShapeOrderLaws.{shape_eq, same_shape}
 use Rattle.tile_checker.specs.declared.violation.Violation.{Violation}
 
 same_option : (s t : Option Shape) → option_eq shape_eq s t ≡ true → s ≡ t

@@ -8,14 +8,8 @@ use Rattle.or_geom.specs.Distance.{IsLeastDist2}
 use Rattle.or_geom.specs.Gap.{IsGapBox}
 use Rattle.tech_rules.specs.declared.tech.Rule.{Rule}
 use Rattle.tech_rules.specs.declared.tech.Rule.TheVariants.{Width, Space, Enclose}
-use Rattle.tile_checker.specs.Layers.{rects_on, IsCoveredBy}
-
--- the box contains the rectangle
-pub record Holds (box r : Rect) : Type 0 where
-  pub left : box.x1 ≤ℤ r.x1
-  pub right : r.x2 ≤ℤ box.x2
-  pub low : box.y1 ≤ℤ r.y1
-  pub high : r.y2 ≤ℤ box.y2
+use Rattle.shape_bins.specs.Meets.{HoldsRect}
+use Rattle.shape_bins.specs.Layers.{rects_on, IsCoveredBy}
 
 -- both sides of the box are at least so long
 pub record IsAsWide (min : ℤ) (box : Rect) : Type 0 where
@@ -25,7 +19,7 @@ pub record IsAsWide (min : ℤ) (box : Rect) : Type 0 where
 -- some box contains the rectangle, has both sides at least so long, and is covered
 pub record HasWidth (rects : List Rect) (min : ℤ) (r : Rect) : Type 0 where
   pub box : Rect
-  pub holds : Holds box r
+  pub holds : HoldsRect box r
   pub as_wide : IsAsWide min box
   pub covered : IsCovered box rects
 

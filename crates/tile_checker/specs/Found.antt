@@ -1,5 +1,5 @@
 -- What the loops over the shapes find.
-use Rattle.std.specs.Prelude.{◌≡◌, ◌⊎◌, ℕ, List, Contains, Some, None}
+use Rattle.std.specs.Prelude.{◌≡◌, ◌⊎◌, ℕ, List, Contains}
 use Rattle.or_geom.specs.declared.shape.Rect.{Rect}
 use Rattle.or_geom.specs.declared.shape.Shape.{Shape}
 use Rattle.or_geom.specs.Covered.{IsCovered}
@@ -27,19 +27,9 @@ pub record IsSpaceFound (rule : SpaceRule) (rects : List Rect) (a b : Shape) : T
   pub near : AreNear rule.min.value a.rect b.rect
   pub bare : IsGapCoveredIn rects a b → ⊥
 
--- and this is their violation
-pub record IsSpaceViolation (rule : SpaceRule) (rects : List Rect) (a b : Shape) (v : Violation) : Type 0 where
-  pub is : v ≡ record { rule = rule.number; first = a; second = Some b }
-  pub found : IsSpaceFound rule rects a b
-
 -- a violation of the rule of this number
 pub record IsViolationOf (number : ℕ) (rule : Rule) (shapes : List Shape) (v : Violation) : Type 0 where
   pub numbered : v.rule ≡ number
   pub first : Contains shapes v.first
   pub second : IsLater shapes v.first v.second
   pub breaks : Breaks rule shapes v.first v.second
-
--- a shape that breaks the rule of this number alone, and its violation
-pub record IsAlone (number : ℕ) (rule : Rule) (shapes : List Shape) (a : Shape) (v : Violation) : Type 0 where
-  pub is : v ≡ record { rule = number; first = a; second = None }
-  pub breaks : Breaks rule shapes a None

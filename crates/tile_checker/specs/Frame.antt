@@ -4,7 +4,7 @@ use Rattle.std.specs.Int.{int_max}
 use Rattle.or_geom.specs.declared.shape.Point.{Point}
 use Rattle.or_geom.specs.declared.shape.Rect.{Rect}
 use Rattle.or_geom.specs.Covered.{HasCellInSome}
-use Rattle.tile_checker.specs.declared.width.Frame.{Frame}
+use Rattle.tile_checker.specs.declared.frame.Frame.{Frame}
 
 -- The boxes with the least sides that contain r and meet the minimum: their lower left corners lie between low and high.
 pub record IsFrame (min : ℤ) (r : Rect) (f : Frame) : Type 0 where

@@ -1,8 +1,10 @@
 pub mod Minimum
-pub mod Layers
 pub mod Breaks
 pub mod RuleReport
 pub mod Frame
 pub mod Found
 pub mod Unjoined
 pub mod OneReport
+pub mod Firsts
+pub mod Boxes
+pub mod Share

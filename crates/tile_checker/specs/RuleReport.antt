@@ -6,7 +6,7 @@ use Rattle.std.specs.declared.cmp.Ordering.{Ordering}
 use Rattle.std.specs.declared.cmp.Ordering.TheVariants.{Less}
 use Rattle.std.specs.Option.{option_cmp}
 use Rattle.or_geom.specs.declared.shape.Shape.{Shape}
-use Rattle.ordered_set.specs.ShapeOrder.{shape_order}
+use Rattle.or_geom.specs.ShapeOrder.{shape_order}
 use Rattle.tech_rules.specs.declared.tech.Rule.{Rule}
 use Rattle.tile_checker.specs.declared.violation.Violation.{Violation}
 use Rattle.tile_checker.specs.Breaks.{Breaks}

@@ -1,21 +1,21 @@
-ghost use Rattle.std.specs.Prelude.{◌≡◌, ◌↔◌, IsTrue, OnOk};
-ghost use Rattle.or_geom.specs.Covered.{IsCovered};
+ghost use Rattle.std.specs.Prelude.{◌↔◌, IsTrue, OnOk};
 ghost use Rattle.or_geom.specs.Distance.{IsReachable};
-ghost use Rattle.ordered_set.specs.Adds.{Adds};
-ghost use Rattle.ordered_set.specs.Gathering.{SomeHas};
 ghost use Rattle.tile_checker.specs.Breaks.{IsGrown};
-ghost use Rattle.tile_checker.specs.Found.{IsViolationOf};
-ghost use Rattle.ordered_set.specs.Reachable.{AreReachable};
+ghost use Rattle.or_geom.specs.Adds.{Adds};
+ghost use Rattle.or_geom.specs.Gathering.{SomeHas};
+ghost use Rattle.or_geom.specs.Reachable.{AreReachable};
 ghost use Rattle.tech_rules.specs.declared.tech.Rule.TheVariants as kind;
+ghost use Rattle.shape_bins.specs.Layers.{IsCoveredBy};
+ghost use Rattle.tile_checker.specs.Firsts.{IsAt, IsFrom};
 
-use crate::layers::rects_of_each;
+use crate::first::First;
 use crate::minimum::Minimum;
 use crate::violation::Violation;
-use or_geom::{Items, Memory, Rect, Shape, covered};
-use std::alloc::Global;
+use or_geom::{Items, Memory, Rect};
+use shape_bins::Bins;
 
 /// The rectangle, grown by the minimum on all sides.
-fn grown(rect: Rect, min: Minimum) -> Rect
+pub fn grown(rect: Rect, min: Minimum) -> Rect
     requires { IsReachable rect }
     ensures { IsGrown min.value rect result }
 {
@@ -27,44 +27,41 @@ fn grown(rect: Rect, min: Minimum) -> Rect
     }
 }
 
-/// Whether one of the lists covers the area.
-fn is_enclosed(area: Rect, lists: &[Items<Rect>]) -> bool
-    ensures { IsTrue result ↔ SomeHas (IsCovered area) lists.now }
+/// Whether one of the layers covers the area.
+fn is_enclosed(bins: &Bins, area: Rect, layers: &[u16]) -> bool
+    ensures { IsTrue result ↔ SomeHas (λ layer. IsCoveredBy layer bins.now area) layers.now }
 {
-    for rects in lists {
-        if covered(area, rects.as_slice()) {
+    for layer in layers {
+        if bins.box_covered(*layer, area) {
             return true;
         }
     }
     false
 }
 
-/// Adds the shapes of the layer that none of the layers `by` encloses.
+/// Adds the shape if it is of the layer and none of the layers `by` encloses it.
 pub fn add_encloses(
-    alloc: Global,
+    bins: &Bins,
     number: u32,
     layer: u16,
     by: &Items<u16>,
     min: Minimum,
-    shapes: &[Shape],
+    first: First,
     out: &mut Vec<Violation>,
 ) -> Result<(), Memory>
-    requires { AreReachable shapes.now }
-    ensures { OnOk result (Adds out.old.items out.new.items (IsViolationOf number (kind.Enclose layer by.now min.value) shapes.now)) }
+    requires reach { AreReachable bins.now }
+    requires at { IsAt bins.now first }
+    ensures { OnOk result (Adds out.old.items out.new.items (IsFrom number (kind.Enclose layer by.now min.value) bins.now first)) }
 {
-    let lists = rects_of_each(alloc, by.as_slice(), shapes)?;
-    for shape in shapes {
-        if shape.layer != layer {
-            continue;
-        }
-        if is_enclosed(grown(shape.rect, min), &lists) {
-            continue;
-        }
-        out.push(Violation {
-            rule: number,
-            first: *shape,
-            second: None,
-        })?;
+    if first.shape.layer != layer {
+        return Ok(());
     }
-    Ok(())
+    if is_enclosed(bins, grown(first.shape.rect, min), by.as_slice()) {
+        return Ok(());
+    }
+    Ok(out.push(Violation {
+        rule: number,
+        first: first.shape,
+        second: None,
+    })?)
 }

@@ -1,16 +1,20 @@
 //! The report of the design rules over the shapes of a layout.
 #![tactic(auto)]
 
+mod check;
 mod enclose;
+mod first;
+mod frame;
+mod gate;
 mod laws;
-mod layers;
 mod minimum;
-mod report;
+mod share;
 mod space;
+mod union;
 mod violation;
 mod width;
-mod widths;
 
+pub use check::check_all;
+pub use gate::{Gate, OpenGate};
 pub use laws::{reports_are_unique, width_of_unjoined_shapes};
-pub use report::{check_pairs, first_fault};
-pub use violation::Violation;
+pub use violation::{Violation, first_fault};

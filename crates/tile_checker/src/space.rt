@@ -1,19 +1,22 @@
-ghost use Rattle.std.specs.Prelude.{◌↔◌, IsTrue, OnOk};
+ghost use Rattle.std.specs.Prelude.{◌↔◌, IsTrue, OnOk, MatchOption};
 ghost use Rattle.std.specs.List.Sorted.{IsStrictlySortedBy};
 ghost use Rattle.or_geom.specs.Distance.{IsReachable};
-ghost use Rattle.ordered_set.specs.Adds.{Adds};
-ghost use Rattle.ordered_set.specs.Gathering.{SomeGives};
-ghost use Rattle.ordered_set.specs.ShapeOrder.{shape_order};
+ghost use Rattle.or_geom.specs.Adds.{Adds};
+ghost use Rattle.or_geom.specs.Gathering.{SomeGives};
+ghost use Rattle.or_geom.specs.Reachable.{AreReachable};
+ghost use Rattle.or_geom.specs.ShapeOrder.{shape_order};
+ghost use Rattle.shape_bins.specs.Layers.{rects_on};
 ghost use Rattle.tile_checker.specs.Breaks.{AreNear};
-ghost use Rattle.tile_checker.specs.Found.{AreOn, IsSpaceFound, IsSpaceViolation, IsViolationOf};
-ghost use Rattle.ordered_set.specs.Reachable.{AreReachable};
+ghost use Rattle.tile_checker.specs.Found.{AreOn, IsSpaceFound};
 ghost use Rattle.tech_rules.specs.declared.tech.Rule.TheVariants as kind;
+ghost use Rattle.tile_checker.specs.Firsts.{IsAt, IsFrom, IsPartner, HasNoPartner, IsPairAt, ArePartners};
 
-use crate::layers::rects_of;
+use crate::enclose::grown;
+use crate::first::{First, shape_at};
 use crate::minimum::Minimum;
 use crate::violation::Violation;
-use or_geom::{Memory, Rect, Shape, covered, dist2, gap_box, joined};
-use std::alloc::Global;
+use or_geom::{Memory, Rect, Shape, dist2, gap_box, joined};
+use shape_bins::Bins;
 
 /// A space rule with its number.
 #[derive(Clone, Copy)]
@@ -39,74 +42,84 @@ fn are_near(a: Rect, b: Rect, min: Minimum) -> bool
     false
 }
 
-/// Whether one of the shapes lies on each of the rule's layers.
-fn are_on(rule: SpaceRule, a: Shape, b: Shape) -> bool
-    ensures { IsTrue result ↔ AreOn rule a b }
+/// The layer whose shapes may break the rule together with a shape of this layer.
+fn partner_of(rule: SpaceRule, layer: u16) -> Option<u16>
+    ensures { MatchOption result (HasNoPartner rule layer) (IsPartner rule layer) }
 {
-    (a.layer == rule.layer && b.layer == rule.other)
-        || (a.layer == rule.other && b.layer == rule.layer)
+    if layer == rule.layer {
+        return Some(rule.other);
+    }
+    if layer == rule.other {
+        return Some(rule.layer);
+    }
+    None
 }
 
-/// Whether two shapes break the rule. `rects` are those of the rule's first layer: two shapes of one layer don't break it
-/// where that layer covers the gap between them.
-fn breaks_space(rule: SpaceRule, a: Shape, b: Shape, rects: &[Rect]) -> bool
+/// Whether two shapes of the rule's layers break it. Two shapes of one layer don't where that layer covers the gap between
+/// them.
+fn breaks_space(bins: &Bins, rule: SpaceRule, a: Shape, b: Shape) -> bool
+    requires on { AreOn rule a b }
     requires first { IsReachable a.rect }
     requires second { IsReachable b.rect }
-    ensures { IsTrue result ↔ IsSpaceFound rule rects.now a b }
+    ensures { IsTrue result ↔ IsSpaceFound rule (rects_on rule.layer bins.now) a b }
 {
-    if !are_on(rule, a, b) {
-        return false;
-    }
     if !are_near(a.rect, b.rect, rule.min) {
         return false;
     }
     if a.layer != b.layer {
         return true;
     }
-    !covered(gap_box(a.rect, b.rect), rects)
+    !bins.box_covered(rule.layer, gap_box(a.rect, b.rect))
 }
 
-/// Adds what a shape and the later ones break.
-fn add_near(
+/// Adds what a shape breaks together with those at the places behind its own.
+fn add_pairs(
+    bins: &Bins,
     rule: SpaceRule,
-    first: Shape,
-    others: &[Shape],
-    rects: &[Rect],
+    first: First,
+    places: &[usize],
     out: &mut Vec<Violation>,
 ) -> Result<(), Memory>
-    requires first { IsReachable first.rect }
-    requires others { AreReachable others.now }
-    ensures { OnOk result (Adds out.old.items out.new.items (SomeGives (IsSpaceViolation rule rects.now first) others.now)) }
+    requires reach { AreReachable bins.now }
+    requires at { IsAt bins.now first }
+    requires partners { ArePartners rule bins.now first.shape places.now }
+    ensures { OnOk result (Adds out.old.items out.new.items (SomeGives (IsPairAt rule bins.now first) places.now)) }
 {
-    for other in others {
-        if !breaks_space(rule, first, *other, rects) {
+    let shapes = bins.shapes();
+    for place in places {
+        if *place <= first.place {
+            continue;
+        }
+        let second = shape_at(shapes, *place);
+        if !breaks_space(bins, rule, first.shape, second) {
             continue;
         }
         out.push(Violation {
             rule: rule.number,
-            first,
-            second: Some(*other),
+            first: first.shape,
+            second: Some(second),
         })?;
     }
     Ok(())
 }
 
-/// Adds the pairs of shapes that break the rule.
+/// Adds the pairs of shapes that break the rule and whose first is this one. `near` is a list to use again.
 pub fn add_spaces(
-    alloc: Global,
+    bins: &Bins,
     rule: SpaceRule,
-    shapes: &[Shape],
+    first: First,
+    near: &mut Vec<usize>,
     out: &mut Vec<Violation>,
 ) -> Result<(), Memory>
-    requires rises { IsStrictlySortedBy shape_order shapes.now }
-    requires reach { AreReachable shapes.now }
-    ensures { OnOk result (Adds out.old.items out.new.items (IsViolationOf rule.number (kind.Space rule.layer rule.other rule.min.value) shapes.now)) }
+    requires rises { IsStrictlySortedBy shape_order bins.now }
+    requires reach { AreReachable bins.now }
+    requires at { IsAt bins.now first }
+    ensures { OnOk result (Adds out.old.items out.new.items (IsFrom rule.number (kind.Space rule.layer rule.other rule.min.value) bins.now first)) }
 {
-    let rects = rects_of(alloc, rule.layer, shapes)?;
-    let mut rest = shapes;
-    while let Some((first, others)) = rest.split_first() {
-        add_near(rule, *first, others, &rects, out)?;
-        rest = others;
-    }
-    Ok(())
+    let Some(partner) = partner_of(rule, first.shape.layer) else {
+        return Ok(());
+    };
+    near.clear();
+    bins.add_near(partner, grown(first.shape.rect, rule.min), near)?;
+    add_pairs(bins, rule, first, near, out)
 }

@@ -1,7 +1,7 @@
 -- The node's structure is the first of its name.
 use Rattle.std.proofs.Common.{◌<◌, List, length, Some, refl, sym, subst, ◌∙◌, arith}
 use Rattle.std.specs.Prelude.{Contains}
-use Rattle.gds_stream.specs.declared.library.Element.{Element}
+use Rattle.gds_library.specs.declared.library.Element.{Element}
 use Rattle.cell_chains.specs.Numbering.{texts, name_at, referred_names}
 use Rattle.cell_chains.specs.Listing.{AreTargets}
 use Rattle.cell_chains.proofs.NameLaws.{texts_long}

@@ -1,7 +1,7 @@
 -- One name after another.
 use Rattle.std.proofs.Common.{◌<◌, List, length, subst, arith}
 use Rattle.std.specs.Prelude.{Contains}
-use Rattle.gds_stream.specs.declared.library.Element.{Element}
+use Rattle.gds_library.specs.declared.library.Element.{Element}
 use Rattle.cell_chains.specs.Numbering.{texts, name_at, referred_names, AreReferences}
 use Rattle.cell_chains.proofs.FirstLaws.{first_within}
 use Rattle.cell_chains.proofs.ReferenceLaws.{referred_there, graph_more}

@@ -1,20 +1,18 @@
-use Rattle.std.proofs.Common.{refl}
-use Rattle.std.proofs.lemmas.Option.{slice_get_read}
-use Rattle.cell_hierarchy.proofs.CountLaws.{counts_begin, counts_go_on, counts_end}
-use Rattle.cell_hierarchy.proofs.DrawnLaws.{structure_stands}
+use Rattle.std.proofs.Common.{arith}
+use Rattle.cell_hierarchy.proofs.CellLaws.{there_at}
+use Rattle.cell_hierarchy.proofs.OwnLaws.{same_read}
+use Rattle.cell_hierarchy.proofs.CountLaws.{own_counted, counts_begin, counts_go_on, counts_end}
 use Rattle.cell_hierarchy.proofs.count.own_counts.Goals as goal
 
-pub own_counts_of-requires-clause-stands : goal.own_counts_of-requires-clause-stands
-own_counts_of-requires-clause-stands c =
-    let at = slice_get_read c.args.cells.now _ c.loop-cell.cell-index c.cell-item.result refl c.loop-cell-test.true c.cell-item.is in
-    structure_stands c.args.structs.now c.args.cells.now c.loop-cell.cell-index c.cell-item.result (c.requires.cells.each c.loop-cell.cell-index c.cell-item.result at)
+pub loop-index-init : goal.loop-index-init
+loop-index-init c = counts_begin _ _ _ _ c.in_ok-counts.ensures.items
 
-pub loop-cell-init : goal.loop-cell-init
-loop-cell-init c = counts_begin c.args.layers.now c.args.structs.now c.args.cells.now _ c.new-counts.ensures.items
-
-pub loop-cell-preserved : goal.loop-cell-preserved
-loop-cell-preserved c =
-    counts_go_on c.args.layers.now c.args.structs.now c.args.cells.now c.loop-cell.cell-index c.cell-item.result _ c.loop-cell.counts.items _ c.loop-cell-test.true c.cell-item.is c.in_ok-push.ensures.items c.in_ok-own.ensures c.loop-cell.invariant
+pub loop-index-preserved : goal.loop-index-preserved
+loop-index-preserved c =
+    let t = c.args.tree.now in
+    let there = there_at t.cells.now c.loop-index.index c.loop-index-test.true in
+    counts_go_on t.layers.now t.structs.now t.cells.now c.loop-index.index there.item _ c.loop-index.counts.items _ there.is c.in_ok-push.ensures.items
+    (own_counted t.layers.now t.keeps_labels t.structs.now t.cells.now t.parts.now c.loop-index.index there.item _ _ c.requires.cells c.requires.parts there.is (same_read t.parts.now c.loop-index.index _ _ (let lt = c.loop-index-test.true in let sized = c.requires.parts.sized in omega (arith, lt, sized))) c.counts_of.ensures) c.loop-index.invariant
 
 pub returns : goal.returns
-returns c = counts_end c.args.layers.now c.args.structs.now c.args.cells.now c.loop-cell.cell-index _ c.loop-cell-test.false c.loop-cell.invariant
+returns c = let t = c.args.tree.now in counts_end t.layers.now t.structs.now t.cells.now c.loop-index.index _ c.loop-index-test.false c.loop-index.invariant

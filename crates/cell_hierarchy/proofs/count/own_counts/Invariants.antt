@@ -1,5 +1,5 @@
-use Rattle.cell_hierarchy.proofs.CountLaws.{AreCounted}
+use Rattle.cell_hierarchy.proofs.CountLaws.{AreOwnCountedTo}
 use Rattle.cell_hierarchy.proofs.count.own_counts.Given as goal
 
-abbrev pub invariant-loop-cell : goal.invariant-loop-cell
-invariant-loop-cell l = AreCounted l.layers l.structs l.cells l.cell-index l.counts.items
+abbrev pub invariant-loop-index : goal.invariant-loop-index
+invariant-loop-index l = AreOwnCountedTo l.tree.layers.now l.tree.structs.now l.tree.cells.now l.index l.counts.items

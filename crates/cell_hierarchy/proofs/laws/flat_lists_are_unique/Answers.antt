@@ -1,4 +1,3 @@
--- Two pairs of lists in strict order that hold the same shapes and labels are one pair.
 use Rattle.cell_hierarchy.proofs.OneListsLaws.{one_pair}
 use Rattle.cell_hierarchy.proofs.laws.flat_lists_are_unique.Goals as goal
 

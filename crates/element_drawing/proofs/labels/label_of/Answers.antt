@@ -1,4 +1,4 @@
-use Rattle.std.proofs.Common.{rules, sym, ◌∙◌}
+use Rattle.std.proofs.Common.{rules, refl, sym, ◌∙◌}
 use Rattle.element_drawing.proofs.LabelLaws.{label_none, label_some}
 use Rattle.element_drawing.proofs.labels.label_of.Goals as goal
 
@@ -9,4 +9,4 @@ returns-in_default-label_layer c =
 pub returns : goal.returns
 returns c =
     rw c.in-Text.is
-    (label_some c.args.layers.now c.in-Text.layer c.in-Text.texttype c.in-Text.at c.in-Text.string c.in-Text.props c.in-Some.place _ _ (search (c.in-Some.ensures, rules)) c.in_ok-from_bytes.ensures (c.in_ok-from_bytes-2.ensures ∙ c.as_bytes.ensures))
+    (label_some c.args.layers.now c.in-Text.layer c.in-Text.texttype c.in-Text.at c.in-Text.string c.in-Text.props c.in-Some.index _ _ (search (c.in-Some.ensures, rules)) refl c.as_bytes.ensures)

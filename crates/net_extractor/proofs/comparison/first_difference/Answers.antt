@@ -34,24 +34,24 @@ returns-in-Some-clause-first c =
     let s = rw c.in-Some.is at c.in_ok-place-2.ensures in
     stranger c.args.labels.now c.args.pins.now c.in-Some.place s.label c.in_ok-pin.pin (labelled_all c.args.labels.now c.args.pins.now c.in-All.nets.items (rw c.in-All.is at c.in_ok-place.ensures)) s s.first.here (c.in_ok-pin.ensures s.label s.first.here)
 
-pub returns-in_default-first_conflict-clause-none : goal.returns-in_default-first_conflict-clause-none
-returns-in_default-first_conflict-clause-none c =
+pub returns-in_default-conflict-clause-none : goal.returns-in_default-conflict-clause-none
+returns-in_default-conflict-clause-none c =
     alike c.args.labels.now c.args.pins.now
     (record { labelled = labelled_all c.args.labels.now c.args.pins.now c.in-All.nets.items (rw c.in-All.is at c.in_ok-place.ensures); placed = rw c.in_default.is at c.in_ok-place-2.ensures })
-    c.in_default-first_conflict.ensures
+    (rw c.in_default-conflict.is at c.in_ok-conflict.ensures)
 
 pub named-requires : goal.named-requires
-named-requires c = conflict_within c.args.labels.now c.args.pins.now c.in-Some-first_conflict.conflict c.in-Some-first_conflict.ensures
+named-requires c = conflict_within c.args.labels.now c.args.pins.now c.in-Some-conflict.conflict (rw c.in-Some-conflict.is at c.in_ok-conflict.ensures)
 
 pub returns-clause-none : goal.returns-clause-none
 returns-clause-none c =
     differ c.args.labels.now c.args.pins.now c.in_ok-difference.difference
-    (conflict_first c.args.labels.now c.args.pins.now c.in-Some-first_conflict.conflict c.in_ok-difference.difference
+    (conflict_first c.args.labels.now c.args.pins.now c.in-Some-conflict.conflict c.in_ok-difference.difference
     (record { labelled = labelled_all c.args.labels.now c.args.pins.now c.in-All.nets.items (rw c.in-All.is at c.in_ok-place.ensures); placed = rw c.in_default.is at c.in_ok-place-2.ensures })
-    c.in-Some-first_conflict.ensures c.in_ok-difference.ensures)
+    (rw c.in-Some-conflict.is at c.in_ok-conflict.ensures) c.in_ok-difference.ensures)
 
 pub returns-clause-first : goal.returns-clause-first
 returns-clause-first c =
-    conflict_first c.args.labels.now c.args.pins.now c.in-Some-first_conflict.conflict c.in_ok-difference.difference
+    conflict_first c.args.labels.now c.args.pins.now c.in-Some-conflict.conflict c.in_ok-difference.difference
     (record { labelled = labelled_all c.args.labels.now c.args.pins.now c.in-All.nets.items (rw c.in-All.is at c.in_ok-place.ensures); placed = rw c.in_default.is at c.in_ok-place-2.ensures })
-    c.in-Some-first_conflict.ensures c.in_ok-difference.ensures
+    (rw c.in-Some-conflict.is at c.in_ok-conflict.ensures) c.in_ok-difference.ensures

@@ -1,5 +1,5 @@
 use Rattle.std.proofs.Common.{refl}
-use Rattle.ordered_set.proofs.GatheringLaws.{among_found}
+use Rattle.or_geom.proofs.GatheringLaws.{among_found}
 use Rattle.net_extractor.specs.PinNets.{IsElsewhere}
 use Rattle.net_extractor.proofs.pins.is_elsewhere.Goals as goal
 

@@ -1,4 +1,4 @@
-use Rattle.ordered_set.proofs.GatheringLaws.{IsAmongLeft}
+use Rattle.or_geom.proofs.GatheringLaws.{IsAmongLeft}
 use Rattle.net_extractor.specs.PinNets.{IsElsewhere}
 use Rattle.net_extractor.proofs.pins.is_elsewhere.Given as goal
 

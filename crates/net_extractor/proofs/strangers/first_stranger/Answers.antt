@@ -1,6 +1,6 @@
 use Rattle.std.proofs.Common.{◌≡◌, ℕ, List, refl, sym, ap, subst, ◌∙◌, arith}
 use Rattle.std.proofs.lemmas.Option.{slice_get_within, slice_get_read}
-use Rattle.ordered_set.proofs.GatheringLaws.{some_has, who_has}
+use Rattle.or_geom.proofs.GatheringLaws.{some_has, who_has}
 use Rattle.net_extractor.specs.declared.label.NetLabel.{NetLabel}
 use Rattle.net_extractor.specs.Difference.{in_lower_case, IsPlacedBy, IsStranger}
 use Rattle.net_extractor.proofs.PathLaws.{not_empty}

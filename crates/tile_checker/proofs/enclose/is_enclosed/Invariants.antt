@@ -1,6 +1,7 @@
-use Rattle.ordered_set.proofs.GatheringLaws.{IsAmongLeft}
-use Rattle.or_geom.specs.Covered.{IsCovered}
+use Rattle.std.specs.Prelude.{ℕ}
+use Rattle.or_geom.proofs.GatheringLaws.{IsAmongLeft}
+use Rattle.shape_bins.specs.Layers.{IsCoveredBy}
 use Rattle.tile_checker.proofs.enclose.is_enclosed.Given as goal
 
-abbrev pub invariant-loop-rects : goal.invariant-loop-rects
-invariant-loop-rects l = IsAmongLeft (IsCovered l.fn.area) l.lists l.rects-index
+abbrev pub invariant-loop-layer : goal.invariant-loop-layer
+invariant-loop-layer l = IsAmongLeft (λ (layer : ℕ). IsCoveredBy layer l.bins l.fn.area) l.layers l.layer-index

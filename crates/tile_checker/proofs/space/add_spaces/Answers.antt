@@ -1,17 +1,23 @@
-use Rattle.std.proofs.lemmas.List.{nil_from_length}
-use Rattle.ordered_set.proofs.GatheringLaws.{pairs_go_on, pairs_end}
-use Rattle.tile_checker.proofs.SpaceLaws.{others_reachable, spaces_found}
+use Rattle.std.proofs.Common.{ℕ, List, sym, subst}
+use Rattle.std.proofs.lemmas.Result.{on_ok_weaker}
+use Rattle.or_geom.proofs.ListLaws.{contained_at}
+use Rattle.tile_checker.specs.Firsts.{ArePartners}
+use Rattle.tile_checker.proofs.PlaceLaws.{reachable_in}
+use Rattle.tile_checker.proofs.PairLaws.{none_found, hits_partners, pairs_found}
 use Rattle.tile_checker.proofs.space.add_spaces.Goals as goal
 
-pub loop-first-preserved : goal.loop-first-preserved
-loop-first-preserved c =
-    let front = c.in-Some.ensures.cases.0 in
-    record {
-      gathered = pairs_go_on _ _ _ c.in-Some.others.now c.in-Some.first.now _ _ _ front c.loop-first.invariant.gathered (rw c.deref.ensures.value at c.in_ok-add_near.ensures);
-      reach = (others_reachable c.loop-first.rest.now c.in-Some.others.now c.in-Some.first.now front c.loop-first.invariant.reach).1;
-    }
+pub returns-in_default : goal.returns-in_default
+returns-in_default c = none_found c.args.rule c.args.bins.now c.args.first c.args.out.now.items c.in_default.ensures
+
+pub grown-requires : goal.grown-requires
+grown-requires c = reachable_in c.args.bins.now c.args.first.shape c.requires.reach (contained_at c.args.bins.now c.args.first.place c.args.first.shape c.requires.at)
+
+pub add_pairs-requires-clause-partners : goal.add_pairs-requires-clause-partners
+add_pairs-requires-clause-partners c =
+    subst (λ (l : List ℕ). ArePartners c.args.rule c.args.bins.now c.args.first.shape l) (sym c.deref.ensures.value)
+    (hits_partners c.args.rule c.args.bins.now c.args.first.shape c.in-Some.partner c.grown.result _ _ c.in-Some.ensures c.clear.ensures.items c.in_ok-add_near.ensures)
 
 pub returns : goal.returns
 returns c =
-    spaces_found c.args.rule c.args.shapes.now c.in_ok-rects.rects.items _ _ c.in_ok-rects.ensures c.requires.rises
-    (pairs_end _ _ _ _ _ (nil_from_length c.loop-first.rest.now c.in_default.ensures.cases) c.loop-first.invariant.gathered)
+    on_ok_weaker _ (λ a. pairs_found c.args.rule c.args.bins.now c.args.first c.in-Some.partner c.grown.result _ _ _ _ c.requires.rises c.requires.at c.in-Some.ensures c.grown.ensures c.clear.ensures.items c.in_ok-add_near.ensures
+    (rw c.deref.ensures.value at a)) c.add_pairs.ensures

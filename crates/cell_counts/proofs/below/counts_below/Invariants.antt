@@ -1,5 +1,0 @@
-use Rattle.cell_counts.proofs.CellLaws.{AreCounted}
-use Rattle.cell_counts.proofs.below.counts_below.Given as goal
-
-abbrev pub invariant-loop-place : goal.invariant-loop-place
-invariant-loop-place l = AreCounted l._layers l.structs l.cells l.counts.items l.place

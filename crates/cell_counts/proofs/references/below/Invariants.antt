@@ -1,7 +1,0 @@
-use Rattle.cell_counts.specs.Counts.{Total}
-use Rattle.cell_counts.specs.Below.{AreBelowFrom}
-use Rattle.cell_counts.proofs.BelowLaws.{IsSumTo}
-use Rattle.cell_counts.proofs.references.below.Given as goal
-
-abbrev pub invariant-loop-place : goal.invariant-loop-place
-invariant-loop-place l = (total : Total) → AreBelowFrom l.counts l.targets 0 l.elements total → IsSumTo l.counts l.targets l.elements l.place l.sum total

@@ -1,4 +1,0 @@
-pub mod Below
-pub mod Counts
-pub mod OneSet
-pub mod OneTotal

@@ -1,7 +1,0 @@
-use Rattle.std.proofs.Common.{drop}
-use Rattle.ordered_set.proofs.GatheringLaws.{IsGathering}
-use Rattle.cell_hierarchy.specs.FlatSet.{IsMoved}
-use Rattle.cell_hierarchy.proofs.moved.add_moved.Given as goal
-
-abbrev pub invariant-loop-shape : goal.invariant-loop-shape
-invariant-loop-shape l = IsGathering (IsMoved l.fn.place) l.shapes (drop l.shape-index l.shapes) l.fn.out.items l.out.items

@@ -1,4 +1,0 @@
-pub mod ListedLaws
-pub mod BelowLaws
-pub mod FlatLaws
-pub mod FlatShapeLaws

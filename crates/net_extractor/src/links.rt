@@ -1,0 +1,66 @@
+ghost use Rattle.std.specs.Prelude.{◌↔◌, IsTrue, Contains, OnOk};
+ghost use Rattle.or_geom.specs.Adds.{Adds};
+ghost use Rattle.or_geom.specs.Gathering.{SomeGives, SomeHas};
+ghost use Rattle.net_extractor.specs.Links.{IsLinkOf};
+ghost use Rattle.tech_rules.specs.Touch.{Joins};
+
+use or_geom::Memory;
+use tech_rules::Connect;
+
+/// Whether the connection connects the layer.
+fn connects(connect: &Connect, layer: u16) -> bool
+    ensures { IsTrue result ↔ Contains connect.now.to layer }
+{
+    connect.to.as_slice().contains(&layer)
+}
+
+/// Whether one of the connections connects the layer.
+pub fn is_conductor(connections: &[Connect], layer: u16) -> bool
+    ensures { IsTrue result ↔ SomeHas (λ connect. Contains connect.to layer) connections.now }
+{
+    for connect in connections {
+        if connects(connect, layer) {
+            return true;
+        }
+    }
+    false
+}
+
+/// Adds the layers that the connection connects, if the layer is its cut layer.
+fn add_connected(connect: &Connect, layer: u16, out: &mut Vec<u16>) -> Result<(), Memory>
+    ensures { OnOk result (Adds out.old.items out.new.items (λ other. Joins layer other connect.now)) }
+{
+    if connect.cut != layer {
+        return Ok(());
+    }
+    Ok(out.extend_from_slice(connect.to.as_slice())?)
+}
+
+/// Adds the connection's cut layer, if it connects the layer.
+fn add_cut(connect: &Connect, layer: u16, out: &mut Vec<u16>) -> Result<(), Memory>
+    ensures { OnOk result (Adds out.old.items out.new.items (λ cut. Joins cut layer connect.now)) }
+{
+    if !connects(connect, layer) {
+        return Ok(());
+    }
+    Ok(out.push(connect.cut)?)
+}
+
+/// Adds the layers that the connection links with this one.
+fn add_links_of(connect: &Connect, layer: u16, out: &mut Vec<u16>) -> Result<(), Memory>
+    ensures { OnOk result (Adds out.old.items out.new.items (IsLinkOf layer connect.now)) }
+{
+    add_connected(connect, layer, out)?;
+    add_cut(connect, layer, out)?;
+    Ok(())
+}
+
+/// Adds the layers that a cut links with this one: the shapes on them touch those on it where they share area.
+pub fn add_links(connections: &[Connect], layer: u16, out: &mut Vec<u16>) -> Result<(), Memory>
+    ensures { OnOk result (Adds out.old.items out.new.items (SomeGives (IsLinkOf layer) connections.now)) }
+{
+    for connect in connections {
+        add_links_of(connect, layer, out)?;
+    }
+    Ok(())
+}

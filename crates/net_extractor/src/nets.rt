@@ -1,0 +1,106 @@
+ghost use Rattle.std.specs.Prelude.{◌≡◌, ◌+◌, ◌^◌, ◌<◌, ◌≤◌, length, map, slice_get, Some, IfOk};
+ghost use Rattle.std.specs.List.Sorted.{IsStrictlySortedBy};
+ghost use Rattle.or_geom.specs.ShapeOrder.{shape_order};
+ghost use Rattle.cell_hierarchy.specs.Plain.{plain_label};
+ghost use Rattle.net_extractor.specs.Entries.{entry, IsNetOf};
+ghost use Rattle.net_extractor.specs.Extraction.{AreNets};
+ghost use Rattle.net_extractor.specs.Numbering.{IsNumbering};
+
+use crate::bind::bound_place;
+use crate::flood::Scratch;
+use crate::label::{Anchor, NetLabel, Nets};
+use crate::numbering::{Numbering, number_at};
+use cell_hierarchy::{Flat, Label};
+use or_geom::{Items, Memory, Name};
+use shape_bins::{Bins, ShapeNumbers};
+use std::alloc::Global;
+use std::thread::Threads;
+use tech_rules::Tech;
+
+/// The number of the net of the shape that a label binds, if it binds one.
+fn net_of(
+    tech: &Tech,
+    bins: &Bins,
+    label: Anchor,
+    numbering: &mut Numbering,
+    scratch: &mut Scratch,
+) -> Result<Option<u32>, Memory>
+    requires rises { IsStrictlySortedBy shape_order bins.now }
+    requires numbered { IsNumbering tech.now bins.now numbering.old }
+    requires few { numbering.old.next + 1 < 2 ^ 32 }
+    ensures { IfOk result (λ net. IsNetOf tech.now bins.now label numbering.old net numbering.new) }
+{
+    let Some(place) = bound_place(bins, label) else {
+        return Ok(None);
+    };
+    let number = number_at(tech, bins.shapes(), place, numbering, scratch)?;
+    Ok(Some(number))
+}
+
+/// The label at an index.
+fn label_at<'b>(labels: &[Label<'b>], index: usize) -> Label<'b>
+    requires { index < length labels.now }
+    ensures { slice_get labels.now index ≡ Some result }
+{
+    labels[index]
+}
+
+/// The label with its net.
+fn entry_of(alloc: Global, label: &Label, net: Option<u32>) -> Result<NetLabel, Memory>
+    ensures { IfOk result (λ made. made ≡ entry (plain_label label.now) net) }
+{
+    Ok(NetLabel {
+        path: Name::from_bytes(alloc, label.path.as_bytes())?,
+        name: Name::from_bytes(alloc, label.name.as_bytes())?,
+        layer: label.layer,
+        at: label.at,
+        net,
+    })
+}
+
+/// The nets of the labels, over the shapes of the bins.
+fn nets_of(alloc: Global, tech: &Tech, bins: &Bins, labels: &[Label]) -> Result<Nets, Memory>
+    requires rises { IsStrictlySortedBy shape_order bins.now }
+    requires few { length labels.now ≤ 2 ^ 22 }
+    ensures { IfOk result (λ nets. AreNets tech.now bins.now (map plain_label labels.now) nets.labels) }
+{
+    let mut numbering = Numbering {
+        numbers: ShapeNumbers::new(alloc, bins)?,
+        next: 0,
+    };
+    let mut scratch = Scratch {
+        pending: Vec::new(alloc),
+        layers: Vec::new(alloc),
+    };
+    let mut entries = Items::new(alloc);
+    for index in 0..labels.len() {
+        let label = label_at(labels, index);
+        let anchor = Anchor {
+            layer: label.layer,
+            at: label.at,
+        };
+        let net = net_of(tech, bins, anchor, &mut numbering, &mut scratch)?;
+        entries.push(entry_of(alloc, &label, net)?)?;
+    }
+    Ok(Nets { labels: entries })
+}
+
+/// The nets of the labels: one entry for each label, in order. The net is none exactly where the label binds no shape, two
+/// nets are equal exactly where the bound shapes are on one net, and the numbers run from 0 by first appearance. The
+/// shapes are in order and distinct, `bins` is their index, and there are at most 2^22 labels.
+///
+/// Each shape is looked at once. The memory grows with the shapes and labels, and not with the pairs of shapes that touch.
+pub fn extract<R: Threads + Sync>(
+    _rt: &R,
+    alloc: Global,
+    tech: &Tech,
+    flat: &Flat,
+    bins: &Bins,
+) -> Result<Nets, Memory>
+    requires rises { IsStrictlySortedBy shape_order flat.now.shapes.now }
+    requires bins { bins.now ≡ flat.now.shapes.now }
+    requires few { length flat.now.labels.now ≤ 2 ^ 22 }
+    ensures { IfOk result (λ nets. AreNets tech.now flat.now.shapes.now (map plain_label flat.now.labels.now) nets.labels) }
+{
+    nets_of(alloc, tech, bins, flat.labels)
+}

@@ -1,0 +1,50 @@
+-- Places that are sorted.
+use Rattle.std.proofs.Common.{◌≡◌, ◌↔◌, ℕ, zero, suc, ◌-◌, ◌+◌, ◌<◌, ◌≤◌, List, [], ◌∷◌, ◌++◌, map, length, sym, ap, subst, ◌∙◌, arith}
+use Rattle.std.specs.Prelude.{Contains}
+use Rattle.std.specs.List.{range_with_len}
+use Rattle.std.specs.List.Sorted.{IsPermutation}
+use Rattle.std.proofs.lemmas.List.{map-append}
+use Rattle.std.proofs.lemmas.List.FromFn.{length-range_with_len, get_or-range_with_len}
+use Rattle.std.proofs.lemmas.List.Sorted.{Contains-permutation, IsPermutation-map, IsPermutation-sym, length_permutation}
+use Rattle.shape_bins.specs.Order.{place_of_key}
+
+pub range_more : (a n : ℕ) → range_with_len a (suc n) ≡ range_with_len a n ++ (a + n) ∷ []
+range_more a zero = ap (λ (k : ℕ). k ∷ []) (omega arith)
+range_more a (suc n) = ap (λ (l : List ℕ). a ∷ l) (range_more (a + 1) n ∙ ap (λ (k : ℕ). range_with_len (a + 1) n ++ k ∷ []) (omega arith))
+
+pub keys_more : (keys : List (ℕ × ℕ)) (key : ℕ × ℕ) (begin place : ℕ) → begin ≤ place → map place_of_key keys ≡ range_with_len begin (place - begin) → key.1 ≡ place → map place_of_key (keys ++ key ∷ []) ≡ range_with_len begin (place + 1 - begin)
+keys_more keys key begin place above is at =
+    let step : place + 1 - begin ≡ suc (place - begin) = omega (arith, above) in
+    let here : begin + (place - begin) ≡ key.1 = omega (arith, above, at) in
+    map-append place_of_key keys (key ∷ []) ∙ (ap (λ (l : List ℕ). l ++ key.1 ∷ []) is ∙ (ap (λ (k : ℕ). range_with_len begin (place - begin) ++ k ∷ []) (sym here) ∙ (sym (range_more begin (place - begin)) ∙ ap (range_with_len begin) (sym step))))
+
+in_range : (begin n place : ℕ) → Contains (range_with_len begin n) place → (begin ≤ place) × (place < begin + n)
+in_range begin n place h =
+    let lt : h.0 < n = subst (λ (k : ℕ). h.0 < k) (length-range_with_len begin n) h.1 in
+    let at : begin + h.0 ≡ place = sym (get_or-range_with_len begin n h.0 place lt) ∙ h.2 in
+    (omega arith, omega arith)
+
+range_has : (begin n place : ℕ) → begin ≤ place → place < begin + n → Contains (range_with_len begin n) place
+range_has begin n place above below =
+    let lt : (place - begin) < n = omega (arith, above, below) in
+    let at : begin + (place - begin) ≡ place = omega (arith, above) in
+    (place - begin, subst (λ (k : ℕ). (place - begin) < k) (sym (length-range_with_len begin n)) lt, get_or-range_with_len begin n (place - begin) place lt ∙ at)
+
+pub sorted_len : (keys sorted : List (ℕ × ℕ)) (places : List ℕ) (begin end : ℕ) → IsPermutation keys sorted → map place_of_key keys ≡ range_with_len begin (end - begin) → places ≡ map place_of_key sorted → length places ≡ end - begin
+sorted_len keys sorted places begin end moved is made =
+    ap length made ∙ (length_permutation (map place_of_key keys) (map place_of_key sorted) (IsPermutation-map place_of_key keys sorted moved) ∙ (ap length is ∙ length-range_with_len begin (end - begin)))
+
+pub sorted_each : (keys sorted : List (ℕ × ℕ)) (places : List ℕ) (begin end : ℕ) → begin ≤ end → IsPermutation keys sorted → map place_of_key keys ≡ range_with_len begin (end - begin) → places ≡ map place_of_key sorted
+    → (place : ℕ) → Contains places place ↔ ((begin ≤ place) × (place < end))
+sorted_each keys sorted places begin end order moved is made place =
+    let there = IsPermutation-map place_of_key keys sorted moved in
+    let back = IsPermutation-sym (map place_of_key keys) (map place_of_key sorted) there in (
+      λ h. let r = in_range begin (end - begin) place (subst (λ (l : List ℕ). Contains l place) is (Contains-permutation (map place_of_key sorted) (map place_of_key keys) place back (subst (λ (l : List ℕ). Contains l place) made h))) in
+          let above = r.0 in
+          let below = r.1 in
+          (above, omega (arith, order, below)),
+      λ h. let above = h.0 in
+          let below = h.1 in
+          subst (λ (l : List ℕ). Contains l place) (sym made) (Contains-permutation (map place_of_key keys) (map place_of_key sorted) place there
+          (subst (λ (l : List ℕ). Contains l place) (sym is) (range_has begin (end - begin) place above (omega (arith, order, below))))),
+    )

@@ -1,0 +1,12 @@
+pub mod Meets
+pub mod Query
+pub mod Layers
+pub mod Nodes
+pub mod Trees
+pub mod Least
+pub mod Order
+pub mod Hits
+pub mod Forest
+pub mod Over
+pub mod Numbers
+pub mod Full

@@ -1,0 +1,12 @@
+-- Which rectangles a query looks for.
+use Rattle.or_geom.specs.declared.shape.Rect.{Rect}
+use Rattle.or_geom.specs.Joined.{IsIn, AreJoined}
+use Rattle.shape_bins.specs.declared.query.Query.{Query}
+use Rattle.shape_bins.specs.declared.query.Query.TheVariants.{Meets, Joins, Overlaps, At}
+use Rattle.shape_bins.specs.Meets.{Meet, Overlap}
+
+abbrev pub FitsQuery : Query → Rect → Type 0
+FitsQuery (Meets area) r = Meet r area
+FitsQuery (Joins area) r = AreJoined r area
+FitsQuery (Overlaps area) r = Overlap r area
+FitsQuery (At point) r = IsIn r point

@@ -1,0 +1,103 @@
+ghost use Rattle.std.specs.Prelude.{◌≡◌, ◌↔◌, ◌≤◌, length, IsTrue, IfOk, MatchOption, OnOk};
+ghost use Rattle.or_geom.specs.Adds.{Adds};
+ghost use Rattle.or_geom.specs.Covered.{IsCovered};
+ghost use Rattle.shape_bins.specs.Layers.{rects_on};
+ghost use Rattle.shape_bins.specs.Forest.{IsForest};
+ghost use Rattle.shape_bins.specs.Hits.{IsNearShape, NoHitFrom, IsFirstHit};
+ghost use Rattle.shape_bins.specs.declared.query.Query.TheVariants.{Meets, At};
+
+use crate::cover::box_covered;
+use crate::layers::forest;
+use crate::node::Node;
+use crate::query::Query;
+use crate::walk::{add_near, least_near};
+use bumpalo::Bump;
+use bumpalo::collections::into_bump_slice;
+use cell_hierarchy::Flat;
+use or_geom::{Memory, Point, Rect, Shape};
+use std::alloc::Global;
+use std::marker::Model;
+
+/// Finds shapes by place. Contracts see it as the list of the shapes that it finds, each of which goes by its place in
+/// the list.
+#[derive(Drop)]
+pub struct Bins<'b> {
+    shapes: &'b [Shape],
+    nodes: &'b [Node],
+}
+
+impl<'b> Model for Bins<'b> {
+    ghost use Rattle.std.specs.Prelude.{List};
+    ghost use Rattle.or_geom.specs.declared.shape.Shape.{Shape};
+    ghost use Rattle.shape_bins.specs.Forest.{IsForest};
+
+    ghost Value = { List Shape };
+
+    ghost view = { λ b. b.shapes.now };
+
+    ghost invariant = { λ b. IsForest b.shapes.now b.nodes.now };
+}
+
+impl<'b> Bins<'b> {
+    /// The shapes that it finds.
+    pub fn shapes(&self) -> &[Shape]
+        ensures { result.now ≡ self.now }
+    {
+        self.shapes
+    }
+
+    /// The shapes, and the nodes of the trees over them.
+    pub(crate) fn parts(&self) -> (&'b [Shape], &'b [Node])
+        ensures shapes { result.0.now ≡ self.now }
+        ensures nodes { IsForest result.0.now result.1.now }
+    {
+        (self.shapes, self.nodes)
+    }
+
+    /// The least place, at least `from`, of a shape of the layer whose closed box meets the area.
+    pub fn near(&self, layer: u16, area: Rect, from: usize) -> Option<usize>
+        ensures { MatchOption result (NoHitFrom self.now layer (Meets area) from) (IsFirstHit self.now layer (Meets area) from) }
+    {
+        least_near(self.nodes, layer, Query::Meets(area), from)
+    }
+
+    /// The least place of a shape of the layer whose closed box contains the point.
+    pub fn first_at(&self, layer: u16, point: Point) -> Option<usize>
+        ensures { MatchOption result (NoHitFrom self.now layer (At point) 0) (IsFirstHit self.now layer (At point) 0) }
+    {
+        least_near(self.nodes, layer, Query::At(point), 0)
+    }
+
+    /// Whether each unit cell of the area lies in some shape of the layer.
+    pub fn box_covered(&self, layer: u16, area: Rect) -> bool
+        ensures { IsTrue result ↔ IsCovered area (rects_on layer self.now) }
+    {
+        box_covered(self.shapes, self.nodes, layer, area)
+    }
+
+    /// Adds the places of all shapes of the layer whose closed box meets the area.
+    pub fn add_near(&self, layer: u16, area: Rect, out: &mut Vec<usize>) -> Result<(), Memory>
+        ensures { OnOk result (Adds out.old.items out.new.items (IsNearShape self.now layer area)) }
+    {
+        add_near(self.nodes, layer, Query::Meets(area), out)
+    }
+}
+
+/// The bins of a flat layout's shapes, in the arena.
+pub fn index<'b>(alloc: Global, bump: &'b Bump, flat: &Flat<'b>) -> Result<Bins<'b>, Memory>
+    requires { length flat.now.shapes.now ≤ 16777216 }
+    ensures { IfOk result (λ bins. bins ≡ flat.now.shapes.now) }
+{
+    let nodes = forest(alloc, bump, flat.shapes)?;
+    Ok(Bins {
+        shapes: flat.shapes,
+        nodes: into_bump_slice(nodes),
+    })
+}
+
+fn share<T: Sync>(_shared: &T) {}
+
+/// Bins may be read by several threads at once.
+pub fn bins_are_shared(bins: &Bins) {
+    share(bins);
+}

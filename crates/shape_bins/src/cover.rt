@@ -1,0 +1,107 @@
+ghost use Rattle.std.specs.Prelude.{◌↔◌, IsTrue, MatchOption};
+ghost use Rattle.or_geom.specs.Covered.{HasCell, HasCellInSome, IsCovered};
+ghost use Rattle.or_geom.specs.Row.{IsFound, IsRowOf, AreRowsTo};
+ghost use Rattle.shape_bins.specs.Forest.{IsForest};
+ghost use Rattle.shape_bins.specs.Layers.{rects_on};
+ghost use Rattle.shape_bins.specs.Over.{IsNodeOver};
+
+use crate::node::Node;
+use or_geom::{Point, Rect, Shape};
+
+/// Whether the unit cell with this lower left corner lies in the rectangle.
+fn holds(rect: Rect, cell: Point) -> bool
+    ensures { IsTrue result ↔ HasCell rect cell.x cell.y }
+{
+    if cell.x < rect.x1 {
+        return false;
+    }
+    if rect.x2 <= cell.x {
+        return false;
+    }
+    if cell.y < rect.y1 {
+        return false;
+    }
+    if cell.y < rect.y2 {
+        return true;
+    }
+    false
+}
+
+/// Whether the node is of the layer and its hull holds the cell.
+fn is_over(node: Node, layer: u16, cell: Point) -> bool
+    ensures { IsTrue result ↔ IsNodeOver layer cell node }
+{
+    node.hull.layer == layer && holds(node.hull.rect, cell)
+}
+
+/// One of the layer's shapes that hold the cell.
+fn rect_at(_shapes: &[Shape], nodes: &[Node], layer: u16, cell: Point) -> Option<Rect>
+    requires { IsForest _shapes.now nodes.now }
+    ensures { MatchOption result (HasCellInSome (rects_on layer _shapes.now) cell.x cell.y → ⊥) (IsFound (rects_on layer _shapes.now) cell) }
+{
+    let mut rest = nodes;
+    while let Some((node, below)) = rest.split_first() {
+        if !is_over(*node, layer, cell) {
+            (_, rest) = below.split_at(node.size - 1);
+            continue;
+        }
+        if node.size == 1 {
+            return Some(node.hull.rect);
+        }
+        rest = below;
+    }
+    None
+}
+
+/// Whether the area's row of cells at `row` is covered, and then up to which row all above it are too.
+fn covered_rows(
+    shapes: &[Shape],
+    nodes: &[Node],
+    layer: u16,
+    area: Rect,
+    row: Point,
+) -> Option<Point>
+    requires forest { IsForest shapes.now nodes.now }
+    requires row { IsRowOf area row }
+    ensures { MatchOption result (IsCovered area (rects_on layer shapes.now) → ⊥) (AreRowsTo (rects_on layer shapes.now) area row) }
+{
+    // The upper right corner of what is known to be covered, whose lower left corner is `row`.
+    let mut corner = Point {
+        x: row.x,
+        y: area.y2,
+    };
+    'along: loop {
+        let cell = Point {
+            x: corner.x,
+            y: row.y,
+        };
+        let Some(rect) = rect_at(shapes, nodes, layer, cell) else {
+            return None;
+        };
+        let y = corner.y.min(rect.y2);
+        if area.x2 <= rect.x2 {
+            return Some(Point { x: area.x1, y });
+        }
+        corner = Point { x: rect.x2, y };
+    }
+}
+
+/// Whether each unit cell of the area lies in some shape of the layer.
+pub fn box_covered(shapes: &[Shape], nodes: &[Node], layer: u16, area: Rect) -> bool
+    requires { IsForest shapes.now nodes.now }
+    ensures { IsTrue result ↔ IsCovered area (rects_on layer shapes.now) }
+{
+    let mut row = Point {
+        x: area.x1,
+        y: area.y1,
+    };
+    'upward: loop {
+        let Some(next) = covered_rows(shapes, nodes, layer, area, row) else {
+            return false;
+        };
+        if area.y2 <= next.y {
+            return true;
+        }
+        row = next;
+    }
+}

@@ -1,0 +1,17 @@
+//! Shapes by place: which shapes of a layer lie near an area.
+#![tactic(auto)]
+
+mod bins;
+mod cover;
+mod layers;
+mod node;
+mod numbering;
+mod numbers;
+mod order;
+mod query;
+mod tree;
+mod walk;
+
+pub use bins::{Bins, bins_are_shared, index};
+pub use numbers::ShapeNumbers;
+pub use query::Query;

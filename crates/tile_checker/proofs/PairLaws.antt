@@ -1,0 +1,125 @@
+-- The pairs that are found among the shapes near a first one.
+use Rattle.std.proofs.Common.{◌≡◌, inl, inr, ℕ, ◌<◌, List, [], length, Option, Some, None, refl, sym, subst, ◌∙◌}
+use Rattle.std.specs.Prelude.{Contains, slice_get}
+use Rattle.std.specs.List.Sorted.{IsStrictlySortedBy}
+use Rattle.std.proofs.lemmas.Option.{same_Some, slice_get_within}
+use Rattle.or_geom.specs.declared.shape.Rect.{Rect}
+use Rattle.or_geom.specs.declared.shape.Shape.{Shape}
+use Rattle.or_geom.proofs.ListLaws.{contained_at}
+use Rattle.or_geom.specs.Adds.{Adds}
+use Rattle.or_geom.specs.Gathering.{SomeGives}
+use Rattle.or_geom.specs.ShapeOrder.{shape_order}
+use Rattle.or_geom.proofs.AddsLaws.{adds_none, adds_as}
+use Rattle.or_geom.proofs.GatheringLaws.{giver, gives_some}
+use Rattle.or_geom.proofs.ShapeOrderLaws.{shape_total}
+use Rattle.tech_rules.specs.declared.tech.Rule.{Rule}
+use Rattle.tech_rules.specs.declared.tech.Rule.TheVariants.{Space}
+use Rattle.shape_bins.specs.Layers.{rects_on}
+use Rattle.shape_bins.specs.Hits.{IsNearShape}
+use Rattle.tile_checker.specs.Breaks.{Breaks, IsGrown}
+use Rattle.tile_checker.specs.Found.{AreOn, IsSpaceFound}
+use Rattle.tile_checker.specs.RuleReport.{IsLater}
+use Rattle.tile_checker.specs.declared.violation.Violation.{Violation}
+use Rattle.tile_checker.specs.declared.space.SpaceRule.{SpaceRule}
+use Rattle.tile_checker.proofs.SpaceLaws.{gap_in, gap_out}
+use Rattle.tile_checker.specs.declared.first.First.{First}
+use Rattle.tile_checker.specs.Firsts.{IsAt, IsFrom, IsPartner, HasNoPartner, IsPairAt, IsPartnerAt, ArePartners}
+use Rattle.tile_checker.proofs.NearLaws.{near_meets}
+use Rattle.tile_checker.proofs.PlaceLaws.{sorted_at, later_place, place_of}
+use Rattle.tile_checker.proofs.ShareLaws.{adds_all}
+
+abbrev kind : SpaceRule → Rule
+kind rule = Space rule.layer rule.other rule.min.value
+
+-- a partner's shapes, and no others, lie with the first on the rule's layers
+pub partner_on : (rule : SpaceRule) (a b : Shape) (partner : ℕ) → IsPartner rule a.layer partner → b.layer ≡ partner → AreOn rule a b
+partner_on rule a b partner (inl p) on = inl (p.0, on ∙ p.1)
+partner_on rule a b partner (inr p) on = inr (p.0, on ∙ p.1)
+
+on_partner : (rule : SpaceRule) (a b : Shape) (partner : ℕ) → IsPartner rule a.layer partner → AreOn rule a b → b.layer ≡ partner
+on_partner rule a b partner (inl p) (inl on) = on.1 ∙ sym p.1
+on_partner rule a b partner (inl p) (inr on) = on.1 ∙ (sym p.0 ∙ (on.0 ∙ sym p.1))
+on_partner rule a b partner (inr p) (inl on) = on.1 ∙ (sym p.0 ∙ (on.0 ∙ sym p.1))
+on_partner rule a b partner (inr p) (inr on) = on.1 ∙ sym p.1
+
+no_partner : (rule : SpaceRule) (a b : Shape) → HasNoPartner rule a.layer → AreOn rule a b → ⊥
+no_partner rule a b none (inl on) = none.0 on.0
+no_partner rule a b none (inr on) = none.1 on.0
+
+never_found : (rule : SpaceRule) (shapes : List Shape) (first : First) (v : Violation) (second : Option Shape) → HasNoPartner rule first.shape.layer → v.first ≡ first.shape → Breaks (kind rule) shapes v.first second → ⊥
+never_found rule shapes first v None none is breaks = breaks
+never_found rule shapes first v (Some b) none is breaks = no_partner rule v.first b (subst (λ (s : Shape). HasNoPartner rule s.layer) (sym is) none) breaks.on
+
+pub none_found : (rule : SpaceRule) (shapes : List Shape) (first : First) (old : List Violation) → HasNoPartner rule first.shape.layer → Adds old old (IsFrom rule.number (kind rule) shapes first)
+none_found rule shapes first old none = adds_none old (IsFrom rule.number (kind rule) shapes first) (λ v f. never_found rule shapes first v v.second none f.of f.violation.breaks)
+
+pair_is : (rule : SpaceRule) (shapes : List Shape) (first : First) (places : List ℕ) (v : Violation) → IsStrictlySortedBy shape_order shapes → IsAt shapes first → SomeGives (IsPairAt rule shapes first) places v
+    → IsFrom rule.number (kind rule) shapes first v
+pair_is rule shapes first places v rises at g =
+    let r = giver (IsPairAt rule shapes first) places v g in
+    let p = r.2 in
+    let f = p.found in
+    let base : IsFrom rule.number (kind rule) shapes first (record { rule = rule.number; first = first.shape; second = Some p.second }) = record {
+      of = refl;
+      violation = record {
+        numbered = refl;
+        first = contained_at shapes first.place first.shape at;
+        second = (contained_at shapes r.0 p.second p.there, sorted_at shape_order shapes first.place r.0 first.shape p.second rises at p.there p.later);
+        breaks = record { on = f.on; near = f.near; bare = λ c. f.bare (gap_in rule shapes first.shape p.second f.on c) };
+      };
+    } in
+    subst (λ (w : Violation). IsFrom rule.number (kind rule) shapes first w) (sym p.is) base
+
+pair_each : (rule : SpaceRule) (shapes : List Shape) (first : First) (partner : ℕ) (area : Rect) (places : List ℕ) (v : Violation) (second : Option Shape) → IsStrictlySortedBy shape_order shapes → IsAt shapes first → IsPartner rule first.shape.layer partner
+    → IsGrown rule.min.value first.shape.rect area → ((place : ℕ) → IsNearShape shapes partner area place → Contains places place) → v.first ≡ first.shape → v.rule ≡ rule.number → v.second ≡ second
+    → IsLater shapes first.shape second → Breaks (kind rule) shapes first.shape second → SomeGives (IsPairAt rule shapes first) places v
+pair_each rule shapes first partner area places v None rises at partners grown hits of numbered is later breaks = absurd breaks
+pair_each rule shapes first partner area places v (Some b) rises at partners grown hits of numbered is later breaks =
+    let p = place_of shapes b later.0 in
+    let hit : IsNearShape shapes partner area p.0 = record {
+      shape = b;
+      there = p.1;
+      on = on_partner rule first.shape b partner partners breaks.on;
+      fits = near_meets rule.min.value first.shape.rect b.rect area rule.min.within.positive breaks.near grown;
+    } in
+    gives_some (IsPairAt rule shapes first) places v p.0 (hits p.0 hit) (record {
+      second = b;
+      there = p.1;
+      later = later_place shape_order shapes first.place p.0 first.shape b shape_total rises at p.1 later.1;
+      is = λ i. record { rule = numbered i; first = of i; second = is i };
+      found = record { on = breaks.on; near = breaks.near; bare = λ c. breaks.bare (gap_out rule shapes first.shape b breaks.on c) };
+    })
+
+pub pairs_found : (rule : SpaceRule) (shapes : List Shape) (first : First) (partner : ℕ) (area : Rect) (none places : List ℕ) (old new : List Violation) → IsStrictlySortedBy shape_order shapes → IsAt shapes first → IsPartner rule first.shape.layer partner
+    → IsGrown rule.min.value first.shape.rect area → none ≡ [] → Adds none places (IsNearShape shapes partner area) → Adds old new (SomeGives (IsPairAt rule shapes first) places) → Adds old new (IsFrom rule.number (kind rule) shapes first)
+pairs_found rule shapes first partner area none places old new rises at partners grown empty hits a =
+    adds_as old new (SomeGives (IsPairAt rule shapes first) places) (IsFrom rule.number (kind rule) shapes first)
+    (λ v g. pair_is rule shapes first places v rises at g)
+    (λ v f. pair_each rule shapes first partner area places v v.second rises at partners grown
+    (λ place hit. (adds_all places (IsNearShape shapes partner area) (subst (λ (l : List ℕ). Adds l places (IsNearShape shapes partner area)) empty hits) place).1 hit)
+    f.of f.violation.numbered refl
+    (subst (λ (s : Shape). IsLater shapes s v.second) f.of f.violation.second)
+    (subst (λ (s : Shape). Breaks (kind rule) shapes s v.second) f.of f.violation.breaks))
+    a
+
+-- those at the places that were found are partners
+pub hits_partners : (rule : SpaceRule) (shapes : List Shape) (a : Shape) (partner : ℕ) (area : Rect) (none places : List ℕ) → IsPartner rule a.layer partner → none ≡ [] → Adds none places (IsNearShape shapes partner area) → ArePartners rule shapes a places
+hits_partners rule shapes a partner area none places partners empty hits place h =
+    let hit = (adds_all places (IsNearShape shapes partner area) (subst (λ (l : List ℕ). Adds l places (IsNearShape shapes partner area)) empty hits) place).0 h in
+    record { shape = hit.shape; there = hit.there; on = partner_on rule a hit.shape partner partners hit.on }
+
+pub partner_inside : (rule : SpaceRule) (shapes read : List Shape) (a : Shape) (place : ℕ) → read ≡ shapes → IsPartnerAt rule shapes a place → place < length read
+partner_inside rule shapes read a place same p = subst (λ (l : List Shape). place < length l) (sym same) (slice_get_within shapes place p.shape p.there)
+
+-- what is read there
+pub partner_read : (rule : SpaceRule) (shapes read : List Shape) (a s : Shape) (place : ℕ) → read ≡ shapes → IsPartnerAt rule shapes a place → slice_get read place ≡ Some s → AreOn rule a s × (slice_get shapes place ≡ Some s)
+partner_read rule shapes read a s place same p at =
+    let there : slice_get shapes place ≡ Some s = subst (λ (l : List Shape). slice_get l place ≡ Some s) same at in
+    (subst (λ (t : Shape). AreOn rule a t) (same_Some p.shape s (sym p.there ∙ there)) p.on, there)
+
+-- a place has one shape, so one pair
+pub same_second : (rule : SpaceRule) (shapes : List Shape) (first : First) (place : ℕ) (s : Shape) (v : Violation) → slice_get shapes place ≡ Some s → IsPairAt rule shapes first place v
+    → IsSpaceFound rule (rects_on rule.layer shapes) first.shape s × (v ≡ record { rule = rule.number; first = first.shape; second = Some s })
+same_second rule shapes first place s v at p =
+    let e : p.second ≡ s = same_Some p.second s (sym p.there ∙ at) in
+    (subst (λ (t : Shape). IsSpaceFound rule (rects_on rule.layer shapes) first.shape t) e p.found, p.is ∙ (λ i. record { rule = rule.number; first = first.shape; second = Some (e i) }))

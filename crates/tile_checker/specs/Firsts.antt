@@ -1,0 +1,51 @@
+-- What is found from one first shape.
+use Rattle.std.specs.Prelude.{◌≡◌, ◌⊎◌, ℕ, ◌<◌, List, Contains, slice_get, length, Some}
+use Rattle.or_geom.specs.declared.shape.Shape.{Shape}
+use Rattle.tech_rules.specs.declared.tech.Rule.{Rule}
+use Rattle.shape_bins.specs.Layers.{rects_on}
+use Rattle.tile_checker.specs.declared.violation.Violation.{Violation}
+use Rattle.tile_checker.specs.declared.space.SpaceRule.{SpaceRule}
+use Rattle.tile_checker.specs.RuleReport.{IsViolation}
+use Rattle.tile_checker.specs.Found.{AreOn, IsSpaceFound, IsViolationOf}
+use Rattle.tile_checker.specs.declared.first.First.{First}
+
+-- the shape stands at its place
+abbrev pub IsAt : List Shape → First → Type 0
+IsAt shapes first = slice_get shapes first.place ≡ Some first.shape
+
+-- a violation of the rule of this number, whose first shape is this one
+pub record IsFrom (number : ℕ) (rule : Rule) (shapes : List Shape) (first : First) (v : Violation) : Type 0 where
+  pub of : v.first ≡ first.shape
+  pub violation : IsViolationOf number rule shapes v
+
+-- a violation whose first shape stands at this place
+pub record IsFoundAt (rules : List Rule) (shapes : List Shape) (place : ℕ) (v : Violation) : Type 0 where
+  pub at : slice_get shapes place ≡ Some v.first
+  pub violation : IsViolation rules shapes v
+
+-- the layer whose shapes may break a space rule together with those of the first
+abbrev pub IsPartner : SpaceRule → ℕ → ℕ → Type 0
+IsPartner rule layer partner = ((layer ≡ rule.layer) × (partner ≡ rule.other)) ⊎ ((layer ≡ rule.other) × (partner ≡ rule.layer))
+
+abbrev pub HasNoPartner : SpaceRule → ℕ → Type 0
+HasNoPartner rule layer = (layer ≡ rule.layer → ⊥) × (layer ≡ rule.other → ⊥)
+
+-- a shape stands at the place that lies with this one on the rule's layers
+pub record IsPartnerAt (rule : SpaceRule) (shapes : List Shape) (a : Shape) (place : ℕ) : Type 0 where
+  pub shape : Shape
+  pub there : slice_get shapes place ≡ Some shape
+  pub on : AreOn rule a shape
+
+abbrev pub ArePartners : SpaceRule → List Shape → Shape → List ℕ → Type 0
+ArePartners rule shapes a places = (place : ℕ) → Contains places place → IsPartnerAt rule shapes a place
+
+abbrev pub ArePlaces : List Shape → List ℕ → Type 0
+ArePlaces shapes places = (place : ℕ) → Contains places place → place < length shapes
+
+-- the shape at a later place breaks the rule together with the first, and this is their violation
+pub record IsPairAt (rule : SpaceRule) (shapes : List Shape) (first : First) (place : ℕ) (v : Violation) : Type 0 where
+  pub second : Shape
+  pub there : slice_get shapes place ≡ Some second
+  pub later : first.place < place
+  pub is : v ≡ record { rule = rule.number; first = first.shape; second = Some second }
+  pub found : IsSpaceFound rule (rects_on rule.layer shapes) first.shape second

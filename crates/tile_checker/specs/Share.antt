@@ -1,0 +1,45 @@
+-- What a worker finds, and what all of them find.
+use Rattle.std.specs.Prelude.{◌≡◌, ◌↔◌, ℕ, ◌/◌, ◌%◌, List, Contains, Result, Ok, Err}
+use Rattle.std.specs.List.Sorted.{IsStrictlySortedBy}
+use Rattle.std.specs.declared.vec.Vec.{Vec}
+use Rattle.std.specs.declared.alloc.Global.{Global}
+use Rattle.or_geom.specs.declared.shape.Shape.{Shape}
+use Rattle.or_geom.specs.declared.memory.Memory.{Memory}
+use Rattle.or_geom.specs.Gathering.{SomeGives}
+use Rattle.tech_rules.specs.declared.tech.Rule.{Rule}
+use Rattle.tile_checker.specs.declared.violation.Violation.{Violation}
+use Rattle.tile_checker.specs.Firsts.{IsFoundAt}
+use Rattle.tile_checker.specs.RuleReport.{violation_order}
+
+-- the one worker that owns what is found from the shape at this place
+abbrev pub owner : ℕ → ℕ → ℕ
+owner workers place = (place / 1024) % workers
+
+-- a violation that the worker owns
+pub record IsOwn (rules : List Rule) (shapes : List Shape) (workers worker : ℕ) (v : Violation) : Type 0 where
+  pub place : ℕ
+  pub found : IsFoundAt rules shapes place v
+  pub owned : owner workers place ≡ worker
+
+-- the list has exactly these
+abbrev pub IsShare : List Rule → List Shape → ℕ → ℕ → List Violation → Type 0
+IsShare rules shapes workers worker list = (v : Violation) → Contains list v ↔ IsOwn rules shapes workers worker v
+
+-- what a worker's list holds
+abbrev pub HasOk : Result (Vec Violation Global) Memory → Violation → Type 0
+HasOk (Ok list) v = Contains list.items v
+HasOk (Err e) v = ⊥
+
+-- the worker's list is there
+abbrev pub IsThere : Result (Vec Violation Global) Memory → Type 0
+IsThere (Ok list) = Unit {0}
+IsThere (Err e) = ⊥
+
+abbrev pub AreThere : List (Result (Vec Violation Global) Memory) → Type 0
+AreThere lists = (list : Result (Vec Violation Global) Memory) → Contains lists list → IsThere list
+
+-- all lists are there, and what they hold is in order and once
+pub record IsUnion (lists : List (Result (Vec Violation Global) Memory)) (all : List Violation) : Type 0 where
+  pub there : AreThere lists
+  pub rises : IsStrictlySortedBy violation_order all
+  pub holds : (v : Violation) → Contains all v ↔ SomeGives HasOk lists v

@@ -1,0 +1,52 @@
+ghost use Rattle.std.specs.Prelude.{◌≡◌, ◌≤◌, ◌<◌, IfOk};
+ghost use Rattle.std.specs.List.Sorted.{IsStrictlySortedBy};
+ghost use Rattle.or_geom.specs.ShapeOrder.{shape_order};
+ghost use Rattle.or_geom.specs.Reachable.{AreReachable};
+ghost use Rattle.tech_rules.specs.Facts.{IsTech};
+ghost use Rattle.tile_checker.specs.RuleReport.{IsReport};
+ghost use Rattle.tile_checker.specs.Share.{IsShare};
+
+use crate::gate::Gate;
+use crate::share::share_of;
+use crate::union::union_of;
+use crate::violation::Violation;
+use cell_hierarchy::Flat;
+use or_geom::Memory;
+use shape_bins::Bins;
+use std::alloc::Global;
+use std::thread::{Threads, map_indices};
+use tech_rules::Tech;
+
+/// The report of the technology's rules over the shapes, by as many workers.
+pub fn check_all<G: Gate + Sync, R: Threads + Sync>(
+    rt: &R,
+    alloc: Global,
+    gate: &G,
+    tech: &Tech,
+    flat: &Flat,
+    bins: &Bins,
+    workers: u8,
+) -> Result<Vec<Violation>, Memory>
+    requires tech { IsTech tech.now }
+    requires rises { IsStrictlySortedBy shape_order flat.now.shapes.now }
+    requires reach { AreReachable flat.now.shapes.now }
+    requires bins { bins.now ≡ flat.now.shapes.now }
+    requires some { 0 < workers }
+    requires few { workers ≤ 64 }
+    ensures { IfOk result (λ list. IsReport tech.now.rules flat.now.shapes.now list.items) }
+{
+    let count = usize::from(workers);
+    let lists = map_indices(
+        rt,
+        alloc,
+        count,
+        &|worker: usize| -> Result<Vec<Violation>, Memory>
+            requires { (worker < 256) × (0 < count) × IsTech tech.now × IsStrictlySortedBy shape_order bins.now × AreReachable bins.now }
+            ensures { IfOk result (λ list. IsShare tech.entry.now.rules bins.entry.now count worker list.items) }
+        {
+            gate.enter(worker as u8);
+            share_of(alloc, tech, bins, worker, count)
+        },
+    )?;
+    union_of(alloc, &lists)
+}
