@@ -1,0 +1,13 @@
+pub mod TrackLaws
+pub mod DensityLaws
+pub mod PlaceLaws
+pub mod StateLaws
+pub mod OccupiedLaws
+pub mod RouteLaws
+pub mod WireLaws
+pub mod HeightLaws
+pub mod PinLaws
+pub mod OrderLaws
+pub mod StepLaws
+pub mod ApartLaws
+pub mod OneNetLaws

@@ -1,0 +1,11 @@
+pub mod Channel
+pub mod Intervals
+pub mod Tracks
+pub mod Density
+pub mod Wires
+pub mod Routed
+pub mod Order
+pub mod Occupied
+pub mod Hull
+pub mod Placed
+pub mod Apart

@@ -1,0 +1,19 @@
+-- The pitch and the taps' places are what they are in the contract.
+use Rattle.std.proofs.Common.{◌≡◌, ◌+ℤ◌, ℕ, ◌<◌, ℤ, List, length, get_or, sym, w64, to_z, of_z, subst, arith}
+use Rattle.std.proofs.lemmas.Int.{ints}
+use Rattle.tech_rules.specs.Drawing.{pitch}
+use Rattle.tech_rules.specs.Spacing.{IsFirstClose}
+use Rattle.or_geom.specs.Distance.{IsNear}
+use Rattle.rail_bus.proofs.RailLaws.{near_ys}
+use Rattle.rail_bus.proofs.draw.close_taps.Goals as goal
+
+pub first_close-requires : goal.first_close-requires
+first_close-requires c = subst (λ (ys : List ℤ). (k : ℕ) (d : ℤ) → k < length ys → IsNear (get_or ys k d)) (sym c.in_ok-ys_of.ensures) (near_ys c.args.taps.now c.requires.near)
+
+pub returns : goal.returns
+returns c =
+    let width = c.requires.sizes.width in
+    let space = c.requires.sizes.space in
+    let sum : to_z w64 (of_z w64 (to_z w64 (of_z w64 c.args.wire.now.width) +ℤ to_z w64 (of_z w64 c.args.wire.now.space))) ≡ pitch c.args.wire.now = omega (arith, ints, width.from, width.to, space.from, space.to) in
+    subst (λ (ys : List ℤ). IsFirstClose (pitch c.args.wire.now) ys c.first_close.result) c.in_ok-ys_of.ensures
+    (subst (λ (p : ℤ). IsFirstClose p c.in_ok-ys_of.field-0.items c.first_close.result) sum c.first_close.ensures)

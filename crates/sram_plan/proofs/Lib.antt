@@ -1,0 +1,4 @@
+pub mod NearestLaws
+pub mod PlanLaws
+pub mod KeyLaws
+pub mod OnePlan

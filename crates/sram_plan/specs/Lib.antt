@@ -1,0 +1,6 @@
+pub mod Config
+pub mod Fault
+pub mod Keys
+pub mod Configuration
+pub mod Plan
+pub mod PlanNumbers

@@ -1,0 +1,32 @@
+/// How a memory is laid out: the numbers of its words, banks, rows and columns, and how an address is cut. Rows and columns
+/// are those of one bank.
+#[derive(Clone, Copy, Debug, Drop)]
+pub struct Plan {
+    /// Bits of a word.
+    pub word_size: u32,
+    /// Bits that one mask bit lets a write change.
+    pub write_size: u32,
+    /// Mask bits, or 0 where words are written whole.
+    pub masks: u32,
+    pub banks: u32,
+    /// Words of all banks.
+    pub num_words: u32,
+    /// Words of a row.
+    pub wpr: u32,
+    pub rows: u32,
+    pub columns: u32,
+    pub addr_bits: u32,
+    /// Address bits that choose a word of a row, the lowest ones.
+    pub col_bits: u32,
+    /// Address bits that choose a bank, the highest ones.
+    pub bank_bits: u32,
+    /// The sizes of the groups of row bits, low bits first. A group that isn't used is 0.
+    pub groups: [u32; 3],
+}
+
+/// Why a configuration has no plan.
+#[derive(Clone, Copy, PartialEq, Eq, Debug, Drop)]
+pub enum PlanFault {
+    /// The given count of words in a row doesn't fit, or none does.
+    Shape,
+}
