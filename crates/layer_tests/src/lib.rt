@@ -2,8 +2,14 @@
 #![tactic(auto)]
 
 #[cfg(test)]
+mod gds;
+#[cfg(test)]
 mod geometry;
 #[cfg(test)]
 mod host;
+#[cfg(test)]
+mod plans;
+#[cfg(test)]
+mod routes;
 #[cfg(test)]
 mod spice;

@@ -1,6 +1,6 @@
-mod WorkLaws
+mod OutcomeLaws
 mod EndLaws
 mod PrintLaws
-mod StepLaws
+mod RunLaws
 mod NearLaws
 mod OneAnswer

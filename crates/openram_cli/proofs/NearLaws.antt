@@ -1,6 +1,6 @@
 -- Shapes whose corners fit 32 bits lie near the origin.
-use Rattle.std.proofs.Common.{◌≡◌, ◌^◌, ℕ, ℤ, pos, ◌+ℤ◌, ◌≤ℤ◌, List, Bool, true, false, refl, inl, inr, arith}
-use Rattle.std.specs.Prelude.{FitsSigned, int_le}
+use Rattle.std.proofs.Common.{◌≡◌, ◌^◌, ℕ, ℤ, pos, ◌+ℤ◌, ◌≤ℤ◌, List, [], ◌∷◌, Bool, true, false, refl, inl, inr, arith}
+use Rattle.std.specs.Prelude.{FitsSigned, int_le, Contains}
 use Rattle.std.specs.Int.{w32}
 use Rattle.std.proofs.lemmas.Int.{ints}
 use Rattle.or_geom.specs.declared.shape.Point.{Point}
@@ -8,12 +8,11 @@ use Rattle.or_geom.specs.declared.shape.Shape.{Shape}
 use Rattle.or_geom.specs.Distance.{IsNear, IsReachable}
 use Rattle.gds_records.specs.Values.{IsShort}
 use Rattle.tech_rules.specs.declared.tech.Tech.{Tech}
-use Rattle.gds_stream.specs.declared.library.Library.{Library}
-use Rattle.ordered_set.specs.Reachable.{AreReachable}
-use Rattle.cell_hierarchy.specs.declared.flat.FlatLists.{FlatLists}
-use Rattle.cell_hierarchy.specs.FlatLists.{AreFlatLists}
+use Rattle.gds_library.specs.declared.library.Library.{Library}
+use Rattle.or_geom.specs.Reachable.{AreReachable}
+use Rattle.or_geom.proofs.ListLaws.{contains_first, contains_later}
+use Rattle.cell_hierarchy.specs.FlatLists.{AreFlatShapes}
 use Rattle.cell_hierarchy.specs.FlatSet.{IsCorner}
-use Rattle.cell_hierarchy.proofs.DrawnLaws.{shapes_near}
 
 abbrev pub IsNotFar : ℤ → Type 0
 IsNotFar z = (FitsSigned w32 z → ⊥) → ⊥
@@ -44,6 +43,10 @@ shape_near s near =
     let high = near (record { x = s.rect.x2; y = s.rect.y2 }) (record { x = inr refl; y = inr refl }) in
     record { x1 = x_near _ low; y1 = y_near _ low; x2 = x_near _ high; y2 = y_near _ high }
 
-pub flat_near : (tech : Tech) (lib : Library) (top : List ℕ) (lists : FlatLists) → AreFlatLists tech.layers lib.structs top lists → AreReachable lists.shapes
-flat_near tech lib top lists flat =
-    shapes_near lists.shapes (λ s h. shape_near s (λ p corner far. flat.near p (record { stands = inl (record { shape = s; flat = (flat.shapes_exact s).0 h; corner = corner }); far = far })))
+all_near : (shapes : List Shape) → ((s : Shape) → Contains shapes s → IsReachable s.rect) → AreReachable shapes
+all_near [] near = tt
+all_near (s ∷ ss) near = (near s (contains_first s ss), all_near ss (λ t h. near t (contains_later s ss t h)))
+
+pub flat_near : (tech : Tech) (lib : Library) (top : List ℕ) (shapes : List Shape) → AreFlatShapes tech.layers lib.structs top shapes → AreReachable shapes
+flat_near tech lib top shapes flat =
+    all_near shapes (λ s h. shape_near s (λ p corner far. flat.near p (record { stands = inl (record { shape = s; flat = (flat.exact s).0 h; corner = corner }); far = far })))

@@ -5,41 +5,42 @@ use Rattle.std.specs.List.{AllByRecursion}
 use Rattle.std.proofs.lemmas.Option.{same_Some}
 use Rattle.or_geom.specs.declared.shape.Shape.{Shape}
 use Rattle.or_host.specs.Files.{Files}
+use Rattle.gds_library.specs.declared.library.Library.{Library}
+use Rattle.gds_library.specs.declared.fault.GdsFault.{GdsFault}
+use Rattle.gds_library.specs.declared.fault.GdsFault.TheVariants as gds
+use Rattle.gds_library.specs.FirstFault.{IsFaultOf}
+use Rattle.gds_library.specs.Grammar.{Spells}
+use Rattle.gds_library.specs.ReadLibrary.{LibrariesAreUnique}
+use Rattle.gds_library.specs.Writable.{IsWritable, IsWritableCell, LibrariesAreWritable}
+use Rattle.gds_library.specs.OneFault.{FaultsAreUnique, FaultsExcludeLibraries}
 use Rattle.gds_records.specs.Bytes.{AreBytes}
-use Rattle.gds_stream.specs.declared.library.Library.{Library}
-use Rattle.gds_stream.specs.declared.fault.GdsFault.{GdsFault}
-use Rattle.gds_stream.specs.ReadLibrary.{LibrariesAreUnique}
-use Rattle.gds_stream.specs.Writable.{IsWritable, IsWritableCell, LibrariesAreWritable}
-use Rattle.gds_stream.specs.OneFault.{FaultsAreUnique, FaultsExcludeLibraries}
-use Rattle.gds_stream.specs.declared.fault.GdsFault.TheVariants as gds
-use Rattle.gds_stream.specs.FirstFault.{IsFaultOf}
-use Rattle.gds_stream.specs.Grammar.{Spells}
-use Rattle.tech_keys.specs.declared.fault.TechFault.{TechFault}
-use Rattle.tech_keys.specs.declared.fault.TechFault.TheVariants as tech_fault
-use Rattle.tech_rules.specs.declared.tech.Tech.{Tech}
+use Rattle.tech_rules.specs.declared.fault.TechFault.{TechFault}
 use Rattle.tech_rules.specs.Technology.{technology}
+use Rattle.tech_rules.specs.declared.tech.Tech.{Tech}
+use Rattle.cell_hierarchy.specs.declared.fault.FlattenFault.{FlattenFault}
 use Rattle.cell_hierarchy.specs.declared.fault.FlattenFault.TheVariants as flatten_fault
-use Rattle.cell_hierarchy.specs.declared.flat.FlatLists.{FlatLists}
-use Rattle.cell_hierarchy.specs.FlatLists.{AreFlatLists, IsFault}
-use Rattle.cell_hierarchy.specs.OneAnswer.{FlatListsAreUnique, FlattenFaultsAreUnique, FlattenFaultsExcludeLists}
+use Rattle.cell_hierarchy.specs.Plain.{FlatLists}
+use Rattle.cell_hierarchy.specs.FlatLists.{AreFlatShapes, AreFlatLists, IsFault}
+use Rattle.cell_hierarchy.specs.OneAnswer.{FlatListsAreUnique, FlatShapesAreUnique, FlattenFaultsAreUnique, FlattenFaultsExcludeShapes, FlattenFaultsExcludeLists}
 use Rattle.tile_checker.specs.OneReport.{ReportsAreUnique}
 use Rattle.netlist.specs.declared.deck.Deck.{Deck}
+use Rattle.netlist.specs.declared.rows.Rows.{Rows}
 use Rattle.netlist.specs.declared.rows.RowPin.{RowPin}
 use Rattle.spice_text.specs.declared.fault.SpiceFault.{SpiceFault}
-use Rattle.spice_text.specs.declared.fault.SpiceFault.TheVariants as spice_fault
 use Rattle.spice_text.specs.Deck.{deck}
+use Rattle.spice_netlist.specs.declared.fault.FlatFault.{FlatFault}
 use Rattle.spice_netlist.specs.declared.fault.FlatFault.TheVariants as rows_fault
 use Rattle.spice_netlist.specs.Faults.{AreFlatRows, IsFlatFault}
 use Rattle.spice_netlist.specs.OneAnswer.{RowsAreUnique, FlatFaultsAreUnique, FlatFaultsExcludeRows}
 use Rattle.net_extractor.specs.declared.label.NetLabel.{NetLabel}
 use Rattle.net_extractor.specs.declared.difference.NetDiff.{NetDiff}
 use Rattle.net_extractor.specs.OneAnswer.{NetsAreUnique, DifferencesAreUnique, DifferencesExcludeAlike}
-use Rattle.gds_stream.proofs.LibraryLaws.{libraries_are_unique}
-use Rattle.gds_stream.proofs.WritableLaws.{libraries_are_writable}
-use Rattle.gds_stream.proofs.OneFaultLaws.{faults_are_unique, faults_exclude_libraries}
-use Rattle.cell_counts.proofs.TotalLaws.{one_total}
-use Rattle.cell_hierarchy.proofs.OneListsLaws.{one_pair}
-use Rattle.cell_hierarchy.proofs.OneFaultLaws.{one_fault, fault_or_lists}
+use Rattle.gds_library.proofs.LibraryLaws.{libraries_are_unique}
+use Rattle.gds_library.proofs.WritableLaws.{libraries_are_writable}
+use Rattle.gds_library.proofs.OneFaultLaws.{faults_are_unique, faults_exclude_libraries}
+use Rattle.cell_hierarchy.proofs.TotalLaws.{one_total}
+use Rattle.cell_hierarchy.proofs.OneListsLaws.{one_pair, one_set_of_shapes}
+use Rattle.cell_hierarchy.proofs.OneFaultLaws.{one_fault, fault_or_shapes, fault_or_lists}
 use Rattle.tile_checker.proofs.OneReportLaws.{one_report}
 use Rattle.spice_netlist.proofs.OneRowLaws.{one_flat_rows}
 use Rattle.spice_netlist.proofs.OneFaultLaws.{one_flat_fault, no_flat_rows}
@@ -52,89 +53,109 @@ use Rattle.reply_lines.specs.declared.reply.Reply.{Reply}
 use Rattle.reply_lines.specs.Reply.{refusal_reply, report_reply}
 use Rattle.reply_lines.specs.NetLines.{nets_reply}
 use Rattle.reply_lines.specs.Differences.{comparison_reply}
-use Rattle.openram_cli.specs.Command.{Task, Command, command_of}
-use Rattle.openram_cli.specs.Command.Task.{report, listing, comparison}
-use Rattle.openram_cli.specs.Answer.{limit, IsThere, IsFileRefusal, OnFile, OnTech, OnLibrary, OnFlat, IsReported, AreListed, OnDeck, OnRows, leaves_of, IsDifference, IsCompared, IsComparedWith, IsTaskAnswer, IsLayoutAnswer, IsCommandAnswer, IsAnswer}
+use Rattle.reply_lines.specs.Statuses.{refusal_status}
+use Rattle.openram_cli.specs.declared.inputs.Inputs.{Inputs}
+use Rattle.openram_cli.specs.declared.inputs.Inputs.TheVariants as inputs
+use Rattle.openram_cli.specs.declared.inputs.Layout.{Layout}
+use Rattle.openram_cli.specs.Command.{Command, LayoutWords, command_of}
+use Rattle.openram_cli.specs.Command.Command.{check, nets, compare}
+use Rattle.openram_cli.specs.Outcome.{WithoutRefusal, ValueOrFault, Then}
+use Rattle.openram_cli.specs.Inputs.{limit, IsReadable, IsFile, IsTechnology, IsLibrary, IsDeck, IsTechnologyFile, IsLibraryFile, IsDeckFile, IsLayoutWith, IsLayout, AreCompared, AreInputs}
+use Rattle.openram_cli.specs.Answer.{AreFlatShapesOf, AreFlat, leaves_of, AreLeafRows, IsReported, IsNetListing, IsDifference, IsCompared, IsCheckAnswer, IsNetsAnswer, IsCompareAnswer, IsReplyTo, IsUsage, IsCommandWork, IsWork, IsAnswer, reply_of}
 use Rattle.openram_cli.specs.OneAnswer.{HoldBytes, IsOnly, HaveOneAnswer}
 
--- a file is missing or too long, not both
-file_refusals : (files : Files) (name : List ℕ) (r s : Refusal) → IsFileRefusal files name r → IsFileRefusal files name s → r ≡ s
-file_refusals files name (refusal_of.NoFile m) (refusal_of.NoFile n) p q = ap refusal_of.NoFile (p.0 ∙ sym q.0)
-file_refusals files name (refusal_of.NoFile m) (refusal_of.TooLong n) p q = let e : ◌≡◌ {A = Option (List ℕ)} None (Some q.1.0) = sym p.1 ∙ q.1.1 in absurd cc
-file_refusals files name (refusal_of.NoFile m) refusal_of.Usage p q = absurd q
-file_refusals files name (refusal_of.NoFile m) (refusal_of.Tech f) p q = absurd q
-file_refusals files name (refusal_of.NoFile m) (refusal_of.Gds f) p q = absurd q
-file_refusals files name (refusal_of.NoFile m) (refusal_of.Spice f) p q = absurd q
-file_refusals files name (refusal_of.NoFile m) (refusal_of.Flatten f) p q = absurd q
-file_refusals files name (refusal_of.NoFile m) (refusal_of.Rows f) p q = absurd q
-file_refusals files name (refusal_of.TooLong m) (refusal_of.NoFile n) p q = let e : ◌≡◌ {A = Option (List ℕ)} None (Some p.1.0) = sym q.1 ∙ p.1.1 in absurd cc
-file_refusals files name (refusal_of.TooLong m) (refusal_of.TooLong n) p q = ap refusal_of.TooLong (p.0 ∙ sym q.0)
-file_refusals files name (refusal_of.TooLong m) refusal_of.Usage p q = absurd q
-file_refusals files name (refusal_of.TooLong m) (refusal_of.Tech f) p q = absurd q
-file_refusals files name (refusal_of.TooLong m) (refusal_of.Gds f) p q = absurd q
-file_refusals files name (refusal_of.TooLong m) (refusal_of.Spice f) p q = absurd q
-file_refusals files name (refusal_of.TooLong m) (refusal_of.Flatten f) p q = absurd q
-file_refusals files name (refusal_of.TooLong m) (refusal_of.Rows f) p q = absurd q
-file_refusals files name refusal_of.Usage s p q = absurd p
-file_refusals files name (refusal_of.Tech f) s p q = absurd p
-file_refusals files name (refusal_of.Gds f) s p q = absurd p
-file_refusals files name (refusal_of.Spice f) s p q = absurd p
-file_refusals files name (refusal_of.Flatten f) s p q = absurd p
-file_refusals files name (refusal_of.Rows f) s p q = absurd p
+-- neither a failed read nor want of memory
+abbrev pub IsLow : Refusal → Type 0
+IsLow refusal = refusal_status refusal < 4
 
--- a file that is there isn't refused
-not_refused : (files : Files) (name : List ℕ) (r : Refusal) (bytes : List ℕ) → IsFileRefusal files name r → IsThere files name bytes → ⊥
-not_refused files name (refusal_of.NoFile m) bytes p t = let e : ◌≡◌ {A = Option (List ℕ)} None (Some bytes) = sym p.1 ∙ t.holds in cc
-not_refused files name (refusal_of.TooLong m) bytes p t =
-    let same : p.1.0 ≡ bytes = same_Some p.1.0 bytes (sym p.1.1 ∙ t.holds) in
-    let long : limit < length bytes = subst (λ (l : List ℕ). limit < length l) same p.1.2 in
-    let fits = t.fits in
-    omega (arith, long, fits)
-not_refused files name refusal_of.Usage bytes p t = p
-not_refused files name (refusal_of.Tech f) bytes p t = p
-not_refused files name (refusal_of.Gds f) bytes p t = p
-not_refused files name (refusal_of.Spice f) bytes p t = p
-not_refused files name (refusal_of.Flatten f) bytes p t = p
-not_refused files name (refusal_of.Rows f) bytes p t = p
+-- an outcome that leaves nothing open: a value, or such a refusal
+abbrev pub IsDecided : {X : Type 0} → Result X Refusal → Type 0
+IsDecided (Ok x) = Unit {0}
+IsDecided (Err refusal) = IsLow refusal
 
-on_file : (files : Files) (name : List ℕ) (next : List ℕ → Reply → Type 0) → ((bytes : List ℕ) → IsThere files name bytes → IsOnly (next bytes)) → IsOnly (OnFile files name next)
-on_file files name next each a b (inl p) (inl q) = p.2 ∙ ap refusal_reply (file_refusals files name p.0 q.0 p.1 q.1) ∙ sym q.2
-on_file files name next each a b (inl p) (inr q) = absurd (not_refused files name p.0 q.0 p.1 q.1)
-on_file files name next each a b (inr p) (inl q) = absurd (not_refused files name q.0 p.0 q.1 p.1)
-on_file files name next each a b (inr p) (inr q) =
-    let same : q.0 ≡ p.0 = same_Some q.0 p.0 (sym q.1.holds ∙ p.1.holds) in
-    each p.0 p.1 a b p.2 (subst (λ (bytes : List ℕ). next bytes b) same q.2)
+-- at most one settled outcome has P
+abbrev pub IsOnce : {X : Type 0} → (Result X Refusal → Type 0) → Type 0
+IsOnce {X} P = (a b : Result X Refusal) → IsDecided a → IsDecided b → P a → P b → a ≡ b
 
--- A function's value leads to one thing, and its error to one refusal.
-on_result : {X F : Type 0} (r : Result X F) (IsShown : F → Type 0) (say : F → Refusal) (next : X → Reply → Type 0) → ((x : X) → r ≡ Ok x → IsOnly (next x)) → (a b : Reply)
-    → ((f : F) × IsShown f × (r ≡ Err f) × (a ≡ refusal_reply (say f))) ⊎ ((x : X) × (r ≡ Ok x) × next x a)
-    → ((f : F) × IsShown f × (r ≡ Err f) × (b ≡ refusal_reply (say f))) ⊎ ((x : X) × (r ≡ Ok x) × next x b) → a ≡ b
-on_result {X} {F} r IsShown say next each a b (inl p) (inl q) =
-    let both : ◌≡◌ {A = Result X F} (Err p.0) (Err q.0) = sym p.2 ∙ q.2 in
-    let same : p.0 ≡ q.0 = cc in
-    p.3 ∙ ap (λ (f : F). refusal_reply (say f)) same ∙ sym q.3
-on_result {X} {F} r IsShown say next each a b (inl p) (inr q) = let both : ◌≡◌ {A = Result X F} (Err p.0) (Ok q.0) = sym p.2 ∙ q.1 in absurd cc
-on_result {X} {F} r IsShown say next each a b (inr p) (inl q) = let both : ◌≡◌ {A = Result X F} (Err q.0) (Ok p.0) = sym q.2 ∙ p.1 in absurd cc
-on_result {X} {F} r IsShown say next each a b (inr p) (inr q) =
-    let both : ◌≡◌ {A = Result X F} (Ok q.0) (Ok p.0) = sym q.1 ∙ p.1 in
-    let same : q.0 ≡ p.0 = cc in
-    each p.0 p.1 a b p.2 (subst (λ (x : X). next x b) same q.2)
+one_value : {X : Type 0} (P : Result X Refusal → Type 0) → IsOnce P → (x y : X) → P (Ok x) → P (Ok y) → x ≡ y
+one_value {X} P once x y p q = let both : ◌≡◌ {A = Result X Refusal} (Ok x) (Ok y) = once (Ok x) (Ok y) tt tt p q in cc
 
--- The same for a relation that gives one thing, or one refusal.
-on_relation : {X F : Type 0} (P : F → Type 0) (Q : X → Type 0) (IsShown : F → Type 0) (say : F → Refusal) (next : X → Reply → Type 0)
-    → ((f g : F) → IsShown f → IsShown g → P f → P g → f ≡ g) → ((f : F) (x : X) → IsShown f → P f → Q x → ⊥) → ((x y : X) → Q x → Q y → x ≡ y) → ((x : X) → Q x → IsOnly (next x)) → (a b : Reply)
-    → ((f : F) × IsShown f × P f × (a ≡ refusal_reply (say f))) ⊎ ((x : X) × Q x × next x a)
-    → ((f : F) × IsShown f × P f × (b ≡ refusal_reply (say f))) ⊎ ((x : X) × Q x × next x b) → a ≡ b
-on_relation {X} {F} P Q IsShown say next faults apart things each a b (inl p) (inl q) = p.3 ∙ ap (λ (f : F). refusal_reply (say f)) (faults p.0 q.0 p.1 q.1 p.2 q.2) ∙ sym q.3
-on_relation {X} {F} P Q IsShown say next faults apart things each a b (inl p) (inr q) = absurd (apart p.0 q.0 p.1 p.2 q.1)
-on_relation {X} {F} P Q IsShown say next faults apart things each a b (inr p) (inl q) = absurd (apart q.0 p.0 q.1 q.2 p.1)
-on_relation {X} {F} P Q IsShown say next faults apart things each a b (inr p) (inr q) = each p.0 p.1 a b p.2 (subst (λ (x : X). next x b) (things q.0 p.0 q.1 p.1) q.2)
+no_value : {X : Type 0} (P : Result X Refusal → Type 0) → IsOnce P → (x : X) (f : Refusal) → P (Ok x) → IsLow f → P (Err f) → ⊥
+no_value {X} P once x f p low q = let both : ◌≡◌ {A = Result X Refusal} (Ok x) (Err f) = once (Ok x) (Err f) tt low p q in cc
+
+one_refusal : {X : Type 0} (P : Result X Refusal → Type 0) → IsOnce P → (e f : Refusal) → IsLow e → IsLow f → P (Err e) → P (Err f) → e ≡ f
+one_refusal {X} P once e f s t p q = let both : ◌≡◌ {A = Result X Refusal} (Err e) (Err f) = once (Err e) (Err f) s t p q in cc
+
+-- one step after another
+on_then : {X Y : Type 0} (P : Result X Refusal → Type 0) (Q : X → Result Y Refusal → Type 0) → IsOnce P → ((x : X) → P (Ok x) → IsOnce (Q x)) → IsOnce (Then P Q)
+on_then {X} {Y} P Q once each (Ok y) (Ok z) s t p q = each p.0 p.1 (Ok y) (Ok z) s t p.2 (subst (λ (x : X). Q x (Ok z)) (one_value P once q.0 p.0 q.1 p.1) q.2)
+on_then {X} {Y} P Q once each (Ok y) (Err f) s t p (inl q) = absurd (no_value P once p.0 f p.1 t q)
+on_then {X} {Y} P Q once each (Ok y) (Err f) s t p (inr q) = each p.0 p.1 (Ok y) (Err f) s t p.2 (subst (λ (x : X). Q x (Err f)) (one_value P once q.0 p.0 q.1 p.1) q.2)
+on_then {X} {Y} P Q once each (Err e) (Ok z) s t (inl p) q = absurd (no_value P once q.0 e q.1 s p)
+on_then {X} {Y} P Q once each (Err e) (Ok z) s t (inr p) q = each p.0 p.1 (Err e) (Ok z) s t p.2 (subst (λ (x : X). Q x (Ok z)) (one_value P once q.0 p.0 q.1 p.1) q.2)
+on_then {X} {Y} P Q once each (Err e) (Err f) s t (inl p) (inl q) = ap (λ (r : Refusal). Err r) (one_refusal P once e f s t p q)
+on_then {X} {Y} P Q once each (Err e) (Err f) s t (inl p) (inr q) = absurd (no_value P once q.0 e q.1 s p)
+on_then {X} {Y} P Q once each (Err e) (Err f) s t (inr p) (inl q) = absurd (no_value P once p.0 f p.1 t q)
+on_then {X} {Y} P Q once each (Err e) (Err f) s t (inr p) (inr q) = each p.0 p.1 (Err e) (Err f) s t p.2 (subst (λ (x : X). Q x (Err f)) (one_value P once q.0 p.0 q.1 p.1) q.2)
+
+on_gives : {X : Type 0} (Q : X → Type 0) → ((x y : X) → Q x → Q y → x ≡ y) → IsOnce (WithoutRefusal Q)
+on_gives {X} Q one (Ok x) (Ok y) s t p q = ap (λ (z : X). Ok z) (one x y p q)
+on_gives {X} Q one (Ok x) (Err f) s t p q = absurd q
+on_gives {X} Q one (Err e) b s t p q = absurd p
+
+-- one value, or one fault, and not both
+on_fault : {X F : Type 0} (Q : X → Type 0) (P : F → Type 0) (say : F → Refusal) → ((x y : X) → Q x → Q y → x ≡ y) → ((f g : F) → IsLow (say f) → IsLow (say g) → P f → P g → f ≡ g)
+    → ((f : F) (x : X) → IsLow (say f) → P f → Q x → ⊥) → IsOnce (ValueOrFault Q P say)
+on_fault {X} {F} Q P say one faults apart (Ok x) (Ok y) s t p q = ap (λ (z : X). Ok z) (one x y p q)
+on_fault {X} {F} Q P say one faults apart (Ok x) (Err f) s t p q = absurd (apart q.0 x (subst IsLow q.2 t) q.1 p)
+on_fault {X} {F} Q P say one faults apart (Err e) (Ok y) s t p q = absurd (apart p.0 y (subst IsLow p.2 s) p.1 q)
+on_fault {X} {F} Q P say one faults apart (Err e) (Err f) s t p q =
+    ap (λ (r : Refusal). Err r) (p.2 ∙ (ap say (faults p.0 q.0 (subst IsLow p.2 s) (subst IsLow q.2 t) p.1 q.1) ∙ sym q.2))
+
+-- the same for what a function gives
+on_value : {X F : Type 0} (value : Result X F) (say : F → Refusal) → IsOnce (ValueOrFault (λ (x : X). value ≡ Ok x) (λ (f : F). value ≡ Err f) say)
+on_value {X} {F} value say =
+    on_fault (λ (x : X). value ≡ Ok x) (λ (f : F). value ≡ Err f) say
+    (λ x y p q. let both : ◌≡◌ {A = Result X F} (Ok x) (Ok y) = sym p ∙ q in cc)
+    (λ f g s t p q. let both : ◌≡◌ {A = Result X F} (Err f) (Err g) = sym p ∙ q in cc)
+    (λ f x s p q. let both : ◌≡◌ {A = Result X F} (Err f) (Ok x) = sym p ∙ q in cc)
+
+-- a file is there, or missing, or too long
+unread : (name : List ℕ) (e : Refusal) → e ≡ refusal_of.ReadFailed name → IsLow e → ⊥
+unread name e is low = let four : 4 < 4 = subst IsLow is low in omega (arith, four)
+
+there_or_not : (files : Files) (name bytes : List ℕ) → IsReadable files name bytes → files name ≡ None → ⊥
+there_or_not files name bytes there none = let e : ◌≡◌ {A = Option (List ℕ)} None (Some bytes) = sym none ∙ there.holds in cc
+
+there_or_long : (files : Files) (name bytes : List ℕ) → IsReadable files name bytes → ((b : List ℕ) × (files name ≡ Some b) × (limit < length b)) → ⊥
+there_or_long files name bytes there long =
+    let same : long.0 ≡ bytes = same_Some long.0 bytes (sym long.1 ∙ there.holds) in
+    let above : limit < length bytes = subst (λ (l : List ℕ). limit < length l) same long.2 in
+    let fits = there.fits in
+    omega (arith, above, fits)
+
+none_or_long : (files : Files) (name : List ℕ) → files name ≡ None → ((b : List ℕ) × (files name ≡ Some b) × (limit < length b)) → ⊥
+none_or_long files name none long = let e : ◌≡◌ {A = Option (List ℕ)} None (Some long.0) = sym none ∙ long.1 in cc
+
+on_file : (files : Files) (name : List ℕ) → IsOnce (IsFile files name)
+on_file files name (Ok a) (Ok b) s t p q = ap (λ (l : List ℕ). Ok l) (same_Some a b (sym p.holds ∙ q.holds))
+on_file files name (Ok a) (Err f) s t p (inl q) = absurd (unread name f q t)
+on_file files name (Ok a) (Err f) s t p (inr (inl q)) = absurd (there_or_not files name a p q.1)
+on_file files name (Ok a) (Err f) s t p (inr (inr q)) = absurd (there_or_long files name a p q.1)
+on_file files name (Err e) b s t (inl p) q = absurd (unread name e p s)
+on_file files name (Err e) (Ok b) s t (inr (inl p)) q = absurd (there_or_not files name b q p.1)
+on_file files name (Err e) (Ok b) s t (inr (inr p)) q = absurd (there_or_long files name b q p.1)
+on_file files name (Err e) (Err f) s t (inr p) (inl q) = absurd (unread name f q t)
+on_file files name (Err e) (Err f) s t (inr (inl p)) (inr (inl q)) = ap (λ (r : Refusal). Err r) (p.0 ∙ sym q.0)
+on_file files name (Err e) (Err f) s t (inr (inl p)) (inr (inr q)) = absurd (none_or_long files name p.1 q.1)
+on_file files name (Err e) (Err f) s t (inr (inr p)) (inr (inl q)) = absurd (none_or_long files name q.1 p.1)
+on_file files name (Err e) (Err f) s t (inr (inr p)) (inr (inr q)) = ap (λ (r : Refusal). Err r) (p.0 ∙ sym q.0)
 
 reported : ReportsAreUnique → (tech : Tech) (shapes : List Shape) → IsOnly (IsReported tech shapes)
 reported reports tech shapes a b p q = p.2 ∙ ap (report_reply tech.layers) (reports tech.rules shapes p.0 q.0 p.1 q.1) ∙ sym q.2
 
-listed : NetsAreUnique → (tech : Tech) (lists : FlatLists) → IsOnly (AreListed tech lists)
-listed nets tech lists a b p q = p.2 ∙ ap (nets_reply tech.layers) (nets tech lists.shapes lists.labels p.0 q.0 p.1 q.1) ∙ sym q.2
+listed : NetsAreUnique → (tech : Tech) (lists : FlatLists) → IsOnly (IsNetListing tech lists)
+listed unique tech lists a b p q = p.2 ∙ ap (nets_reply tech.layers) (unique tech lists.shapes lists.labels p.0 q.0 p.1 q.1) ∙ sym q.2
 
 compared_once : DifferencesAreUnique → DifferencesExcludeAlike → (labels : List NetLabel) (rows : List RowPin) (d e : Option NetDiff) → IsDifference labels rows d → IsDifference labels rows e → d ≡ e
 compared_once one alike labels rows None None p q = refl
@@ -142,11 +163,11 @@ compared_once one alike labels rows None (Some e) p q = absurd (alike labels row
 compared_once one alike labels rows (Some d) None p q = absurd (alike labels rows d p q)
 compared_once one alike labels rows (Some d) (Some e) p q = ap (λ (f : NetDiff). Some f) (one labels rows d e p q)
 
-compared : NetsAreUnique → DifferencesAreUnique → DifferencesExcludeAlike → (tech : Tech) (lists : FlatLists) (rows : List RowPin) → IsOnly (IsCompared tech lists rows)
-compared nets one alike tech lists rows a b p q =
-    let labels : q.0 ≡ p.0 = nets tech lists.shapes lists.labels q.0 p.0 q.1 p.1 in
-    let second = subst (λ (l : List NetLabel). IsDifference l rows q.2.0) labels q.2.1 in
-    p.2.2 ∙ ap comparison_reply (compared_once one alike p.0 rows p.2.0 q.2.0 p.2.1 second) ∙ sym q.2.2
+compared : NetsAreUnique → DifferencesAreUnique → DifferencesExcludeAlike → (tech : Tech) (lists : FlatLists) (rows : Rows) → IsOnly (IsCompared tech lists rows)
+compared unique one alike tech lists rows a b p q =
+    let labels : q.0 ≡ p.0 = unique tech lists.shapes lists.labels q.0 p.0 q.1 p.1 in
+    let second = subst (λ (l : List NetLabel). IsDifference l rows.pins q.2.0) labels q.2.1 in
+    p.2.2 ∙ ap comparison_reply (compared_once one alike p.0 rows.pins p.2.0 q.2.0 p.2.1 second) ∙ sym q.2.2
 
 -- what the crates below promise of their relations: each gives one thing
 pub record AreLaws : Type 0 where
@@ -154,9 +175,11 @@ pub record AreLaws : Type 0 where
   pub writable : LibrariesAreWritable
   pub faults : FaultsAreUnique
   pub no_faults : FaultsExcludeLibraries
+  pub shapes : FlatShapesAreUnique
   pub lists : FlatListsAreUnique
   pub refusals : FlattenFaultsAreUnique
-  pub no_refusals : FlattenFaultsExcludeLists
+  pub no_shapes : FlattenFaultsExcludeShapes
+  pub no_lists : FlattenFaultsExcludeLists
   pub reports : ReportsAreUnique
   pub nets : NetsAreUnique
   pub differences : DifferencesAreUnique
@@ -171,9 +194,11 @@ all_laws = record {
   writable = libraries_are_writable;
   faults = faults_are_unique;
   no_faults = faults_exclude_libraries;
+  shapes = one_set_of_shapes;
   lists = one_pair;
   refusals = one_fault one_total;
-  no_refusals = fault_or_lists one_total;
+  no_shapes = fault_or_shapes one_total;
+  no_lists = fault_or_lists one_total;
   reports = one_report;
   nets = one_nets;
   differences = one_difference;
@@ -183,42 +208,108 @@ all_laws = record {
   no_row_faults = no_flat_rows;
 }
 
+-- a refusal that is neither a failed read nor want of memory isn't the memory of a layer below
+gds_lasts : (f : GdsFault) → IsLow (refusal_of.Gds f) → f ≢ gds.Memory
+gds_lasts f low e = let five : 5 < 4 = subst (λ (g : GdsFault). IsLow (refusal_of.Gds g)) e low in omega (arith, five)
+
+flatten_lasts : (f : FlattenFault) → IsLow (refusal_of.Flatten f) → f ≢ flatten_fault.Memory
+flatten_lasts f low e = let five : 5 < 4 = subst (λ (g : FlattenFault). IsLow (refusal_of.Flatten g)) e low in omega (arith, five)
+
+rows_lasts : (f : FlatFault) → IsLow (refusal_of.Rows f) → f ≢ rows_fault.Memory
+rows_lasts f low e = let five : 5 < 4 = subst (λ (g : FlatFault). IsLow (refusal_of.Rows g)) e low in omega (arith, five)
+
 module _ (l : AreLaws) where
-  on_flat : (tech : Tech) (top : List ℕ) (lib : Library) (next : FlatLists → Reply → Type 0) → AllByRecursion IsWritableCell lib.structs → ((lists : FlatLists) → IsOnly (next lists)) → IsOnly (OnFlat tech top lib next)
-  on_flat tech top lib next writable each a b p q =
-      on_relation (IsFault tech.layers lib.structs top) (AreFlatLists tech.layers lib.structs top) (λ f. f ≢ flatten_fault.Memory) refusal_of.Flatten next
-      (λ f g m n r s. l.refusals tech.layers lib.structs top f g writable m n r s) (λ f x m r s. l.no_refusals tech.layers lib.structs top x f writable m r s)
-      (λ x y r s. l.lists tech.layers lib.structs top x y r s) (λ x r. each x) a b p q
+  on_library : (bytes : List ℕ) → length bytes ≤ limit → AreBytes bytes → IsOnce (IsLibrary bytes)
+  on_library bytes short are =
+      on_fault (Spells bytes) (λ (f : GdsFault). IsFaultOf f bytes) refusal_of.Gds (λ x y p q. l.libraries bytes x y (omega (arith, short)) p q)
+      (λ f g s t p q. l.faults bytes f g (gds_lasts f s) (gds_lasts g t) p q) (λ f x s p q. l.no_faults bytes x f (gds_lasts f s) p q)
 
-  on_rows : (tech : Tech) (top : List ℕ) (d : Deck) (next : List RowPin → Reply → Type 0) → ((rows : List RowPin) → IsOnly (next rows)) → IsOnly (OnRows tech top d next)
-  on_rows tech top d next each a b p q =
-      on_relation (IsFlatFault d.subckts top (leaves_of tech)) (AreFlatRows d.subckts top (leaves_of tech)) (λ f. f ≢ rows_fault.Memory) refusal_of.Rows next
-      (λ f g m n r s. l.row_faults d.subckts top (leaves_of tech) f g m n r s) (λ f x m r s. l.no_row_faults d.subckts top (leaves_of tech) f x m r s)
-      (λ x y r s. l.rows d.subckts top (leaves_of tech) x y r s) (λ x r. each x) a b p q
+  on_shapes : (layout : Layout) → AllByRecursion IsWritableCell layout.lib.structs → IsOnce (AreFlatShapesOf layout)
+  on_shapes layout writable =
+      let layers = layout.tech.layers in
+      let structs = layout.lib.structs in
+      on_fault (AreFlatShapes layers structs layout.top) (IsFault layers structs layout.top) refusal_of.Flatten (λ x y p q. l.shapes layers structs layout.top x y p q)
+      (λ f g s t p q. l.refusals layers structs layout.top f g writable (flatten_lasts f s) (flatten_lasts g t) p q)
+      (λ f x s p q. l.no_shapes layers structs layout.top x f writable (flatten_lasts f s) p q)
 
-  on_library : (bytes : List ℕ) (next : Library → Reply → Type 0) → length bytes ≤ limit → AreBytes bytes → ((lib : Library) → IsWritable lib → IsOnly (next lib)) → IsOnly (OnLibrary bytes next)
-  on_library bytes next short are each a b p q =
-      on_relation (λ f. IsFaultOf f bytes) (Spells bytes) (λ f. f ≢ gds.Memory) refusal_of.Gds next (λ f g m n r s. l.faults bytes f g m n r s) (λ f x m r s. l.no_faults bytes x f m r s)
-      (λ x y r s. l.libraries bytes x y (omega (arith, short)) r s) (λ x r. each x (l.writable bytes x are r)) a b p q
+  on_flat : (layout : Layout) → AllByRecursion IsWritableCell layout.lib.structs → IsOnce (AreFlat layout)
+  on_flat layout writable =
+      let layers = layout.tech.layers in
+      let structs = layout.lib.structs in
+      on_fault (AreFlatLists layers structs layout.top) (IsFault layers structs layout.top) refusal_of.Flatten (λ x y p q. l.lists layers structs layout.top x y p q)
+      (λ f g s t p q. l.refusals layers structs layout.top f g writable (flatten_lasts f s) (flatten_lasts g t) p q)
+      (λ f x s p q. l.no_lists layers structs layout.top x f writable (flatten_lasts f s) p q)
 
-  on_task : (files : Files) (tech : Tech) (top : List ℕ) (task : Task) (lib : Library) → IsWritable lib → IsOnly (IsTaskAnswer files tech top task lib)
-  on_task files tech top report lib w = on_flat tech top lib (λ lists. IsReported tech lists.shapes) w.cells (λ lists. reported l.reports tech lists.shapes)
-  on_task files tech top listing lib w = on_flat tech top lib (AreListed tech) w.cells (listed l.nets tech)
-  on_task files tech top (comparison netlist) lib w =
-      on_file files netlist (λ source. OnDeck source (IsComparedWith tech top lib))
-      (λ source there a b. on_result (deck source) (λ f. f ≢ spice_fault.Memory) refusal_of.Spice (IsComparedWith tech top lib)
-      (λ d made. on_flat tech top lib (λ lists. OnRows tech top d (IsCompared tech lists)) w.cells (λ lists. on_rows tech top d (IsCompared tech lists) (compared l.nets l.differences l.alike tech lists))) a b)
+  on_rows : (layout : Layout) (d : Deck) → IsOnce (AreLeafRows layout d)
+  on_rows layout d =
+      let leaves = leaves_of layout.tech in
+      on_fault (λ (rows : Rows). AreFlatRows d.subckts layout.top leaves rows.pins) (IsFlatFault d.subckts layout.top leaves) refusal_of.Rows
+      (λ x y p q. ap (λ (pins : List RowPin). record { pins = pins }) (l.rows d.subckts layout.top leaves x.pins y.pins p q))
+      (λ f g s t p q. l.row_faults d.subckts layout.top leaves f g (rows_lasts f s) (rows_lasts g t) p q)
+      (λ f x s p q. l.no_row_faults d.subckts layout.top leaves f x.pins (rows_lasts f s) p q)
 
-  on_command : (files : Files) (c : Command) → HoldBytes files → IsOnly (IsCommandAnswer files c)
-  on_command files c hold =
-      on_file files c.tech (λ text. OnTech text (IsLayoutAnswer files c))
-      (λ text there a b. on_result (technology text) (λ f. f ≢ tech_fault.Memory) refusal_of.Tech (IsLayoutAnswer files c)
-      (λ tech made. on_file files c.gds (λ bytes. OnLibrary bytes (IsTaskAnswer files tech c.top c.task))
-      (λ bytes there. on_library bytes (IsTaskAnswer files tech c.top c.task) there.fits (hold c.gds bytes there.holds) (on_task files tech c.top c.task))) a b)
+  on_tech_file : (files : Files) (name : List ℕ) → IsOnce (IsTechnologyFile files name)
+  on_tech_file files name = on_then (IsFile files name) IsTechnology (on_file files name) (λ bytes there. on_value (technology bytes) refusal_of.Tech)
 
-  by_command : (files : Files) → HoldBytes files → (o : Option Command) → IsOnly (λ reply. MatchOption o (reply ≡ refusal_reply refusal_of.Usage) (λ c. IsCommandAnswer files c reply))
-  by_command files hold None a b p q = p ∙ sym q
-  by_command files hold (Some c) a b p q = on_command files c hold a b p q
+  on_library_file : (files : Files) (name : List ℕ) → HoldBytes files → IsOnce (IsLibraryFile files name)
+  on_library_file files name hold = on_then (IsFile files name) IsLibrary (on_file files name) (λ bytes there. on_library bytes there.fits (hold name bytes there.holds))
+
+  on_deck_file : (files : Files) (name : List ℕ) → IsOnce (IsDeckFile files name)
+  on_deck_file files name = on_then (IsFile files name) IsDeck (on_file files name) (λ bytes there. on_value (deck bytes) refusal_of.Spice)
+
+  on_layout : (files : Files) (words : LayoutWords) → HoldBytes files → IsOnce (IsLayout files words)
+  on_layout files words hold =
+      let last : Tech → Library → Layout → Type 0 = λ tech lib layout. layout ≡ record { tech = tech; lib = lib; top = words.top } in
+      on_then (IsTechnologyFile files words.tech) (IsLayoutWith files words) (on_tech_file files words.tech)
+      (λ tech made. on_then (IsLibraryFile files words.gds) (λ lib. WithoutRefusal (last tech lib)) (on_library_file files words.gds hold) (λ lib spelled. on_gives (last tech lib) (λ x y p q. p ∙ sym q)))
+
+  on_inputs : (files : Files) (c : Command) → HoldBytes files → IsOnce (AreInputs files c)
+  on_inputs files (check words) hold =
+      on_then (IsLayout files words) (λ layout. WithoutRefusal (λ (read : Inputs). read ≡ inputs.Check layout)) (on_layout files words hold) (λ layout made. on_gives (λ (read : Inputs). read ≡ inputs.Check layout) (λ x y p q. p ∙ sym q))
+  on_inputs files (nets words) hold =
+      on_then (IsLayout files words) (λ layout. WithoutRefusal (λ (read : Inputs). read ≡ inputs.Nets layout)) (on_layout files words hold) (λ layout made. on_gives (λ (read : Inputs). read ≡ inputs.Nets layout) (λ x y p q. p ∙ sym q))
+  on_inputs files (compare words netlist) hold =
+      on_then (IsLayout files words) (AreCompared files netlist) (on_layout files words hold)
+      (λ layout made. on_then (IsDeckFile files netlist) (λ d. WithoutRefusal (λ (read : Inputs). read ≡ inputs.Compare layout d)) (on_deck_file files netlist) (λ d read. on_gives (λ (read : Inputs). read ≡ inputs.Compare layout d) (λ x y p q. p ∙ sym q)))
+
+  layout_writable : (files : Files) (words : LayoutWords) (layout : Layout) → HoldBytes files → IsLayout files words (Ok layout) → AllByRecursion IsWritableCell layout.lib.structs
+  layout_writable files words layout hold made =
+      let lib = made.2.0 in
+      let file = made.2.1 in
+      let writable : IsWritable lib = l.writable file.0 lib (hold words.gds file.0 file.1.holds) file.2 in
+      subst (λ (x : Layout). AllByRecursion IsWritableCell x.lib.structs) (sym made.2.2) writable.cells
+
+  on_check : (layout : Layout) → AllByRecursion IsWritableCell layout.lib.structs → IsOnce (IsCheckAnswer layout)
+  on_check layout w = on_then (AreFlatShapesOf layout) (λ shapes. WithoutRefusal (IsReported layout.tech shapes)) (on_shapes layout w) (λ shapes flat. on_gives (IsReported layout.tech shapes) (reported l.reports layout.tech shapes))
+
+  on_nets : (layout : Layout) → AllByRecursion IsWritableCell layout.lib.structs → IsOnce (IsNetsAnswer layout)
+  on_nets layout w = on_then (AreFlat layout) (λ lists. WithoutRefusal (IsNetListing layout.tech lists)) (on_flat layout w) (λ lists flat. on_gives (IsNetListing layout.tech lists) (listed l.nets layout.tech lists))
+
+  on_compare : (layout : Layout) (d : Deck) → AllByRecursion IsWritableCell layout.lib.structs → IsOnce (IsCompareAnswer layout d)
+  on_compare layout d w =
+      let last : FlatLists → Rows → Reply → Type 0 = λ lists rows. IsCompared layout.tech lists rows in
+      on_then (AreFlat layout) (λ lists. Then (AreLeafRows layout d) (λ rows. WithoutRefusal (last lists rows))) (on_flat layout w)
+      (λ lists flat. on_then (AreLeafRows layout d) (λ rows. WithoutRefusal (last lists rows)) (on_rows layout d) (λ rows are. on_gives (last lists rows) (compared l.nets l.differences l.alike layout.tech lists rows)))
+
+  on_reply : (files : Files) (c : Command) (read : Inputs) → HoldBytes files → AreInputs files c (Ok read) → IsOnce (IsReplyTo read)
+  on_reply files (check words) read hold made = subst (λ (x : Inputs). IsOnce (IsReplyTo x)) (sym made.2) (on_check made.0 (layout_writable files words made.0 hold made.1))
+  on_reply files (nets words) read hold made = subst (λ (x : Inputs). IsOnce (IsReplyTo x)) (sym made.2) (on_nets made.0 (layout_writable files words made.0 hold made.1))
+  on_reply files (compare words netlist) read hold made =
+      subst (λ (x : Inputs). IsOnce (IsReplyTo x)) (sym made.2.2) (on_compare made.0 made.2.0 (layout_writable files words made.0 hold made.1))
+
+  on_command : (files : Files) (c : Command) → HoldBytes files → IsOnce (IsCommandWork files c)
+  on_command files c hold = on_then (AreInputs files c) IsReplyTo (on_inputs files c hold) (λ read made. on_reply files c read hold made)
+
+  on_work : (files : Files) → HoldBytes files → (o : Option Command) → IsOnce (λ (result : Result Reply Refusal). MatchOption o (IsUsage result) (λ c. IsCommandWork files c result))
+  on_work files hold None (Ok a) b s t p q = absurd p
+  on_work files hold None (Err e) (Ok b) s t p q = absurd q
+  on_work files hold None (Err e) (Err f) s t p q = ap (λ (r : Refusal). Err r) (p ∙ sym q)
+  on_work files hold (Some c) a b s t p q = on_command files c hold a b s t p q
+
+settled : (result : Result Reply Refusal) (reply : Reply) → reply ≡ reply_of result → reply.status < 4 → IsDecided result
+settled (Ok x) reply is low = tt
+settled (Err e) reply is low = subst (λ (r : Reply). r.status < 4) is low
 
 pub one_answer : (words : List (List ℕ)) (files : Files) → HaveOneAnswer words files
-one_answer words files hold a b p q = by_command all_laws files hold (command_of words) a b p q
+one_answer words files hold a b p q =
+    p.is ∙ (ap reply_of (on_work all_laws files hold (command_of words) p.result q.result (settled p.result a p.is p.settled) (settled q.result b q.is q.settled) p.work q.work) ∙ sym q.is)

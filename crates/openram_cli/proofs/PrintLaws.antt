@@ -6,7 +6,7 @@ use Rattle.or_host.specs.declared.sink.PutFail.{PutFail}
 use Rattle.or_host.specs.declared.sink.PutFail.TheVariants.{Failed, Memory}
 use Rattle.or_host.specs.Text.{Grows, Puts}
 use Rattle.reply_lines.specs.Lines.{lines_text}
-use Rattle.openram_cli.specs.Printed.{IsFrontOf, AreFirstLines, Prints}
+use Rattle.openram_cli.specs.Printed.{IsPrefixOf, AreFirstLines, Prints}
 
 -- the text is what stands before the rest
 abbrev pub IsBefore : List ℕ → List ℕ → List ℕ → Type 0
@@ -22,9 +22,9 @@ first_lines lines i text before =
     append_cancel_right text (lines_text (take i lines)) (lines_text (drop i lines))
     (sym before ∙ (ap lines_text (sym (take-append-drop i lines)) ∙ lines_text_append (take i lines) (drop i lines)))
 
--- a put that failed leaves a front of all lines
+-- a put that failed leaves a prefix of all lines
 cut_at : (lines : List (List ℕ)) (i : ℕ) (line bytes : List ℕ) (start mid end : Option (List ℕ)) → i < length lines → line ≡ get_or lines i line → bytes ≡ line
-    → Grows (IsBefore (lines_text lines) (lines_text (drop i lines))) start mid → Puts mid end bytes (Err Failed) → Grows (IsFrontOf (lines_text lines)) start end
+    → Grows (IsBefore (lines_text lines) (lines_text (drop i lines))) start mid → Puts mid end bytes (Err Failed) → Grows (IsPrefixOf (lines_text lines)) start end
 cut_at lines i line bytes None mid end lt is same so_far puts = tt
 cut_at lines i line bytes (Some s) None end lt is same so_far puts = absurd so_far
 cut_at lines i line bytes (Some s) (Some m) None lt is same so_far puts = absurd puts
@@ -43,7 +43,7 @@ cut_at lines i line bytes (Some s) (Some m) (Some e) lt is same so_far puts =
       puts.2 ∙ (ap (λ (l : List ℕ). l ++ puts.0) so_far.2 ∙ append_assoc s so_far.0 puts.0),
     )
 
--- a put that found no memory leaves the lines before it
+-- a put that ran out of memory leaves the lines before it
 stopped_at : (lines : List (List ℕ)) (i : ℕ) (start mid end : Option (List ℕ)) → i < length lines → Grows (IsBefore (lines_text lines) (lines_text (drop i lines))) start mid → end ≡ mid → Grows (AreFirstLines lines) start end
 stopped_at lines i None mid end lt so_far same = tt
 stopped_at lines i (Some s) None end lt so_far same = absurd so_far
@@ -57,8 +57,8 @@ pub put_fails : (lines : List (List ℕ)) (i : ℕ) (line bytes : List ℕ) (sta
 put_fails lines i line bytes start mid end Failed lt is same so_far puts = cut_at lines i line bytes start mid end lt is same so_far puts
 put_fails lines i line bytes start mid end Memory lt is same so_far puts = stopped_at lines i start mid end lt so_far puts
 
--- a put that failed adds a front of its bytes
-pub put_cut : (bytes whole : List ℕ) (old new : Option (List ℕ)) → bytes ≡ whole → Puts old new bytes (Err Failed) → Grows (IsFrontOf whole) old new
+-- a put that failed adds a prefix of its bytes
+pub put_cut : (bytes whole : List ℕ) (old new : Option (List ℕ)) → bytes ≡ whole → Puts old new bytes (Err Failed) → Grows (IsPrefixOf whole) old new
 put_cut bytes whole None new is puts = tt
 put_cut bytes whole (Some o) None is puts = absurd puts
 put_cut bytes whole (Some o) (Some n) is puts =

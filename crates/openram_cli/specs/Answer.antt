@@ -1,140 +1,133 @@
 -- What the program answers to its words, over the files that a store tells.
-use Rattle.std.specs.Prelude.{◌≡◌, ◌≢◌, ◌⊎◌, ℕ, ◌<◌, ◌≤◌, List, length, map, Option, Some, None, Ok, Err, MatchOption}
+use Rattle.std.specs.Prelude.{◌≡◌, ℕ, ◌<◌, List, map, Option, Some, None, Result, Ok, Err, MatchOption}
 use Rattle.or_geom.specs.declared.shape.Shape.{Shape}
 use Rattle.or_host.specs.Files.{Files}
-use Rattle.gds_stream.specs.declared.library.Library.{Library}
-use Rattle.gds_stream.specs.declared.fault.GdsFault.{GdsFault}
-use Rattle.gds_stream.specs.declared.fault.GdsFault.TheVariants as gds
-use Rattle.gds_stream.specs.Grammar.{Spells}
-use Rattle.gds_stream.specs.FirstFault.{IsFaultOf}
-use Rattle.tech_keys.specs.declared.fault.TechFault.{TechFault}
-use Rattle.tech_keys.specs.declared.fault.TechFault.TheVariants as tech_fault
-use Rattle.tech_rules.specs.Technology.{technology}
 use Rattle.tech_rules.specs.declared.tech.Tech.{Tech}
+use Rattle.cell_hierarchy.specs.declared.flat.Flat.{Flat}
+use Rattle.cell_hierarchy.specs.FlatLists.{AreFlatShapes, AreFlatLists, IsFault}
+use Rattle.cell_hierarchy.specs.Plain.{FlatLists, lists_of}
 use Rattle.cell_hierarchy.specs.declared.fault.FlattenFault.{FlattenFault}
-use Rattle.cell_hierarchy.specs.declared.fault.FlattenFault.TheVariants as flatten_fault
-use Rattle.cell_hierarchy.specs.declared.flat.FlatLists.{FlatLists}
-use Rattle.cell_hierarchy.specs.FlatLists.{AreFlatLists, IsFault}
 use Rattle.tile_checker.specs.declared.violation.Violation.{Violation}
 use Rattle.tile_checker.specs.RuleReport.{IsReport}
-use Rattle.reply_lines.specs.declared.refusal.Refusal.{Refusal}
-use Rattle.reply_lines.specs.declared.refusal.Refusal.TheVariants as refusal_of
-use Rattle.reply_lines.specs.declared.reply.Reply.{Reply}
 use Rattle.net_extractor.specs.declared.label.NetLabel.{NetLabel}
 use Rattle.net_extractor.specs.Extraction.{AreNets}
 use Rattle.net_extractor.specs.declared.difference.NetDiff.{NetDiff}
 use Rattle.net_extractor.specs.Difference.{AreAlike}
 use Rattle.net_extractor.specs.FirstDifference.{IsFirstDifference}
 use Rattle.netlist.specs.declared.deck.Deck.{Deck}
+use Rattle.netlist.specs.declared.rows.Rows.{Rows}
 use Rattle.netlist.specs.declared.rows.RowPin.{RowPin}
-use Rattle.spice_text.specs.declared.fault.SpiceFault.{SpiceFault}
-use Rattle.spice_text.specs.declared.fault.SpiceFault.TheVariants as spice_fault
-use Rattle.spice_text.specs.Deck.{deck}
-use Rattle.spice_netlist.specs.declared.fault.FlatFault.{FlatFault}
-use Rattle.spice_netlist.specs.declared.fault.FlatFault.TheVariants as rows_fault
 use Rattle.spice_netlist.specs.Faults.{AreFlatRows, IsFlatFault}
-use Rattle.openram_cli.specs.Command.{Task, Command, command_of}
-use Rattle.openram_cli.specs.Command.Task.{report, listing, comparison}
+use Rattle.reply_lines.specs.declared.refusal.Refusal.{Refusal}
+use Rattle.reply_lines.specs.declared.refusal.Refusal.TheVariants as refusal_of
+use Rattle.reply_lines.specs.declared.reply.Reply.{Reply}
 use Rattle.reply_lines.specs.Differences.{comparison_reply}
 use Rattle.reply_lines.specs.NetLines.{nets_reply}
 use Rattle.reply_lines.specs.Reply.{refusal_reply, report_reply}
+use Rattle.openram_cli.specs.declared.inputs.Inputs.{Inputs}
+use Rattle.openram_cli.specs.declared.inputs.Inputs.TheVariants as inputs
+use Rattle.openram_cli.specs.declared.inputs.Layout.{Layout}
+use Rattle.openram_cli.specs.Command.{Command, command_of}
+use Rattle.openram_cli.specs.Inputs.{AreInputs}
+use Rattle.openram_cli.specs.Outcome.{WithoutRefusal, ValueOrFault, Then}
 
--- 64 MiB
-abbrev pub limit : ℕ
-limit = 67108864
+-- why the structure has no flat layout
+abbrev pub IsFlatteningFault : Layout → FlattenFault → Type 0
+IsFlatteningFault layout = IsFault layout.tech.layers layout.lib.structs layout.top
 
--- the file is there, and not too long
-pub record IsThere (files : Files) (name bytes : List ℕ) : Type 0 where
-  pub holds : files name ≡ Some bytes
-  pub fits : length bytes ≤ limit
+-- the flat shapes of the structure, or the first refusal
+abbrev pub AreFlatShapesOf : Layout → Result (List Shape) Refusal → Type 0
+AreFlatShapesOf layout = ValueOrFault (AreFlatShapes layout.tech.layers layout.lib.structs layout.top) (IsFlatteningFault layout) refusal_of.Flatten
 
--- the file is not there, or too long
-abbrev pub IsFileRefusal : Files → List ℕ → Refusal → Type 0
-IsFileRefusal files name (refusal_of.NoFile missing) = (missing ≡ name) × (files name ≡ None)
-IsFileRefusal files name (refusal_of.TooLong long) = (long ≡ name) × ((bytes : List ℕ) × (files name ≡ Some bytes) × (limit < length bytes))
-IsFileRefusal files name refusal_of.Usage = ⊥
-IsFileRefusal files name (refusal_of.Tech fault) = ⊥
-IsFileRefusal files name (refusal_of.Gds fault) = ⊥
-IsFileRefusal files name (refusal_of.Spice fault) = ⊥
-IsFileRefusal files name (refusal_of.Flatten fault) = ⊥
-IsFileRefusal files name (refusal_of.Rows fault) = ⊥
+-- the flat shapes and labels of the structure, or the first refusal
+abbrev pub AreFlat : Layout → Result FlatLists Refusal → Type 0
+AreFlat layout = ValueOrFault (AreFlatLists layout.tech.layers layout.lib.structs layout.top) (IsFlatteningFault layout) refusal_of.Flatten
 
--- what the bytes of a file lead to, unless the file is refused
-abbrev pub OnFile : Files → List ℕ → (List ℕ → Reply → Type 0) → Reply → Type 0
-OnFile files name next reply =
-    ((refusal : Refusal) × IsFileRefusal files name refusal × (reply ≡ refusal_reply refusal))
-    ⊎ ((bytes : List ℕ) × IsThere files name bytes × next bytes reply)
+-- the same of a flat layout, wherever its lists lie: of its shapes alone, and of both lists
+abbrev pub AreFlatShapesIn : Layout → Result Flat Refusal → Type 0
+AreFlatShapesIn layout = ValueOrFault (λ flat. AreFlatShapes layout.tech.layers layout.lib.structs layout.top flat.shapes.now) (IsFlatteningFault layout) refusal_of.Flatten
 
--- what a technology leads to, unless the file's bytes are none
-abbrev pub OnTech : List ℕ → (Tech → Reply → Type 0) → Reply → Type 0
-OnTech bytes next reply =
-    ((fault : TechFault) × (fault ≢ tech_fault.Memory) × (technology bytes ≡ Err fault) × (reply ≡ refusal_reply (refusal_of.Tech fault)))
-    ⊎ ((tech : Tech) × (technology bytes ≡ Ok tech) × next tech reply)
-
--- what a library leads to, unless the file's bytes spell none
-abbrev pub OnLibrary : List ℕ → (Library → Reply → Type 0) → Reply → Type 0
-OnLibrary bytes next reply =
-    ((fault : GdsFault) × (fault ≢ gds.Memory) × IsFaultOf fault bytes × (reply ≡ refusal_reply (refusal_of.Gds fault)))
-    ⊎ ((lib : Library) × Spells bytes lib × next lib reply)
-
--- what the flat shapes and labels of a structure lead to, unless it has none
-abbrev pub OnFlat : Tech → List ℕ → Library → (FlatLists → Reply → Type 0) → Reply → Type 0
-OnFlat tech top lib next reply =
-    ((fault : FlattenFault) × (fault ≢ flatten_fault.Memory) × IsFault tech.layers lib.structs top fault × (reply ≡ refusal_reply (refusal_of.Flatten fault)))
-    ⊎ ((lists : FlatLists) × AreFlatLists tech.layers lib.structs top lists × next lists reply)
-
--- the report of the shapes
-abbrev pub IsReported : Tech → List Shape → Reply → Type 0
-IsReported tech shapes reply = (violations : List Violation) × IsReport tech.rules shapes violations × (reply ≡ report_reply tech.layers violations)
-
--- the labels with their nets
-abbrev pub AreListed : Tech → FlatLists → Reply → Type 0
-AreListed tech lists reply = (labels : List NetLabel) × AreNets tech lists.shapes lists.labels labels × (reply ≡ nets_reply tech.layers labels)
-
--- what a deck leads to, unless the file's bytes are none
-abbrev pub OnDeck : List ℕ → (Deck → Reply → Type 0) → Reply → Type 0
-OnDeck bytes next reply =
-    ((fault : SpiceFault) × (fault ≢ spice_fault.Memory) × (deck bytes ≡ Err fault) × (reply ≡ refusal_reply (refusal_of.Spice fault)))
-    ⊎ ((d : Deck) × (deck bytes ≡ Ok d) × next d reply)
+abbrev pub AreFlatListsIn : Layout → Result Flat Refusal → Type 0
+AreFlatListsIn layout = ValueOrFault (λ flat. AreFlatLists layout.tech.layers layout.lib.structs layout.top (lists_of flat)) (IsFlatteningFault layout) refusal_of.Flatten
 
 -- the cells of the technology's roles, which are the leaves of a netlist
 abbrev pub leaves_of : Tech → List (List ℕ)
 leaves_of tech = map (λ r. r.cell) tech.roles
 
--- what the flat rows of a subcircuit lead to, unless it has none; its name is the structure's, without regard to case
-abbrev pub OnRows : Tech → List ℕ → Deck → (List RowPin → Reply → Type 0) → Reply → Type 0
-OnRows tech top d next reply =
-    ((fault : FlatFault) × (fault ≢ rows_fault.Memory) × IsFlatFault d.subckts top (leaves_of tech) fault × (reply ≡ refusal_reply (refusal_of.Rows fault)))
-    ⊎ ((rows : List RowPin) × AreFlatRows d.subckts top (leaves_of tech) rows × next rows reply)
+-- the flat rows of the subcircuit that has the structure's name, without regard to case, or the first refusal
+abbrev pub AreLeafRows : Layout → Deck → Result Rows Refusal → Type 0
+AreLeafRows layout d =
+    ValueOrFault (λ rows. AreFlatRows d.subckts layout.top (leaves_of layout.tech) rows.pins) (IsFlatFault d.subckts layout.top (leaves_of layout.tech)) refusal_of.Rows
+
+-- the labels with their nets
+abbrev pub AreNetsOf : Tech → FlatLists → List NetLabel → Type 0
+AreNetsOf tech lists labels = AreNets tech lists.shapes lists.labels labels
+
+-- the report of the shapes
+abbrev pub IsReported : Tech → List Shape → Reply → Type 0
+IsReported tech shapes reply =
+    (violations : List Violation) × IsReport tech.rules shapes violations × (reply ≡ report_reply tech.layers violations)
+
+-- the list of the labels with their nets
+abbrev pub IsNetListing : Tech → FlatLists → Reply → Type 0
+IsNetListing tech lists reply = (labels : List NetLabel) × AreNetsOf tech lists labels × (reply ≡ nets_reply tech.layers labels)
 
 -- the first difference of labels and rows; none where they are alike
 abbrev pub IsDifference : List NetLabel → List RowPin → Option NetDiff → Type 0
 IsDifference labels rows difference = MatchOption difference (AreAlike labels rows) (IsFirstDifference labels rows)
 
 -- the first difference of the labels' nets from the rows, if there is one
-abbrev pub IsCompared : Tech → FlatLists → List RowPin → Reply → Type 0
+abbrev pub IsCompared : Tech → FlatLists → Rows → Reply → Type 0
 IsCompared tech lists rows reply =
-    (labels : List NetLabel) × AreNets tech lists.shapes lists.labels labels
-    × ((difference : Option NetDiff) × IsDifference labels rows difference × (reply ≡ comparison_reply difference))
+    (labels : List NetLabel) × AreNetsOf tech lists labels
+    × ((difference : Option NetDiff) × IsDifference labels rows.pins difference × (reply ≡ comparison_reply difference))
 
--- the comparison of a structure of a library with a subcircuit of a deck
-abbrev pub IsComparedWith : Tech → List ℕ → Library → Deck → Reply → Type 0
-IsComparedWith tech top lib d = OnFlat tech top lib (λ lists. OnRows tech top d (IsCompared tech lists))
+-- the answer of `check`, in which labels play no part, and how many workers do it neither
+abbrev pub IsCheckAnswer : Layout → Result Reply Refusal → Type 0
+IsCheckAnswer layout = Then (AreFlatShapesOf layout) (λ shapes. WithoutRefusal (IsReported layout.tech shapes))
 
--- what is asked of a structure of a library; for a comparison the netlist's file is read first
-abbrev pub IsTaskAnswer : Files → Tech → List ℕ → Task → Library → Reply → Type 0
-IsTaskAnswer files tech top report lib = OnFlat tech top lib (λ lists. IsReported tech lists.shapes)
-IsTaskAnswer files tech top listing lib = OnFlat tech top lib (AreListed tech)
-IsTaskAnswer files tech top (comparison netlist) lib = OnFile files netlist (λ source. OnDeck source (IsComparedWith tech top lib))
+-- the answer of `nets`
+abbrev pub IsNetsAnswer : Layout → Result Reply Refusal → Type 0
+IsNetsAnswer layout = Then (AreFlat layout) (λ lists. WithoutRefusal (IsNetListing layout.tech lists))
 
--- what is asked of a structure of the layout in a file
-abbrev pub IsLayoutAnswer : Files → Command → Tech → Reply → Type 0
-IsLayoutAnswer files c tech = OnFile files c.gds (λ bytes. OnLibrary bytes (IsTaskAnswer files tech c.top c.task))
+-- the answer of `compare`
+abbrev pub IsCompareAnswer : Layout → Deck → Result Reply Refusal → Type 0
+IsCompareAnswer layout d =
+    Then (AreFlat layout) (λ lists.
+    Then (AreLeafRows layout d) (λ rows.
+    WithoutRefusal (IsCompared layout.tech lists rows)))
 
--- the order of work: technology, layout, and what is asked
-abbrev pub IsCommandAnswer : Files → Command → Reply → Type 0
-IsCommandAnswer files c = OnFile files c.tech (λ text. OnTech text (IsLayoutAnswer files c))
+-- the answer to the inputs of a command
+abbrev pub IsReplyTo : Inputs → Result Reply Refusal → Type 0
+IsReplyTo (inputs.Check layout) = IsCheckAnswer layout
+IsReplyTo (inputs.Nets layout) = IsNetsAnswer layout
+IsReplyTo (inputs.Compare layout d) = IsCompareAnswer layout d
 
--- the answer to words, which are a command or no form
-abbrev pub IsAnswer : List (List ℕ) → Files → Reply → Type 0
-IsAnswer words files reply = MatchOption (command_of words) (reply ≡ refusal_reply refusal_of.Usage) (λ c. IsCommandAnswer files c reply)
+-- words that are no form are refused, whatever the files are
+abbrev pub IsUsage : Result Reply Refusal → Type 0
+IsUsage (Ok reply) = ⊥
+IsUsage (Err refusal) = refusal ≡ refusal_of.Usage
+
+-- the order of work: the inputs are read, and then answered
+abbrev pub IsCommandWork : Files → Command → Result Reply Refusal → Type 0
+IsCommandWork files c = Then (AreInputs files c) IsReplyTo
+
+-- what the work on words ends with. The read of any file on the way may fail; nothing else is left open.
+abbrev pub IsWork : List (List ℕ) → Files → Result Reply Refusal → Type 0
+IsWork words files result = MatchOption (command_of words) (IsUsage result) (λ c. IsCommandWork files c result)
+
+-- the reply, or that of the refusal
+abbrev pub reply_of : Result Reply Refusal → Reply
+reply_of (Ok reply) = reply
+reply_of (Err refusal) = refusal_reply refusal
+
+-- the answer to words: where no read fails and memory lasts
+pub record IsAnswer (words : List (List ℕ)) (files : Files) (reply : Reply) : Type 0 where
+  pub result : Result Reply Refusal
+  pub work : IsWork words files result
+  pub is : reply ≡ reply_of result
+  pub settled : reply.status < 4
+
+-- a file that the words make the program read, unless something is refused before
+abbrev pub IsRead : List (List ℕ) → Files → List ℕ → Type 0
+IsRead words files name = IsWork words files (Err (refusal_of.ReadFailed name))

@@ -2,18 +2,17 @@
 use Rattle.std.specs.Prelude.{ℕ, ◌+◌, ◌*◌, ◌-◌, List, [], ◌∷◌, Bool, false, ◌&&◌, nat_le, Option, Some, None, if◌then◌else◌, codes}
 use Rattle.std.specs.Str.{bytes_eq}
 
--- what is asked of a structure: a check, its nets, or a comparison with the netlist in the file of this name
-pub data Task : Type 0 where
-  report : Task
-  listing : Task
-  comparison : List ℕ → Task
-
--- the words of a command
-pub record Command : Type 0 where
-  pub task : Task
+-- the files of a technology and of a layout, and the name of a structure
+pub record LayoutWords : Type 0 where
   pub tech : List ℕ
   pub gds : List ℕ
   pub top : List ℕ
+
+-- the report of a structure, its nets, or its first difference from the netlist in the file of this name
+pub data Command : Type 0 where
+  check : LayoutWords → Command
+  nets : LayoutWords → Command
+  compare : LayoutWords → List ℕ → Command
 
 abbrev pub is_digit : ℕ → Bool
 is_digit b = nat_le 48 b && nat_le b 57
@@ -26,22 +25,22 @@ is_workers (tens ∷ ones ∷ []) = is_digit tens && (is_digit ones && (nat_le 1
 is_workers (a ∷ b ∷ c ∷ more) = false
 
 -- check TECH GDS TOP WORKERS
-abbrev pub check_of : List (List ℕ) → Option Command
-check_of (command ∷ tech ∷ gds ∷ top ∷ workers ∷ []) =
-    if bytes_eq command (codes "check") && is_workers workers then Some (record { task = report; tech = tech; gds = gds; top = top }) else None
-check_of words = None
+abbrev pub check_form : List (List ℕ) → Option Command
+check_form (command ∷ tech ∷ gds ∷ top ∷ workers ∷ []) =
+    if bytes_eq command (codes "check") && is_workers workers then Some (check (record { tech = tech; gds = gds; top = top })) else None
+check_form words = None
 
 -- nets TECH GDS TOP
-abbrev pub nets_of : List (List ℕ) → Option Command
-nets_of (command ∷ tech ∷ gds ∷ top ∷ []) =
-    if bytes_eq command (codes "nets") then Some (record { task = listing; tech = tech; gds = gds; top = top }) else None
-nets_of words = None
+abbrev pub nets_form : List (List ℕ) → Option Command
+nets_form (command ∷ tech ∷ gds ∷ top ∷ []) =
+    if bytes_eq command (codes "nets") then Some (nets (record { tech = tech; gds = gds; top = top })) else None
+nets_form words = None
 
 -- compare TECH GDS SP TOP
-abbrev pub compare_of : List (List ℕ) → Option Command
-compare_of (command ∷ tech ∷ gds ∷ netlist ∷ top ∷ []) =
-    if bytes_eq command (codes "compare") then Some (record { task = comparison netlist; tech = tech; gds = gds; top = top }) else None
-compare_of words = None
+abbrev pub compare_form : List (List ℕ) → Option Command
+compare_form (command ∷ tech ∷ gds ∷ netlist ∷ top ∷ []) =
+    if bytes_eq command (codes "compare") then Some (compare (record { tech = tech; gds = gds; top = top }) netlist) else None
+compare_form words = None
 
 abbrev pub or_else : Option Command → Option Command → Option Command
 or_else None other = other
@@ -49,4 +48,4 @@ or_else (Some command) other = Some command
 
 -- the command that the words are, if they are one
 abbrev pub command_of : List (List ℕ) → Option Command
-command_of words = or_else (check_of words) (or_else (nets_of words) (compare_of words))
+command_of words = or_else (check_form words) (or_else (nets_form words) (compare_form words))

@@ -1,77 +1,93 @@
--- How a run of the program ends: its status, and what it printed.
-use Rattle.std.specs.Prelude.{◌≡◌, ◌⊎◌, ℕ, List, [], ◌∷◌, Option, codes}
+-- How a run of the program ends: its status, and the outside before and after it.
+use Rattle.std.specs.Prelude.{◌≡◌, ◌⊎◌, ◌↔◌, ◌<◌, ℕ, List, [], ◌∷◌, None, codes}
 use Rattle.or_host.specs.Fault.{Rose}
 use Rattle.or_host.specs.Files.{Files}
 use Rattle.or_host.specs.Text.{Grows}
 use Rattle.reply_lines.specs.declared.reply.Reply.{Reply}
-use Rattle.openram_cli.specs.Answer.{IsAnswer}
-use Rattle.reply_lines.specs.Lines.{line_text, lines_text}
-use Rattle.openram_cli.specs.Printed.{IsWhole, IsFrontOf, AreFirstLines, IsFollowedBy}
-use Rattle.openram_cli.specs.Reads.{IsRead}
+use Rattle.reply_lines.specs.Lines.{reply_line, lines_text}
 use Rattle.reply_lines.specs.Refusals.{headed}
+use Rattle.openram_cli.specs.Answer.{IsAnswer, IsRead}
+use Rattle.openram_cli.specs.Command.{command_of}
+use Rattle.openram_cli.specs.Finished.{memory_line, IsMemorySaid}
+use Rattle.openram_cli.specs.Outside.{Outside, IfTold}
+use Rattle.openram_cli.specs.Printed.{IsWholeText, IsPrefixOf, AreFirstLines, IsFollowedBy}
+
+-- the line of words that are no form
+abbrev pub usage_line : List ℕ
+usage_line = reply_line (headed 90 (codes "Usage") [])
 
 -- the line of a failed read
 abbrev pub read_line : List ℕ → List ℕ
-read_line name = line_text (headed 91 (codes "ReadFailed") (name ∷ []))
-
--- the line of wanting memory
-abbrev pub memory_line : List ℕ
-memory_line = codes "openram: 94 Memory\n"
+read_line name = reply_line (headed 91 (codes "ReadFailed") (name ∷ []))
 
 -- status 0 to 3: the answer's status, and all of its lines
-pub record IsAnswered (words : List (List ℕ)) (files : Files) (status : ℕ) (old new : Option (List ℕ)) : Type 0 where
+pub record IsAnswered (words : List (List ℕ)) (files : Files) (status : ℕ) (before now : Outside) : Type 0 where
   pub reply : Reply
   pub is : IsAnswer words files reply
   pub status_is : status ≡ reply.status
-  pub printed : Grows (IsWhole (lines_text reply.lines)) old new
+  pub printed : Grows (IsWholeText (lines_text reply.lines)) before.sink.text now.sink.text
 
--- a front of the answer's lines, cut anywhere
-abbrev pub IsAnswerFront : List (List ℕ) → Files → List ℕ → Type 0
-IsAnswerFront words files text = (reply : Reply) × IsAnswer words files reply × IsFrontOf (lines_text reply.lines) text
+-- a prefix of the answer's lines, cut anywhere
+abbrev pub IsAnswerPrefix : List (List ℕ) → Files → List ℕ → Type 0
+IsAnswerPrefix words files text = (reply : Reply) × IsAnswer words files reply × IsPrefixOf (lines_text reply.lines) text
 
 -- whole lines of the answer, but not all of them; or none, where the answer wasn't made
 abbrev pub AreAnswerLines : List (List ℕ) → Files → List ℕ → Type 0
 AreAnswerLines words files text = (text ≡ []) ⊎ ((reply : Reply) × IsAnswer words files reply × AreFirstLines reply.lines text)
 
--- the line of wanting memory, or nothing where that line found none
-abbrev pub IsMemorySaid : List ℕ → Type 0
-IsMemorySaid text = (text ≡ memory_line) ⊎ (text ≡ [])
-
--- Want of memory: whole lines of the answer, and then the line that says so or nothing.
+-- Out of memory: whole lines of the answer, and then the line that says so or nothing.
 abbrev pub IsMemoryText : List (List ℕ) → Files → List ℕ → Type 0
 IsMemoryText words files = IsFollowedBy (AreAnswerLines words files) IsMemorySaid
 
--- The sink failed: at the answer, of which a front stands there and nothing after it; or at the line of wanting memory, after whole lines of the answer.
+-- The sink failed: at the answer, of which a prefix stands there and nothing after it; or at the line that says that memory ran out, after whole lines of the answer.
 abbrev pub IsCutText : List (List ℕ) → Files → List ℕ → Type 0
-IsCutText words files text = IsAnswerFront words files text ⊎ IsFollowedBy (AreAnswerLines words files) (IsFrontOf memory_line) text
+IsCutText words files text = IsAnswerPrefix words files text ⊎ IsFollowedBy (AreAnswerLines words files) (IsPrefixOf memory_line) text
 
--- a read failed: the line that says so, of a file that the program reads
-pub record IsReadText (words : List (List ℕ)) (files : Files) (text : List ℕ) : Type 0 where
+-- a read failed: of the line that says so, of a file that the program reads, this much is printed
+pub record IsReadText (words : List (List ℕ)) (files : Files) (IsPart : List ℕ → List ℕ → Type 0) (text : List ℕ) : Type 0 where
   pub name : List ℕ
   pub read : IsRead words files name
-  pub line : text ≡ read_line name
+  pub line : IsPart (read_line name) text
 
--- a read failed and then the sink: a front of that line
-pub record IsReadCutText (words : List (List ℕ)) (files : Files) (text : List ℕ) : Type 0 where
-  pub name : List ℕ
-  pub read : IsRead words files name
-  pub line : IsFrontOf (read_line name) text
+-- nothing of it
+abbrev pub IsNothingOf : List ℕ → List ℕ → Type 0
+IsNothingOf whole text = text ≡ []
 
--- a read failed, and memory was wanting for the line that says so: nothing
-pub record IsReadSilence (words : List (List ℕ)) (files : Files) (text : List ℕ) : Type 0 where
-  pub name : List ℕ
-  pub read : IsRead words files name
-  pub none : text ≡ []
+-- Status 4: the store failed, or it and then the sink, or the sink alone.
+abbrev pub IsFaultEnd : List (List ℕ) → Files → Outside → Outside → Type 0
+IsFaultEnd words files before now =
+    (Rose before.store.faults now.store.faults × (now.sink.faults ≡ before.sink.faults) × Grows (IsReadText words files IsWholeText) before.sink.text now.sink.text)
+    ⊎ ((Rose before.store.faults now.store.faults × Rose before.sink.faults now.sink.faults × Grows (IsReadText words files IsPrefixOf) before.sink.text now.sink.text)
+    ⊎ ((now.store.faults ≡ before.store.faults) × Rose before.sink.faults now.sink.faults × Grows (IsCutText words files) before.sink.text now.sink.text))
 
--- Status 4: the store failed, or it and then the sink, or the sink alone. The counts of faults of both are those before and after.
-abbrev pub IsFaultEnd : List (List ℕ) → Files → ℕ → ℕ → ℕ → ℕ → Option (List ℕ) → Option (List ℕ) → Type 0
-IsFaultEnd words files store_before store_now sink_before sink_now old new =
-    (Rose store_before store_now × (sink_now ≡ sink_before) × Grows (IsReadText words files) old new)
-    ⊎ ((Rose store_before store_now × Rose sink_before sink_now × Grows (IsReadCutText words files) old new)
-    ⊎ ((store_now ≡ store_before) × Rose sink_before sink_now × Grows (IsCutText words files) old new))
+-- Status 5: no read failed, and memory ran out; or a read failed, and memory ran out for the line that says so.
+abbrev pub IsMemoryEnd : List (List ℕ) → Files → Outside → Outside → Type 0
+IsMemoryEnd words files before now =
+    ((now.store.faults ≡ before.store.faults) × Grows (IsMemoryText words files) before.sink.text now.sink.text)
+    ⊎ (Rose before.store.faults now.store.faults × Grows (IsReadText words files IsNothingOf) before.sink.text now.sink.text)
 
--- Status 5: no read failed, and memory was wanting; or a read failed, and it was wanting for the line that says so. The store's counts of faults are those before and after.
-abbrev pub IsMemoryEnd : List (List ℕ) → Files → ℕ → ℕ → Option (List ℕ) → Option (List ℕ) → Type 0
-IsMemoryEnd words files store_before store_now old new =
-    ((store_now ≡ store_before) × Grows (IsMemoryText words files) old new)
-    ⊎ (Rose store_before store_now × Grows (IsReadSilence words files) old new)
+-- how a run ends over these files
+pub record IsRunEnd (words : List (List ℕ)) (files : Files) (status : ℕ) (before now : Outside) : Type 0 where
+  pub answered : status < 4 → IsAnswered words files status before now
+  pub cut : status ≡ 4 → IsFaultEnd words files before now
+  pub memory : status ≡ 5 → IsMemoryEnd words files before now
+
+-- What a run does.
+pub record IsProgramRun (words : List (List ℕ)) (status : ℕ) (before now : Outside) : Type 0 where
+  pub range : status < 6
+  -- where the store tells its files, status and text are those of the answer over them
+  pub told : IfTold before.store.files (λ files. IsRunEnd words files status before now)
+  -- words that are no form need no files for it
+  pub no_form : command_of words ≡ None → (files : Files) → IsRunEnd words files status before now
+  -- below 4 no fault rose
+  pub clean : status < 4 → (now.store.faults ≡ before.store.faults) × (now.sink.faults ≡ before.sink.faults)
+  -- 2 comes exactly of words that are no form, and says so
+  pub usage : status < 4 → ((status ≡ 2) ↔ (command_of words ≡ None))
+  pub usage_text : status ≡ 2 → Grows (IsWholeText usage_line) before.sink.text now.sink.text
+  -- 4 comes only where a fault rose
+  pub fault : status ≡ 4 → Rose before.store.faults now.store.faults ⊎ Rose before.sink.faults now.sink.faults
+  -- at 5 the sink didn't fail, and where a read failed nothing is printed
+  pub memory_clean : status ≡ 5 → now.sink.faults ≡ before.sink.faults
+  pub silent : status ≡ 5 → (now.store.faults ≡ before.store.faults) ⊎ (Rose before.store.faults now.store.faults × Grows (λ text. text ≡ []) before.sink.text now.sink.text)
+  -- the files stay as they were
+  pub files : now.store.files ≡ before.store.files

@@ -1,48 +1,80 @@
-ghost use Rattle.std.specs.Prelude.{◌≡◌, ◌∷◌, [], map, string_bytes, codes};
+ghost use Rattle.std.specs.Prelude.{◌≡◌, ◌<◌, ◌≤◌, ◌∷◌, [], map, string_bytes, codes, IfSome};
 ghost use Rattle.std.specs.Str.{bytes_eq};
-ghost use Rattle.openram_cli.specs.Command.{command_of, check_of, nets_of, compare_of, is_workers};
-ghost use Rattle.openram_cli.specs.CommandWords.{told_command};
-ghost use Rattle.std.specs.Option.{option_map};
+ghost use Rattle.openram_cli.specs.Command.{command_of, check_form, nets_form, compare_form, is_workers};
+ghost use Rattle.openram_cli.specs.CommandWords.{HasWorkers, told_asked, told_command};
+ghost use Rattle.std.specs.Option.{is_some, option_map};
 
-/// What is asked of a structure.
+/// The words that name a structure of a layout: the files of the technology and of the layout, and the structure's name.
 #[derive(Clone, Copy)]
-pub enum Task<'a> {
-    /// The report of the rules.
-    Check,
-    /// The labels with their nets.
-    Nets,
-    /// The first difference from the netlist in the file of this name.
-    Compare(&'a str),
-}
-
-/// The words of a command: what is asked, the file names of the technology and of the layout, and the structure's name.
-#[derive(Clone, Copy)]
-pub struct Command<'a> {
-    pub task: Task<'a>,
+pub struct LayoutWords<'a> {
     pub tech: &'a str,
     pub gds: &'a str,
     pub top: &'a str,
 }
 
-/// Whether the word is a number of workers: 1 to 64 in decimal digits, without a leading zero.
-fn is_workers(word: &String) -> bool
-    ensures { result ≡ is_workers (string_bytes word.now) }
+/// What the words ask, by its form, and how many workers may do it: 1 to 64.
+#[derive(Clone, Copy)]
+pub struct Command<'a> {
+    pub asked: Asked<'a>,
+    pub workers: u8,
+}
+
+/// What the words ask.
+#[derive(Clone, Copy)]
+pub enum Asked<'a> {
+    /// The report of the rules: `check TECH GDS TOP WORKERS`.
+    Check(LayoutWords<'a>),
+    /// The labels with their nets: `nets TECH GDS TOP`.
+    Nets(LayoutWords<'a>),
+    /// The first difference from a netlist: `compare TECH GDS SP TOP`.
+    Compare {
+        layout: LayoutWords<'a>,
+        netlist: &'a str,
+    },
+}
+
+/// The number of workers that the word is: 1 to 64 in decimal digits, without a leading zero.
+fn workers_in(word: &String) -> Option<u8>
+    ensures some { is_some result ≡ is_workers (string_bytes word.now) }
+    ensures range { IfSome result (λ n. (0 < n) × (n ≤ 64)) }
 {
     match word.as_bytes() {
-        [ones] => b'1' <= *ones && *ones <= b'9',
-        [tens, ones] => are_workers(*tens, *ones),
-        _ => false,
+        [ones] => one_digit(*ones),
+        [tens, ones] => two_digits(*tens, *ones),
+        _ => None,
     }
 }
 
-fn are_workers(tens: u8, ones: u8) -> bool
-    ensures { result ≡ is_workers (tens ∷ ones ∷ []) }
+fn one_digit(ones: u8) -> Option<u8>
+    ensures some { is_some result ≡ is_workers (ones ∷ []) }
+    ensures range { IfSome result (λ n. (0 < n) × (n ≤ 64)) }
+{
+    if b'1' <= ones && ones <= b'9' {
+        return Some(ones - b'0');
+    }
+    None
+}
+
+fn two_digits(tens: u8, ones: u8) -> Option<u8>
+    ensures some { is_some result ≡ is_workers (tens ∷ ones ∷ []) }
+    ensures range { IfSome result (λ n. (0 < n) × (n ≤ 64)) }
 {
     if !tens.is_ascii_digit() || !ones.is_ascii_digit() {
-        return false;
+        return None;
     }
     let number = 10 * (tens - b'0') + (ones - b'0');
-    10 <= number && number <= 64
+    if 10 <= number && number <= 64 {
+        return Some(number);
+    }
+    None
+}
+
+/// A command of one worker.
+fn alone(asked: Asked<'_>) -> Command<'_>
+    ensures asked { told_command result ≡ told_asked asked.entry }
+    ensures workers { HasWorkers result }
+{
+    Command { asked, workers: 1 }
 }
 
 fn is_check(command: &String) -> bool
@@ -63,39 +95,43 @@ fn is_compare(command: &String) -> bool
     command.as_str() == "compare"
 }
 
-/// The check that the words are, if they are one: `check TECH GDS TOP WORKERS`.
+/// `check TECH GDS TOP WORKERS`, if the words are that.
 fn check_in(words: &[String]) -> Option<Command<'_>>
-    ensures { option_map told_command result ≡ check_of (map string_bytes words.now) }
+    ensures words { option_map told_command result ≡ check_form (map string_bytes words.now) }
+    ensures workers { IfSome result HasWorkers }
 {
     match words {
         [command, tech, gds, top, workers] => {
-            if is_check(command) && is_workers(workers) {
-                return Some(Command {
-                    task: Task::Check,
-                    tech: tech.as_str(),
-                    gds: gds.as_str(),
-                    top: top.as_str(),
-                });
+            if !is_check(command) {
+                return None;
             }
-            None
+            let Some(workers) = workers_in(workers) else {
+                return None;
+            };
+            let asked = Asked::Check(LayoutWords {
+                tech: tech.as_str(),
+                gds: gds.as_str(),
+                top: top.as_str(),
+            });
+            Some(Command { asked, workers })
         }
         _ => None,
     }
 }
 
-/// The listing of nets that the words are, if they are one: `nets TECH GDS TOP`.
+/// `nets TECH GDS TOP`, if the words are that.
 fn nets_in(words: &[String]) -> Option<Command<'_>>
-    ensures { option_map told_command result ≡ nets_of (map string_bytes words.now) }
+    ensures words { option_map told_command result ≡ nets_form (map string_bytes words.now) }
+    ensures workers { IfSome result HasWorkers }
 {
     match words {
         [command, tech, gds, top] => {
             if is_nets(command) {
-                return Some(Command {
-                    task: Task::Nets,
+                return Some(alone(Asked::Nets(LayoutWords {
                     tech: tech.as_str(),
                     gds: gds.as_str(),
                     top: top.as_str(),
-                });
+                })));
             }
             None
         }
@@ -103,19 +139,22 @@ fn nets_in(words: &[String]) -> Option<Command<'_>>
     }
 }
 
-/// The comparison that the words are, if they are one: `compare TECH GDS SP TOP`.
+/// `compare TECH GDS SP TOP`, if the words are that.
 fn compare_in(words: &[String]) -> Option<Command<'_>>
-    ensures { option_map told_command result ≡ compare_of (map string_bytes words.now) }
+    ensures words { option_map told_command result ≡ compare_form (map string_bytes words.now) }
+    ensures workers { IfSome result HasWorkers }
 {
     match words {
         [command, tech, gds, netlist, top] => {
             if is_compare(command) {
-                return Some(Command {
-                    task: Task::Compare(netlist.as_str()),
-                    tech: tech.as_str(),
-                    gds: gds.as_str(),
-                    top: top.as_str(),
-                });
+                return Some(alone(Asked::Compare {
+                    layout: LayoutWords {
+                        tech: tech.as_str(),
+                        gds: gds.as_str(),
+                        top: top.as_str(),
+                    },
+                    netlist: netlist.as_str(),
+                }));
             }
             None
         }
@@ -125,7 +164,8 @@ fn compare_in(words: &[String]) -> Option<Command<'_>>
 
 /// The command that the words are, if they are one.
 pub fn command_in(words: &[String]) -> Option<Command<'_>>
-    ensures { option_map told_command result ≡ command_of (map string_bytes words.now) }
+    ensures words { option_map told_command result ≡ command_of (map string_bytes words.now) }
+    ensures workers { IfSome result HasWorkers }
 {
     if let Some(command) = check_in(words) {
         return Some(command);

@@ -1,10 +1,10 @@
-ghost use Rattle.std.specs.Prelude.{◌≡◌, false, IfOk, MatchResult};
-ghost use Rattle.or_host.specs.Fault.{HasCause};
-ghost use Rattle.openram_cli.specs.Answer.{limit, IsThere, IsFileRefusal};
-ghost use Rattle.openram_cli.specs.Told.{IfTold, IsOpenStop, is_read_failure, is_usage};
+ghost use Rattle.std.specs.Prelude.{◌≡◌, false};
+ghost use Rattle.openram_cli.specs.Inputs.{limit, IsFile};
+ghost use Rattle.openram_cli.specs.Outside.{store_state};
+ghost use Rattle.openram_cli.specs.Reading.{HasRead};
+ghost use Rattle.openram_cli.specs.Outcome.{is_usage_outcome};
 
-use crate::stop::Stop;
-use or_geom::Name;
+use or_geom::{Items, Name};
 use or_host::{ReadFail, Store};
 use reply_lines::Refusal;
 use std::alloc::Global;
@@ -13,27 +13,17 @@ use std::alloc::Global;
 const LIMIT: u64 = 67_108_864;
 
 /// The bytes of a file.
-pub fn bytes_of<'a, S: Store>(
-    alloc: Global,
-    name: &'a str,
-    store: &mut S,
-) -> Result<Vec<u8>, Stop<'a>>
-    ensures told { IfTold (S.files store.old) (λ files. MatchResult result (λ bytes. IsThere files name.now bytes.items) (IsOpenStop files name.now)) }
-    ensures same { S.files store.new ≡ S.files store.old }
-    ensures cause { HasCause (S.faults store.old) (S.faults store.new) (is_read_failure result) }
-    ensures words { is_usage result ≡ false }
+pub fn read_file<S: Store>(alloc: Global, name: &str, store: &mut S) -> Result<Items<u8>, Refusal>
+    ensures read { HasRead (λ files. IsFile files name.now) result (store_state (S.files store.old) (S.faults store.old)) (store_state (S.files store.new) (S.faults store.new)) }
+    ensures words { is_usage_outcome result ≡ false }
 {
+    // The name is taken first, so that a read that failed can be told.
+    let owned = Name::from_bytes(alloc, name.as_bytes())?;
     match store.read(name, LIMIT) {
-        Ok(Some(bytes)) => Ok(bytes),
-        Ok(None) => {
-            let name = Name::from_bytes(alloc, name.as_bytes())?;
-            Err(Stop::Refused(Refusal::NoFile { name }))
-        }
-        Err(ReadFail::TooLong) => {
-            let name = Name::from_bytes(alloc, name.as_bytes())?;
-            Err(Stop::Refused(Refusal::TooLong { name }))
-        }
-        Err(ReadFail::Failed) => Err(Stop::ReadFailed(name)),
-        Err(ReadFail::Memory) => Err(Stop::Memory),
+        Ok(Some(bytes)) => Ok(Items::from_vec(bytes)),
+        Ok(None) => Err(Refusal::NoFile { name: owned }),
+        Err(ReadFail::TooLong) => Err(Refusal::TooLong { name: owned }),
+        Err(ReadFail::Failed) => Err(Refusal::ReadFailed { name: owned }),
+        Err(ReadFail::Memory) => Err(Refusal::Memory),
     }
 }

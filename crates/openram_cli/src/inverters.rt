@@ -77,17 +77,28 @@ fn layout(alloc: Global, wires: &[[i32; 4]]) -> Result<Vec<u8>, Fail> {
     Ok(out)
 }
 
+/// Runs the words on the two inverters with these wires, and on a netlist.
 fn answer<R: Threads + Sync>(
     rt: &R,
     alloc: Global,
     words: &[&str],
     wires: &[[i32; 4]],
+    netlist: &[u8],
 ) -> Result<(u8, MemSink), Fail> {
     let mut files = Vec::new(alloc);
     files.push(file(alloc, b"t.toml", TECH.to_vec(alloc)?)?)?;
     files.push(file(alloc, b"a.gds", layout(alloc, wires)?)?)?;
-    files.push(file(alloc, b"a.sp", NETLIST.to_vec(alloc)?)?)?;
+    files.push(file(alloc, b"a.sp", netlist.to_vec(alloc)?)?)?;
     answer_of(alloc, words, files, rt, NONE)
+}
+
+/// Compares the two inverters with a netlist.
+pub fn compare_with<R: Threads + Sync>(
+    rt: &R,
+    alloc: Global,
+    netlist: &[u8],
+) -> Result<(u8, MemSink), Fail> {
+    answer(rt, alloc, &COMPARE, &[WIRE], netlist)
 }
 
 const NETS: [&str; 4] = ["nets", "t.toml", "a.gds", "t"];
@@ -98,7 +109,7 @@ const WIRE: [i32; 4] = [10, 28, 22, 32];
 
 #[test]
 fn nets_of_two_inverters(rt: HostRuntime) -> Result<(), Fail> {
-    let (status, text) = answer(&rt, rt.alloc(), &NETS, &[WIRE])?;
+    let (status, text) = answer(&rt, rt.alloc(), &NETS, &[WIRE], NETLIST)?;
     assert_eq!(rt; status, 0);
     assert!(rt;
         text.written()
@@ -107,20 +118,21 @@ fn nets_of_two_inverters(rt: HostRuntime) -> Result<(), Fail> {
     Ok(())
 }
 
+/// Wires, the status, and what is printed.
+type Wired = (&'static [[i32; 4]], u8, &'static [u8]);
+
+const WIRED: [Wired; 3] = [
+    (&[WIRE], 0, b""),
+    (&[], 1, b"Open xa/z xb/a\n"),
+    (&[[2, 28, 22, 32]], 1, b"Short i xa/z\n"),
+];
+
 #[test]
 fn two_inverters_compared(rt: HostRuntime) -> Result<(), Fail> {
-    expect_reply(&rt, answer(&rt, rt.alloc(), &COMPARE, &[WIRE])?, 0, b"");
-    expect_reply(
-        &rt,
-        answer(&rt, rt.alloc(), &COMPARE, &[])?,
-        1,
-        b"Open xa/z xb/a\n",
-    );
-    expect_reply(
-        &rt,
-        answer(&rt, rt.alloc(), &COMPARE, &[[2, 28, 22, 32]])?,
-        1,
-        b"Short i xa/z\n",
-    );
+    let alloc = rt.alloc();
+    for (wires, status, text) in WIRED {
+        let reply = answer(&rt, alloc, &COMPARE, wires, NETLIST)?;
+        expect_reply(&rt, reply, status, text);
+    }
     Ok(())
 }

@@ -1,6 +1,6 @@
 //! Worked examples of `check` on polygons, paths and structures in structures. Lengths are in nanometres.
 
-use crate::tests::{CHECK, NONE, answer_on, begin, head, record};
+use crate::tests::{NONE, answer_on, begin, head, record};
 use std::alloc::Global;
 use std::test::Fail;
 use std::thread::Threads;
@@ -87,7 +87,10 @@ pub fn end(out: &mut Vec<u8>) -> Result<(), Fail> {
     record(out, [7, 0], &[])
 }
 
-/// Checks the structure `t` of a library, and compares the status and the text.
+/// How many workers do a check.
+const WORKERS: [&str; 3] = ["1", "2", "64"];
+
+/// Checks the structure `t` of a library by 1, 2 and 64 workers, and compares the status and the text.
 fn gives<R: Threads + Sync>(
     rt: &R,
     alloc: Global,
@@ -98,8 +101,14 @@ fn gives<R: Threads + Sync>(
 ) -> Result<bool, Fail> {
     let mut gds = gds;
     record(&mut gds, [4, 0], &[])?;
-    let (ended, out) = answer_on(alloc, &CHECK, tech, gds, rt, NONE)?;
-    Ok(ended == status && out.written() == text)
+    for workers in WORKERS {
+        let words = ["check", "t.toml", "a.gds", "t", workers];
+        let (ended, out) = answer_on(alloc, &words, tech, gds.clone()?, rt, NONE)?;
+        if ended != status || out.written() != text {
+            return Ok(false);
+        }
+    }
+    Ok(true)
 }
 
 pub fn started(alloc: Global) -> Result<Vec<u8>, Fail> {
@@ -306,10 +315,10 @@ fn references_that_are_refused(rt: HostRuntime) -> Result<(), Fail> {
     assert!(rt; gives(&rt, alloc, NARROW, deep, 3, b"openram: 33 TooDeep 33\n")?);
     let mut far = started(alloc)?;
     begin(&mut far, b"c\0")?;
-    rectangle(&mut far, alloc, 10, [0, 0, 10, 10])?;
+    rectangle(&mut far, alloc, 10, [0, 0, 4, 4])?;
     end(&mut far)?;
     begin(&mut far, b"t\0")?;
-    reference(&mut far, alloc, b"c\0", [2_147_483_640, 0])?;
+    reference(&mut far, alloc, b"c\0", [2_147_483_646, 0])?;
     end(&mut far)?;
     assert!(rt;
         gives(

@@ -1,30 +1,30 @@
 //! The program.
 #![tactic(auto)]
 
+mod answer;
 mod command;
-mod compare;
 mod file;
 mod finish;
+#[cfg(test)]
+mod hostile;
+mod inputs;
 #[cfg(test)]
 mod inverters;
 #[cfg(test)]
 mod layouts;
+#[cfg(test)]
+mod meeting;
 mod print;
-mod program;
 mod run;
-mod stop;
 #[cfg(test)]
 mod tests;
-mod work;
 
+use crate::finish::NO_MEMORY;
 use crate::run::run;
 use or_host::{FileStore, StreamSink};
 use std::env;
 use std::io::ErrorKind;
 use std::process::ExitCode;
-
-/// Where the words find no memory.
-const NO_MEMORY: u8 = 5;
 
 /// The words after the program's name. A word that isn't UTF-8 leaves no words, which is no form.
 fn words(rt: &HostRuntime) -> Option<Vec<String>> {

@@ -1,68 +1,75 @@
-ghost use Rattle.std.specs.Prelude.{◌≡◌, ◌<◌, ◌⊎◌, ◌↔◌, [], true, None, map, string_bytes};
-ghost use Rattle.or_host.specs.Fault.{Rose};
+ghost use Rattle.std.specs.Prelude.{◌≡◌, ◌<◌, IfOk, map, string_bytes};
+ghost use Rattle.std.specs.Option.{is_none};
 ghost use Rattle.or_host.specs.Files.{Files};
-ghost use Rattle.or_host.specs.Text.{Grows};
+ghost use Rattle.openram_cli.specs.Answer.{IsWork};
 ghost use Rattle.openram_cli.specs.Command.{command_of};
-ghost use Rattle.openram_cli.specs.Finished.{IsCut, IsStopped};
 ghost use Rattle.openram_cli.specs.OneAnswer.{HaveOneAnswer};
-ghost use Rattle.reply_lines.specs.Lines.{lines_text};
-ghost use Rattle.openram_cli.specs.Printed.{IsWhole};
-ghost use Rattle.reply_lines.specs.Reply.{refusal_reply};
-ghost use Rattle.openram_cli.specs.Run.{IsAnswered, IsFaultEnd, IsMemoryEnd};
-ghost use Rattle.openram_cli.specs.Told.{IfTold, is_usage_refusal};
+ghost use Rattle.openram_cli.specs.Outcome.{is_usage_outcome};
+ghost use Rattle.openram_cli.specs.Outside.{store_state, sink_state, outside_at};
+ghost use Rattle.openram_cli.specs.Reading.{HasRead};
+ghost use Rattle.openram_cli.specs.Run.{IsProgramRun};
 
-use crate::finish::{finish, no_memory, read_failed};
-use crate::program::reply_to;
-use crate::stop::Stop;
+use crate::answer::answer;
+use crate::command::command_in;
+use crate::finish::{finish, refuse};
+use crate::inputs::read_inputs;
 use or_host::{Sink, Store};
 use reply_lines::{Refusal, Reply};
 use std::alloc::Global;
 use std::thread::Threads;
+use tile_checker::{Gate, OpenGate};
 
-/// Prints a refusal, as `finish` prints a reply.
-fn refuse<K: Sink>(alloc: Global, refusal: &Refusal, out: &mut K) -> u8
-    ensures range { result < 6 }
-    ensures status { result < 4 → (result ≡ (refusal_reply refusal.now).status) × ((result ≡ 2) ↔ (is_usage_refusal refusal.now ≡ true)) }
-    ensures printed { result < 4 → Grows (IsWhole (lines_text (refusal_reply refusal.now).lines)) (K.written out.old) (K.written out.new) }
-    ensures clean { result < 4 → K.faults out.new ≡ K.faults out.old }
-    ensures fault { result ≡ 4 → Rose (K.faults out.old) (K.faults out.new) }
-    ensures cut { result ≡ 4 → Grows (IsCut (refusal_reply refusal.now).lines) (K.written out.old) (K.written out.new) }
-    ensures memory { result ≡ 5 → Grows (IsStopped (refusal_reply refusal.now).lines) (K.written out.old) (K.written out.new) }
-    ensures memory_clean { result ≡ 5 → K.faults out.new ≡ K.faults out.old }
+/// Reads what the words name, and answers it.
+fn reply_to<R: Threads + Sync, G: Gate + Sync, S: Store>(
+    rt: &R,
+    alloc: Global,
+    gate: &G,
+    words: &[String],
+    store: &mut S,
+) -> Result<Reply, Refusal>
+    ensures read { HasRead (IsWork (map string_bytes words.now)) result (store_state (S.files store.old) (S.faults store.old)) (store_state (S.files store.new) (S.faults store.new)) }
+    ensures small { IfOk result (λ reply. reply.status < 2) }
+    ensures usage { is_usage_outcome result ≡ is_none (command_of (map string_bytes words.now)) }
 {
-    match Reply::refused(alloc, refusal) {
+    let Some(command) = command_in(words) else {
+        return Err(Refusal::Usage);
+    };
+    let inputs = read_inputs(alloc, command.asked, store)?;
+    answer(rt, alloc, gate, &inputs, command.workers)
+}
+
+/// The same as `run`, for tests: each worker of a check enters the gate before all else.
+pub fn run_gated<R: Threads + Sync, G: Gate + Sync, S: Store, K: Sink>(
+    rt: &R,
+    alloc: Global,
+    gate: &G,
+    words: &[String],
+    store: &mut S,
+    out: &mut K,
+) -> u8
+    ensures run { IsProgramRun (map string_bytes words.now) result (outside_at (store_state (S.files store.old) (S.faults store.old)) (sink_state (K.written out.old) (K.faults out.old))) (outside_at (store_state (S.files store.new) (S.faults store.new)) (sink_state (K.written out.new) (K.faults out.new))) }
+    // Over files of bytes the words have one answer at most, so status and text are a function of them.
+    ensures one { (files : Files) → HaveOneAnswer (map string_bytes words.now) files }
+{
+    match reply_to(rt, alloc, gate, words, store) {
         Ok(reply) => finish(&reply, out),
-        Err(_) => no_memory(out),
+        Err(refusal) => refuse(alloc, &refusal, out),
     }
 }
 
 /// All that the program does: it reads the files that the words name, prints each line by one call of `put`, and
 /// answers the exit status. 0: done. 1: a check found violations. 2: the words are no form. 3: an input is
-/// refused. 4: the store or the sink failed, and its count of faults rose. 5: memory was wanting.
+/// refused. 4: the store or the sink failed, and its count of faults rose. 5: out of memory.
 pub fn run<R: Threads + Sync, S: Store, K: Sink>(
-    _: &R,
+    rt: &R,
     alloc: Global,
     words: &[String],
     store: &mut S,
     out: &mut K,
 ) -> u8
-    ensures range { result < 6 }
-    ensures answered { result < 4 → IfTold (S.files store.old) (λ files. IsAnswered (map string_bytes words.now) files result (K.written out.old) (K.written out.new)) }
-    ensures clean { result < 4 → (S.faults store.new ≡ S.faults store.old) × (K.faults out.new ≡ K.faults out.old) }
-    ensures usage { result < 4 → ((result ≡ 2) ↔ (command_of (map string_bytes words.now) ≡ None)) }
-    ensures fault { result ≡ 4 → Rose (S.faults store.old) (S.faults store.new) ⊎ Rose (K.faults out.old) (K.faults out.new) }
-    ensures cut { result ≡ 4 → IfTold (S.files store.old) (λ files. IsFaultEnd (map string_bytes words.now) files (S.faults store.old) (S.faults store.new) (K.faults out.old) (K.faults out.new) (K.written out.old) (K.written out.new)) }
-    ensures memory { result ≡ 5 → IfTold (S.files store.old) (λ files. IsMemoryEnd (map string_bytes words.now) files (S.faults store.old) (S.faults store.new) (K.written out.old) (K.written out.new)) }
-    ensures memory_clean { result ≡ 5 → K.faults out.new ≡ K.faults out.old }
-    ensures silent { result ≡ 5 → (S.faults store.new ≡ S.faults store.old) ⊎ (Rose (S.faults store.old) (S.faults store.new) × Grows (λ text. text ≡ []) (K.written out.old) (K.written out.new)) }
-    ensures files { S.files store.new ≡ S.files store.old }
+    ensures run { IsProgramRun (map string_bytes words.now) result (outside_at (store_state (S.files store.old) (S.faults store.old)) (sink_state (K.written out.old) (K.faults out.old))) (outside_at (store_state (S.files store.new) (S.faults store.new)) (sink_state (K.written out.new) (K.faults out.new))) }
     // Over files of bytes the words have one answer at most, so status and text are a function of them.
     ensures one { (files : Files) → HaveOneAnswer (map string_bytes words.now) files }
 {
-    match reply_to(alloc, words, store) {
-        Ok(reply) => finish(&reply, out),
-        Err(Stop::Refused(refusal)) => refuse(alloc, &refusal, out),
-        Err(Stop::ReadFailed(name)) => read_failed(alloc, name, out),
-        Err(Stop::Memory) => no_memory(out),
-    }
+    run_gated(rt, alloc, &OpenGate, words, store, out)
 }

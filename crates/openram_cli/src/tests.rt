@@ -9,13 +9,13 @@ use std::test::Fail;
 use std::thread::Threads;
 
 /// One layer with a width rule of 4 and a space rule of 5.
-const PLAIN: &[u8] =
+pub const PLAIN: &[u8] =
     b"outline = \"m1\"\n[[layer]]\nname = \"m1\"\ngds = [10, 0]\n[[rule]]\nkind = \"width\"\nlayer = \"m1\"\nmin = 4\n[[rule]]\nkind = \"space\"\nlayer = \"m1\"\nother = \"m1\"\nmin = 5\n";
 
 /// Two corners of a rectangle: x1, y1, x2 and y2.
-type Corners = [u8; 4];
+pub type Corners = [u8; 4];
 
-const FIRST: Corners = [0, 0, 4, 4];
+pub const FIRST: Corners = [0, 0, 4, 4];
 
 pub fn record(out: &mut Vec<u8>, code: [u8; 2], content: &[u8]) -> Result<(), Fail> {
     let size = u8::try_from(content.len().saturating_add(4))
@@ -71,7 +71,7 @@ pub fn begin(out: &mut Vec<u8>, name: &[u8]) -> Result<(), Fail> {
 }
 
 /// A library `a` with a structure `t` of these rectangles.
-fn library_with(
+pub fn library_with(
     alloc: Global,
     rectangles: &[Corners],
     dropped: bool,
@@ -88,7 +88,7 @@ fn library_with(
     Ok(out)
 }
 
-fn library(alloc: Global, rectangles: &[Corners]) -> Result<Vec<u8>, Fail> {
+pub fn library(alloc: Global, rectangles: &[Corners]) -> Result<Vec<u8>, Fail> {
     library_with(alloc, rectangles, false, [0x5A, 0x54])
 }
 
@@ -162,41 +162,25 @@ pub fn answer_of<R: Threads + Sync>(
 
 pub const CHECK: [&str; 5] = ["check", "t.toml", "a.gds", "t", "1"];
 
-fn second<R: Threads + Sync>(
-    rt: &R,
-    alloc: Global,
-    corners: Corners,
-) -> Result<(u8, MemSink), Fail> {
-    answer(alloc, &CHECK, PLAIN, &[FIRST, corners], rt, NONE)
-}
+/// A rectangle beside the first, the status, and what is printed.
+type Pair = (Corners, u8, &'static [u8]);
+
+/// The least distance is 5, and joined rectangles need none.
+const PAIRS: [Pair; 5] = [
+    ([9, 0, 13, 4], 0, b""),
+    ([8, 0, 12, 4], 1, b"1 m1 0 0 4 4 m1 8 0 12 4\n"),
+    ([4, 4, 8, 8], 1, b"1 m1 0 0 4 4 m1 4 4 8 8\n"),
+    ([7, 8, 11, 12], 0, b""),
+    ([7, 7, 11, 11], 1, b"1 m1 0 0 4 4 m1 7 7 11 11\n"),
+];
 
 #[test]
-fn two_rectangles_apart(rt: HostRuntime) -> Result<(), Fail> {
-    expect_reply(&rt, second(&rt, rt.alloc(), [9, 0, 13, 4])?, 0, b"");
-    expect_reply(&rt, second(&rt, rt.alloc(), [7, 8, 11, 12])?, 0, b"");
-    Ok(())
-}
-
-#[test]
-fn two_rectangles_near(rt: HostRuntime) -> Result<(), Fail> {
-    expect_reply(
-        &rt,
-        second(&rt, rt.alloc(), [8, 0, 12, 4])?,
-        1,
-        b"1 m1 0 0 4 4 m1 8 0 12 4\n",
-    );
-    expect_reply(
-        &rt,
-        second(&rt, rt.alloc(), [4, 4, 8, 8])?,
-        1,
-        b"1 m1 0 0 4 4 m1 4 4 8 8\n",
-    );
-    expect_reply(
-        &rt,
-        second(&rt, rt.alloc(), [7, 7, 11, 11])?,
-        1,
-        b"1 m1 0 0 4 4 m1 7 7 11 11\n",
-    );
+fn two_rectangles(rt: HostRuntime) -> Result<(), Fail> {
+    let alloc = rt.alloc();
+    for (corners, status, text) in PAIRS {
+        let reply = answer(alloc, &CHECK, PLAIN, &[FIRST, corners], &rt, NONE)?;
+        expect_reply(&rt, reply, status, text);
+    }
     Ok(())
 }
 
@@ -211,133 +195,76 @@ fn an_empty_structure(rt: HostRuntime) -> Result<(), Fail> {
     Ok(())
 }
 
-#[test]
-fn names_that_are_not_there(rt: HostRuntime) -> Result<(), Fail> {
-    let alloc = rt.alloc();
-    expect_reply(
-        &rt,
-        answer(
-            alloc,
-            &["check", "t.toml", "a.gds", "z", "1"],
-            PLAIN,
-            &[FIRST],
-            &rt,
-            NONE,
-        )?,
+/// Words, the status, and what is printed.
+type Words = (&'static [&'static str], u8, &'static [u8]);
+
+const WORDS: [Words; 8] = [
+    (
+        &["check", "t.toml", "a.gds", "z", "1"],
         3,
         b"openram: 31 UnknownStruct z\n",
-    );
-    expect_reply(
-        &rt,
-        answer(
-            alloc,
-            &["check", "u.toml", "a.gds", "t", "1"],
-            PLAIN,
-            &[],
-            &rt,
-            NONE,
-        )?,
+    ),
+    (
+        &["check", "u.toml", "a.gds", "t", "1"],
         3,
         b"openram: 67 NoFile u.toml\n",
-    );
-    expect_reply(
-        &rt,
-        answer(
-            alloc,
-            &["check", "t.toml", "b.gds", "t", "1"],
-            PLAIN,
-            &[],
-            &rt,
-            NONE,
-        )?,
+    ),
+    (
+        &["check", "t.toml", "b.gds", "t", "1"],
         3,
         b"openram: 67 NoFile b.gds\n",
-    );
-    Ok(())
-}
+    ),
+    (
+        &["check", "t.toml", "a.gds", "t", "0"],
+        2,
+        b"openram: 90 Usage\n",
+    ),
+    (
+        &["check", "t.toml", "a.gds", "t", "65"],
+        2,
+        b"openram: 90 Usage\n",
+    ),
+    (
+        &["check", "t.toml", "a.gds", "t", "08"],
+        2,
+        b"openram: 90 Usage\n",
+    ),
+    (
+        &["check", "t.toml", "a.gds", "t"],
+        2,
+        b"openram: 90 Usage\n",
+    ),
+    (&[], 2, b"openram: 90 Usage\n"),
+];
 
 #[test]
-fn words_that_are_no_form(rt: HostRuntime) -> Result<(), Fail> {
+fn words_that_are_refused(rt: HostRuntime) -> Result<(), Fail> {
     let alloc = rt.alloc();
-    expect_reply(
-        &rt,
-        answer(
-            alloc,
-            &["check", "t.toml", "a.gds", "t", "65"],
-            PLAIN,
-            &[],
-            &rt,
-            NONE,
-        )?,
-        2,
-        b"openram: 90 Usage\n",
-    );
-    expect_reply(
-        &rt,
-        answer(alloc, &[], PLAIN, &[], &rt, NONE)?,
-        2,
-        b"openram: 90 Usage\n",
-    );
+    for (words, status, text) in WORDS {
+        let reply = answer(alloc, words, PLAIN, &[FIRST], &rt, NONE)?;
+        expect_reply(&rt, reply, status, text);
+    }
     Ok(())
 }
 
-/// A sink that fails prints the first half.
+/// Which call of the store fails, which of the sink, and what is printed. A sink that fails prints the first half.
+type Failures = (u64, u64, &'static [u8]);
+
+const FAILURES: [Failures; 4] = [
+    (1, 0, b"openram: 91 ReadFailed t.toml\n"),
+    (2, 0, b"openram: 91 ReadFailed a.gds\n"),
+    (0, 1, b"1 m1 0 0 4 4"),
+    (1, 1, b"openram: 91 Rea"),
+];
+
 #[test]
 fn calls_that_fail(rt: HostRuntime) -> Result<(), Fail> {
     let alloc = rt.alloc();
-    let near = [FIRST, [8, 0, 12, 4]];
-    expect_reply(
-        &rt,
-        answer(
-            alloc,
-            &CHECK,
-            PLAIN,
-            &near,
-            &rt,
-            Failing { store: 1, sink: 0 },
-        )?,
-        4,
-        b"openram: 91 ReadFailed t.toml\n",
-    );
-    expect_reply(
-        &rt,
-        answer(
-            alloc,
-            &CHECK,
-            PLAIN,
-            &near,
-            &rt,
-            Failing { store: 2, sink: 0 },
-        )?,
-        4,
-        b"openram: 91 ReadFailed a.gds\n",
-    );
-    expect_reply(
-        &rt,
-        answer(
-            alloc,
-            &CHECK,
-            PLAIN,
-            &near,
-            &rt,
-            Failing { store: 0, sink: 1 },
-        )?,
-        4,
-        b"1 m1 0 0 4 4",
-    );
-    expect_reply(
-        &rt,
-        answer(
-            alloc,
-            &CHECK,
-            PLAIN,
-            &near,
-            &rt,
-            Failing { store: 1, sink: 1 },
-        )?,
-        4,
-        b"openram: 91 Rea",
-    );
+    for (store, sink, text) in FAILURES {
+        let failing = Failing { store, sink };
+        let reply = answer(alloc, &CHECK, PLAIN, &[FIRST, [8, 0, 12, 4]], &rt, failing)?;
+        expect_reply(&rt, reply, 4, text);
+    }
     Ok(())
 }
 
@@ -370,53 +297,6 @@ fn dropped_records(rt: HostRuntime) -> Result<(), Fail> {
         answer_on(alloc, &CHECK, PLAIN, gds, &rt, NONE)?,
         1,
         b"1 m1 0 0 4 4 m1 8 0 12 4\n",
-    );
-    Ok(())
-}
-
-/// The second real of UNITS may be off by rounding, and not by more.
-#[test]
-fn units_within_rounding(rt: HostRuntime) -> Result<(), Fail> {
-    let alloc = rt.alloc();
-    let near = library_with(alloc, &[FIRST], false, [0x5B, 0x54])?;
-    expect_reply(
-        &rt,
-        answer_on(alloc, &CHECK, PLAIN, near, &rt, NONE)?,
-        0,
-        b"",
-    );
-    let far = library_with(alloc, &[FIRST], false, [0x5B, 0x55])?;
-    expect_reply(
-        &rt,
-        answer_on(alloc, &CHECK, PLAIN, far, &rt, NONE)?,
-        3,
-        b"openram: 4 BadUnits 40\n",
-    );
-    Ok(())
-}
-
-#[test]
-fn where_a_library_ends(rt: HostRuntime) -> Result<(), Fail> {
-    let alloc = rt.alloc();
-    let mut cut = library(alloc, &[FIRST])?;
-    cut.truncate(130);
-    expect_reply(
-        &rt,
-        answer_on(alloc, &CHECK, PLAIN, cut, &rt, NONE)?,
-        3,
-        b"openram: 1 Truncated 110\n",
-    );
-    let mut zeros = library(alloc, &[FIRST])?;
-    zeros.extend_from_slice(&[0; 6])?;
-    let (status, _) = answer_on(alloc, &CHECK, PLAIN, zeros, &rt, NONE)?;
-    assert_eq!(rt; status, 0);
-    let mut more = library(alloc, &[FIRST])?;
-    more.extend_from_slice(&[7])?;
-    expect_reply(
-        &rt,
-        answer_on(alloc, &CHECK, PLAIN, more, &rt, NONE)?,
-        3,
-        b"openram: 8 TrailingBytes 166\n",
     );
     Ok(())
 }

@@ -4,7 +4,7 @@ use Rattle.net_extractor.specs.declared.difference.PinName.{PinName}
 use Rattle.net_extractor.specs.declared.difference.NetDiff.{NetDiff}
 use Rattle.net_extractor.specs.declared.difference.NetDiff.TheVariants.{Unlabelled, Stranger, Open, Short}
 use Rattle.reply_lines.specs.declared.reply.Reply.{Reply}
-use Rattle.reply_lines.specs.Lines.{line_text}
+use Rattle.reply_lines.specs.Lines.{reply_line}
 use Rattle.reply_lines.specs.NetLines.{pin_text}
 
 abbrev pub pin_word : PinName → List ℕ
@@ -20,4 +20,4 @@ difference_words (Short first second) = codes "Short" ∷ (pin_word first ∷ (p
 -- status 0 and nothing where there is none, else status 1 and its line
 abbrev pub comparison_reply : Option NetDiff → Reply
 comparison_reply None = record { status = 0; lines = [] }
-comparison_reply (Some d) = record { status = 1; lines = line_text (difference_words d) ∷ [] }
+comparison_reply (Some d) = record { status = 1; lines = reply_line (difference_words d) ∷ [] }

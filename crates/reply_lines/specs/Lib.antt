@@ -1,5 +1,6 @@
 pub mod Lines
 pub mod Refusals
+pub mod Statuses
 pub mod Reply
 pub mod NetLines
 pub mod Differences

@@ -12,8 +12,8 @@ sentence [] = []
 sentence (word ∷ words) = word ++ spaced words
 
 -- and the line's end
-abbrev pub line_text : List (List ℕ) → List ℕ
-line_text words = sentence words ++ 10 ∷ []
+abbrev pub reply_line : List (List ℕ) → List ℕ
+reply_line words = sentence words ++ 10 ∷ []
 
 -- lines one after another
 abbrev pub lines_text : List (List ℕ) → List ℕ

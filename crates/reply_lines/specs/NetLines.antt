@@ -4,13 +4,13 @@ use Rattle.std.specs.Fmt.{decimal}
 use Rattle.tech_rules.specs.declared.tech.Layer.{Layer}
 use Rattle.net_extractor.specs.declared.label.NetLabel.{NetLabel}
 use Rattle.reply_lines.specs.declared.reply.Reply.{Reply}
-use Rattle.reply_lines.specs.Lines.{line_text}
+use Rattle.reply_lines.specs.Lines.{reply_line}
 use Rattle.reply_lines.specs.Reply.{layer_name}
 
 -- the net's number, or `-` where the label binds no shape
-abbrev pub net_text : Option ℕ → List ℕ
-net_text None = 45 ∷ []
-net_text (Some number) = decimal number
+abbrev pub net_word : Option ℕ → List ℕ
+net_word None = 45 ∷ []
+net_word (Some number) = decimal number
 
 -- the path, `/` and the name; the name alone where the path is empty
 abbrev pub pin_text : List ℕ → List ℕ → List ℕ
@@ -19,10 +19,10 @@ pin_text (b ∷ bs) name = (b ∷ bs) ++ (47 ∷ name)
 
 -- the label's net, its layer's name, and its path and name as a pin
 abbrev pub net_words : List Layer → NetLabel → List (List ℕ)
-net_words layers label = net_text label.net ∷ (layer_name layers label.layer ∷ (pin_text label.path label.name ∷ []))
+net_words layers label = net_word label.net ∷ (layer_name layers label.layer ∷ (pin_text label.path label.name ∷ []))
 
 abbrev pub net_lines : List Layer → List NetLabel → List (List ℕ)
-net_lines layers labels = map (λ label. line_text (net_words layers label)) labels
+net_lines layers labels = map (λ label. reply_line (net_words layers label)) labels
 
 abbrev pub nets_reply : List Layer → List NetLabel → Reply
 nets_reply layers labels = record { status = 0; lines = net_lines layers labels }

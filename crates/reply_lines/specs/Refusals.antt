@@ -1,10 +1,10 @@
 -- The line of each refusal: its number, its name and its fields.
 use Rattle.std.specs.Prelude.{ℕ, List, [], ◌∷◌, codes}
 use Rattle.std.specs.Fmt.{decimal, signed_decimal}
-use Rattle.gds_stream.specs.declared.fault.GdsFault.{GdsFault}
-use Rattle.gds_stream.specs.declared.fault.GdsFault.TheVariants as gds
-use Rattle.tech_keys.specs.declared.fault.TechFault.{TechFault}
-use Rattle.tech_keys.specs.declared.fault.TechFault.TheVariants as tech
+use Rattle.gds_library.specs.declared.fault.GdsFault.{GdsFault}
+use Rattle.gds_library.specs.declared.fault.GdsFault.TheVariants as gds
+use Rattle.tech_rules.specs.declared.fault.TechFault.{TechFault}
+use Rattle.tech_rules.specs.declared.fault.TechFault.TheVariants as tech
 use Rattle.spice_text.specs.declared.fault.SpiceFault.{SpiceFault}
 use Rattle.spice_text.specs.declared.fault.SpiceFault.TheVariants as spice
 use Rattle.spice_netlist.specs.declared.fault.FlatFault.{FlatFault}
@@ -12,7 +12,7 @@ use Rattle.spice_netlist.specs.declared.fault.FlatFault.TheVariants as rows
 use Rattle.cell_hierarchy.specs.declared.fault.FlattenFault.{FlattenFault}
 use Rattle.cell_hierarchy.specs.declared.fault.FlattenFault.TheVariants as flatten
 use Rattle.reply_lines.specs.declared.refusal.Refusal.{Refusal}
-use Rattle.reply_lines.specs.declared.refusal.Refusal.TheVariants.{Usage, NoFile, TooLong, Tech, Gds, Spice, Flatten, Rows}
+use Rattle.reply_lines.specs.declared.refusal.Refusal.TheVariants.{Usage, NoFile, TooLong, ReadFailed, Tech, Gds, Spice, Flatten, Rows, Memory}
 
 abbrev pub headed : ℕ → List ℕ → List (List ℕ) → List (List ℕ)
 headed number name fields = codes "openram:" ∷ (decimal number ∷ (name ∷ fields))
@@ -66,8 +66,10 @@ abbrev pub refusal_words : Refusal → List (List ℕ)
 refusal_words Usage = headed 90 (codes "Usage") []
 refusal_words (NoFile name) = headed 67 (codes "NoFile") (name ∷ [])
 refusal_words (TooLong name) = headed 68 (codes "TooLong") (name ∷ [])
+refusal_words (ReadFailed name) = headed 91 (codes "ReadFailed") (name ∷ [])
 refusal_words (Tech fault) = tech_words fault
 refusal_words (Gds fault) = gds_words fault
 refusal_words (Spice fault) = spice_words fault
 refusal_words (Flatten fault) = flatten_words fault
 refusal_words (Rows fault) = rows_words fault
+refusal_words Memory = headed 94 (codes "Memory") []

@@ -6,28 +6,18 @@ use Rattle.or_geom.specs.declared.shape.Shape.{Shape}
 use Rattle.tech_rules.specs.declared.tech.Layer.{Layer}
 use Rattle.tile_checker.specs.declared.violation.Violation.{Violation}
 use Rattle.reply_lines.specs.declared.refusal.Refusal.{Refusal}
-use Rattle.reply_lines.specs.declared.refusal.Refusal.TheVariants.{Usage, NoFile, TooLong, Tech, Gds, Spice, Flatten, Rows}
 use Rattle.reply_lines.specs.declared.reply.Reply.{Reply}
-use Rattle.reply_lines.specs.Lines.{line_text}
+use Rattle.reply_lines.specs.Lines.{reply_line}
 use Rattle.reply_lines.specs.Refusals.{refusal_words}
+use Rattle.reply_lines.specs.Statuses.{refusal_status}
 
--- 2 where the words are no form, else 3
-abbrev pub refusal_status : Refusal → ℕ
-refusal_status Usage = 2
-refusal_status (NoFile name) = 3
-refusal_status (TooLong name) = 3
-refusal_status (Tech fault) = 3
-refusal_status (Gds fault) = 3
-refusal_status (Spice fault) = 3
-refusal_status (Flatten fault) = 3
-refusal_status (Rows fault) = 3
-
+-- the status and the line of a refusal
 abbrev pub refusal_reply : Refusal → Reply
-refusal_reply r = record { status = refusal_status r; lines = line_text (refusal_words r) ∷ [] }
+refusal_reply r = record { status = refusal_status r; lines = reply_line (refusal_words r) ∷ [] }
 
--- the name of a layer, by its place
+-- the name of a layer, by its index
 abbrev pub layer_name : List Layer → ℕ → List ℕ
-layer_name layers place = option_map_or (λ (l : Layer). l.name) (slice_get layers place) []
+layer_name layers index = option_map_or (λ (l : Layer). l.name) (slice_get layers index) []
 
 -- a shape: its layer's name and four numbers
 abbrev pub shape_words : List Layer → Shape → List (List ℕ)
@@ -42,7 +32,7 @@ abbrev pub violation_words : List Layer → Violation → List (List ℕ)
 violation_words layers v = decimal v.rule ∷ (shape_words layers v.first ++ second_words layers v.second)
 
 abbrev pub report_lines : List Layer → List Violation → List (List ℕ)
-report_lines layers violations = map (λ v. line_text (violation_words layers v)) violations
+report_lines layers violations = map (λ v. reply_line (violation_words layers v)) violations
 
 -- status 0 where nothing is found, else 1
 abbrev pub report_status : List Violation → ℕ

@@ -1,44 +1,42 @@
-ghost use Rattle.std.specs.Prelude.{◌≡◌, IfOk, OnOk, ◌++◌, ◌∷◌, []};
+ghost use Rattle.std.specs.Prelude.{◌≡◌, IfOk, ◌∷◌, []};
+ghost use Rattle.reply_lines.specs.Lines.{reply_line};
 ghost use Rattle.reply_lines.specs.Differences.{pin_word, difference_words, comparison_reply};
 
-use crate::line::Line;
-use crate::net_lines::pin_text;
+use crate::line::ReplyLine;
 use crate::reply::Reply;
-use crate::text::text_of;
 use net_extractor::{NetDiff, PinName};
 use or_geom::{Items, Memory};
 use std::alloc::Global;
 
-/// Adds a pin: its path, `/` and its name.
-fn add_pin(alloc: Global, line: &mut Line, pin: &PinName) -> Result<(), Memory>
-    ensures { OnOk result (line.new ≡ line.old ++ pin_word pin.now ∷ []) }
-{
-    let text = pin_text(alloc, pin.path.as_bytes(), pin.pin.as_bytes())?;
-    line.word(text.as_bytes())
-}
-
 /// A line of a word and a pin.
-fn one_pin(alloc: Global, name: &[u8], pin: &PinName) -> Result<Line, Memory>
-    ensures { IfOk result (λ line. line ≡ name.now ∷ pin_word pin.now ∷ []) }
+fn one_pin(alloc: Global, name: &[u8], pin: &PinName) -> Result<ReplyLine, Memory>
+    ensures { IfOk result (λ line. line ≡ reply_line (name.now ∷ pin_word pin.now ∷ [])) }
 {
-    let mut line = Line::new(alloc);
-    line.word(name)?;
-    add_pin(alloc, &mut line, pin)?;
+    let mut line = ReplyLine::of(alloc, name)?;
+    line.pin(pin.path.as_bytes(), pin.pin.as_bytes())?;
+    line.end()?;
     Ok(line)
 }
 
 /// A line of a word and two pins.
-fn two_pins(alloc: Global, name: &[u8], first: &PinName, second: &PinName) -> Result<Line, Memory>
-    ensures { IfOk result (λ line. line ≡ name.now ∷ pin_word first.now ∷ pin_word second.now ∷ []) }
+fn two_pins(
+    alloc: Global,
+    name: &[u8],
+    first: &PinName,
+    second: &PinName,
+) -> Result<ReplyLine, Memory>
+    ensures { IfOk result (λ line. line ≡ reply_line (name.now ∷ pin_word first.now ∷ pin_word second.now ∷ [])) }
 {
-    let mut line = one_pin(alloc, name, first)?;
-    add_pin(alloc, &mut line, second)?;
+    let mut line = ReplyLine::of(alloc, name)?;
+    line.pin(first.path.as_bytes(), first.pin.as_bytes())?;
+    line.pin(second.path.as_bytes(), second.pin.as_bytes())?;
+    line.end()?;
     Ok(line)
 }
 
 /// The line of a difference.
-fn difference_line(alloc: Global, difference: &NetDiff) -> Result<Line, Memory>
-    ensures { IfOk result (λ line. line ≡ difference_words difference.now) }
+fn difference_line(alloc: Global, difference: &NetDiff) -> Result<ReplyLine, Memory>
+    ensures { IfOk result (λ line. line ≡ reply_line (difference_words difference.now)) }
 {
     match difference {
         NetDiff::Unlabelled { pin } => one_pin(alloc, b"Unlabelled", pin),
@@ -56,8 +54,7 @@ pub fn comparison_reply(alloc: Global, difference: &Option<NetDiff>) -> Result<R
     match difference {
         None => Ok(Reply { status: 0, lines }),
         Some(difference) => {
-            let line = difference_line(alloc, difference)?;
-            lines.push(text_of(alloc, line.words())?)?;
+            lines.push(difference_line(alloc, difference)?)?;
             Ok(Reply { status: 1, lines })
         }
     }

@@ -1,27 +1,27 @@
 ghost use Rattle.std.specs.Prelude.{◌≡◌, ◌++◌, IfOk, OnOk};
+ghost use Rattle.reply_lines.specs.Lines.{spaced, reply_line};
 ghost use Rattle.reply_lines.specs.Reply.{layer_name, shape_words, violation_words, report_lines, report_reply};
 
-use crate::line::Line;
+use crate::line::ReplyLine;
 use crate::reply::Reply;
-use crate::text::text_of;
-use or_geom::{Items, Memory, Name, Shape};
+use or_geom::{Items, Memory, Shape};
 use std::alloc::Global;
 use tech_rules::Layer;
 use tile_checker::Violation;
 
-/// The name of a layer, by its place in the technology.
-pub fn name_of(layers: &[Layer], place: u16) -> &[u8]
-    ensures { result.now ≡ layer_name layers.now place }
+/// The name of a layer, by its index in the technology.
+pub fn name_of(layers: &[Layer], index: u16) -> &[u8]
+    ensures { result.now ≡ layer_name layers.now index }
 {
-    match layers.get(usize::from(place)) {
+    match layers.get(usize::from(index)) {
         Some(layer) => layer.name.as_bytes(),
         None => b"",
     }
 }
 
 /// Adds a shape: its layer's name and four numbers.
-fn add_shape(line: &mut Line, layers: &[Layer], shape: Shape) -> Result<(), Memory>
-    ensures { OnOk result (line.new ≡ line.old ++ shape_words layers.now shape) }
+fn add_shape(line: &mut ReplyLine, layers: &[Layer], shape: Shape) -> Result<(), Memory>
+    ensures { OnOk result (line.new ≡ line.old ++ spaced (shape_words layers.now shape)) }
 {
     line.word(name_of(layers, shape.layer))?;
     line.signed(shape.rect.x1)?;
@@ -32,15 +32,19 @@ fn add_shape(line: &mut Line, layers: &[Layer], shape: Shape) -> Result<(), Memo
 }
 
 /// The line of a violation.
-fn violation_line(alloc: Global, layers: &[Layer], violation: Violation) -> Result<Line, Memory>
-    ensures { IfOk result (λ line. line ≡ violation_words layers.now violation) }
+fn violation_line(
+    alloc: Global,
+    layers: &[Layer],
+    violation: Violation,
+) -> Result<ReplyLine, Memory>
+    ensures { IfOk result (λ line. line ≡ reply_line (violation_words layers.now violation)) }
 {
-    let mut line = Line::new(alloc);
-    line.number(u64::from(violation.rule))?;
+    let mut line = ReplyLine::of_number(alloc, u64::from(violation.rule))?;
     add_shape(&mut line, layers, violation.first)?;
     if let Some(second) = violation.second {
         add_shape(&mut line, layers, second)?;
     }
+    line.end()?;
     Ok(line)
 }
 
@@ -49,13 +53,12 @@ fn lines_of(
     alloc: Global,
     layers: &[Layer],
     violations: &[Violation],
-) -> Result<Items<Name>, Memory>
+) -> Result<Items<ReplyLine>, Memory>
     ensures { IfOk result (λ lines. lines ≡ report_lines layers.now violations.now) }
 {
     let mut lines = Items::new(alloc);
     for violation in violations {
-        let line = violation_line(alloc, layers, *violation)?;
-        lines.push(text_of(alloc, line.words())?)?;
+        lines.push(violation_line(alloc, layers, *violation)?)?;
     }
     Ok(lines)
 }

@@ -1,65 +1,91 @@
-ghost use Rattle.std.specs.Prelude.{◌≡◌, ◌++◌, ◌∷◌, [], OnOk};
+ghost use Rattle.std.specs.Prelude.{◌≡◌, ◌++◌, ◌∷◌, [], IfOk, OnOk};
 ghost use Rattle.std.specs.Fmt.{decimal, signed_decimal};
+ghost use Rattle.reply_lines.specs.NetLines.{pin_text};
 
-use or_geom::{Memory, Name};
+use itoa::Buffer;
+use or_geom::Memory;
 use std::alloc::Global;
 use std::marker::Model;
 
-/// A printed line in the making. Contracts see it as the list of its words.
-#[derive(Drop)]
-pub struct Line {
-    alloc: Global,
-    words: Vec<Name>,
+/// A printed line in the making: words with single spaces between them, in one buffer. Contracts see it as its bytes so far.
+#[derive(Debug, Drop)]
+pub struct ReplyLine {
+    text: Vec<u8>,
 }
 
-impl Model for Line {
+impl Model for ReplyLine {
     ghost use Rattle.std.specs.Prelude.{List, ℕ};
-    ghost use Rattle.std.specs.Coded.{coded_list, coded_ℕ};
 
-    ghost Value = { List (List ℕ) };
+    ghost Value = { List ℕ };
 
-    ghost view = { λ l. l.words.items };
+    ghost view = { λ l. l.text.items };
 }
 
-impl Line {
-    /// A line without words.
-    pub fn new(alloc: Global) -> Self
-        ensures { result ≡ [] }
+impl ReplyLine {
+    /// A line that begins with a word.
+    pub fn of(alloc: Global, word: &[u8]) -> Result<Self, Memory>
+        ensures { IfOk result (λ line. line ≡ word.now) }
     {
-        Line {
-            alloc,
-            words: Vec::new(alloc),
-        }
+        Ok(ReplyLine {
+            text: Vec::from_slice(alloc, word)?,
+        })
     }
 
-    /// Adds a word as it stands.
+    /// A line that begins with a number.
+    pub fn of_number(alloc: Global, number: u64) -> Result<Self, Memory>
+        ensures { IfOk result (λ line. line ≡ decimal number) }
+    {
+        let mut buffer = Buffer::new();
+        Self::of(alloc, buffer.format(number).as_bytes())
+    }
+
+    /// Adds a space and a word as it stands.
     pub fn word(&mut self, word: &[u8]) -> Result<(), Memory>
-        ensures { OnOk result (self.new ≡ self.old ++ word.now ∷ []) }
+        ensures { OnOk result (self.new ≡ self.old ++ 32 ∷ word.now) }
     {
-        let word = Name::from_bytes(self.alloc, word)?;
-        Ok(self.words.push(word)?)
+        self.text.push(b' ')?;
+        Ok(self.text.extend_from_slice(word)?)
     }
 
-    /// Adds a number.
+    /// Adds a space and a number.
     pub fn number(&mut self, number: u64) -> Result<(), Memory>
-        ensures { OnOk result (self.new ≡ self.old ++ decimal number ∷ []) }
+        ensures { OnOk result (self.new ≡ self.old ++ 32 ∷ decimal number) }
     {
-        let text = format!(in self.alloc; "{number}")?;
-        self.word(text.as_bytes())
+        let mut buffer = Buffer::new();
+        self.word(buffer.format(number).as_bytes())
     }
 
-    /// Adds a number that may be negative.
+    /// Adds a space and a number that may be negative.
     pub fn signed(&mut self, number: i64) -> Result<(), Memory>
-        ensures { OnOk result (self.new ≡ self.old ++ signed_decimal number ∷ []) }
+        ensures { OnOk result (self.new ≡ self.old ++ 32 ∷ signed_decimal number) }
     {
-        let text = format!(in self.alloc; "{number}")?;
-        self.word(text.as_bytes())
+        let mut buffer = Buffer::new();
+        self.word(buffer.format(number).as_bytes())
     }
 
-    /// The words so far.
-    pub fn words(&self) -> &[Name]
+    /// Adds a space and a pin: its path, `/` and its name; the name alone where the path is empty.
+    pub fn pin(&mut self, path: &[u8], name: &[u8]) -> Result<(), Memory>
+        ensures { OnOk result (self.new ≡ self.old ++ 32 ∷ pin_text path.now name.now) }
+    {
+        if path.is_empty() {
+            return self.word(name);
+        }
+        self.word(path)?;
+        self.text.push(b'/')?;
+        Ok(self.text.extend_from_slice(name)?)
+    }
+
+    /// Adds the line's end.
+    pub fn end(&mut self) -> Result<(), Memory>
+        ensures { OnOk result (self.new ≡ self.old ++ 10 ∷ []) }
+    {
+        Ok(self.text.push(b'\n')?)
+    }
+
+    /// The bytes of the line.
+    pub fn as_bytes(&self) -> &[u8]
         ensures { result.now ≡ self.now }
     {
-        &self.words
+        &self.text
     }
 }

@@ -1,17 +1,19 @@
 ghost use Rattle.std.specs.Prelude.{◌≡◌, ◌∷◌, [], IfOk};
 ghost use Rattle.std.specs.Fmt.{decimal, signed_decimal};
+ghost use Rattle.reply_lines.specs.Lines.{sentence, reply_line};
 ghost use Rattle.reply_lines.specs.Refusals.{headed, refusal_words, gds_words, tech_words, spice_words, flatten_words, rows_words};
+ghost use Rattle.reply_lines.specs.Statuses.{is_memory, is_read_failure, refusal_status};
 
-use crate::line::Line;
+use crate::line::ReplyLine;
 use cell_hierarchy::FlattenFault;
-use gds_stream::GdsFault;
+use gds_library::GdsFault;
 use or_geom::{Memory, Name, Point};
 use spice_netlist::FlatFault;
 use spice_text::SpiceFault;
 use std::alloc::Global;
 use tech_rules::TechFault;
 
-/// Why the inputs are refused. Each has a number and a name, with which it is printed.
+/// Why there is no answer. Each has a number and a name, with which it is printed, and a status.
 #[derive(Debug, Drop)]
 pub enum Refusal {
     /// The words are no form of the program.
@@ -20,6 +22,8 @@ pub enum Refusal {
     NoFile { name: Name },
     /// A file is longer than 64 MiB.
     TooLong { name: Name },
+    /// The store failed to read a file.
+    ReadFailed { name: Name },
     /// The technology's file is no technology.
     Tech(TechFault),
     /// The GDSII file is no library.
@@ -30,73 +34,87 @@ pub enum Refusal {
     Flatten(FlattenFault),
     /// The subcircuit has no flat rows.
     Rows(FlatFault),
+    /// Out of memory, as each of the faults above may be too.
+    Memory,
 }
 
-/// A line that begins with the number and the name of a refusal.
-fn headed(alloc: Global, number: u64, name: &[u8]) -> Result<Line, Memory>
-    ensures { IfOk result (λ line. line ≡ headed number name.now []) }
+/// The beginning of the line of a refusal: its number and its name.
+fn heading(alloc: Global, number: u64, name: &[u8]) -> Result<ReplyLine, Memory>
+    ensures { IfOk result (λ line. line ≡ sentence (headed number name.now [])) }
 {
-    let mut line = Line::new(alloc);
-    line.word(b"openram:")?;
+    let mut line = ReplyLine::of(alloc, b"openram:")?;
     line.number(number)?;
     line.word(name)?;
     Ok(line)
 }
 
-/// A line with one name as its field.
-fn named(alloc: Global, number: u64, name: &[u8], field: &Name) -> Result<Line, Memory>
-    ensures { IfOk result (λ line. line ≡ headed number name.now (field.now ∷ [])) }
+/// A line without fields.
+fn plain(alloc: Global, number: u64, name: &[u8]) -> Result<ReplyLine, Memory>
+    ensures { IfOk result (λ line. line ≡ reply_line (headed number name.now [])) }
 {
-    let mut line = headed(alloc, number, name)?;
+    let mut line = heading(alloc, number, name)?;
+    line.end()?;
+    Ok(line)
+}
+
+/// A line with one name as its field.
+fn named(alloc: Global, number: u64, name: &[u8], field: &Name) -> Result<ReplyLine, Memory>
+    ensures { IfOk result (λ line. line ≡ reply_line (headed number name.now (field.now ∷ []))) }
+{
+    let mut line = heading(alloc, number, name)?;
     line.word(field.as_bytes())?;
+    line.end()?;
     Ok(line)
 }
 
 /// A line with one number as its field.
-fn placed(alloc: Global, number: u64, name: &[u8], at: u64) -> Result<Line, Memory>
-    ensures { IfOk result (λ line. line ≡ headed number name.now (decimal at ∷ [])) }
+fn placed(alloc: Global, number: u64, name: &[u8], at: u64) -> Result<ReplyLine, Memory>
+    ensures { IfOk result (λ line. line ≡ reply_line (headed number name.now (decimal at ∷ []))) }
 {
-    let mut line = headed(alloc, number, name)?;
+    let mut line = heading(alloc, number, name)?;
     line.number(at)?;
+    line.end()?;
     Ok(line)
 }
 
 /// A line with two numbers as its fields.
-fn counted(alloc: Global, number: u64, name: &[u8], a: u64, b: u64) -> Result<Line, Memory>
-    ensures { IfOk result (λ line. line ≡ headed number name.now (decimal a ∷ decimal b ∷ [])) }
+fn counted(alloc: Global, number: u64, name: &[u8], a: u64, b: u64) -> Result<ReplyLine, Memory>
+    ensures { IfOk result (λ line. line ≡ reply_line (headed number name.now (decimal a ∷ decimal b ∷ []))) }
 {
-    let mut line = headed(alloc, number, name)?;
+    let mut line = heading(alloc, number, name)?;
     line.number(a)?;
     line.number(b)?;
+    line.end()?;
     Ok(line)
 }
 
 /// A line with a point's coordinates as its fields.
-fn pointed(alloc: Global, number: u64, name: &[u8], p: Point) -> Result<Line, Memory>
-    ensures { IfOk result (λ line. line ≡ headed number name.now (signed_decimal p.x ∷ signed_decimal p.y ∷ [])) }
+fn pointed(alloc: Global, number: u64, name: &[u8], p: Point) -> Result<ReplyLine, Memory>
+    ensures { IfOk result (λ line. line ≡ reply_line (headed number name.now (signed_decimal p.x ∷ signed_decimal p.y ∷ []))) }
 {
-    let mut line = headed(alloc, number, name)?;
+    let mut line = heading(alloc, number, name)?;
     line.signed(p.x)?;
     line.signed(p.y)?;
+    line.end()?;
     Ok(line)
 }
 
-fn tech_line(alloc: Global, fault: &TechFault) -> Result<Line, Memory>
-    ensures { IfOk result (λ line. line ≡ tech_words fault.now) }
+fn tech_line(alloc: Global, fault: &TechFault) -> Result<ReplyLine, Memory>
+    ensures { IfOk result (λ line. line ≡ reply_line (tech_words fault.now)) }
 {
     match fault {
-        TechFault::NotToml => headed(alloc, 21, b"NotToml"),
+        TechFault::NotToml => plain(alloc, 21, b"NotToml"),
         TechFault::Missing { key } => named(alloc, 22, b"Missing", key),
         TechFault::WrongKind { key } => named(alloc, 23, b"WrongKind", key),
         TechFault::OutOfRange { key } => named(alloc, 24, b"OutOfRange", key),
         TechFault::UnknownLayer { key } => named(alloc, 25, b"UnknownLayer", key),
         TechFault::BadWire { layer } => named(alloc, 26, b"BadWire", layer),
-        TechFault::Memory => headed(alloc, 94, b"Memory"),
+        TechFault::Memory => plain(alloc, 94, b"Memory"),
     }
 }
 
-fn flatten_line(alloc: Global, fault: &FlattenFault) -> Result<Line, Memory>
-    ensures { IfOk result (λ line. line ≡ flatten_words fault.now) }
+fn flatten_line(alloc: Global, fault: &FlattenFault) -> Result<ReplyLine, Memory>
+    ensures { IfOk result (λ line. line ≡ reply_line (flatten_words fault.now)) }
 {
     match fault {
         FlattenFault::UnknownStruct { name } => named(alloc, 31, b"UnknownStruct", name),
@@ -106,12 +124,12 @@ fn flatten_line(alloc: Global, fault: &FlattenFault) -> Result<Line, Memory>
             counted(alloc, 34, b"TooMany", *shapes, *labels)
         }
         FlattenFault::Far { x, y } => pointed(alloc, 35, b"Far", Point { x: *x, y: *y }),
-        FlattenFault::Memory => headed(alloc, 94, b"Memory"),
+        FlattenFault::Memory => plain(alloc, 94, b"Memory"),
     }
 }
 
-fn spice_line(alloc: Global, fault: SpiceFault) -> Result<Line, Memory>
-    ensures { IfOk result (λ line. line ≡ spice_words fault) }
+fn spice_line(alloc: Global, fault: SpiceFault) -> Result<ReplyLine, Memory>
+    ensures { IfOk result (λ line. line ≡ reply_line (spice_words fault)) }
 {
     match fault {
         SpiceFault::NotAscii { at } => placed(alloc, 11, b"NotAscii", at),
@@ -120,24 +138,24 @@ fn spice_line(alloc: Global, fault: SpiceFault) -> Result<Line, Memory>
         SpiceFault::Duplicate { line } => placed(alloc, 14, b"Duplicate", line),
         SpiceFault::Refused { line } => placed(alloc, 15, b"Refused", line),
         SpiceFault::BadLine { line } => placed(alloc, 19, b"BadLine", line),
-        SpiceFault::Memory => headed(alloc, 94, b"Memory"),
+        SpiceFault::Memory => plain(alloc, 94, b"Memory"),
     }
 }
 
-fn rows_line(alloc: Global, fault: &FlatFault) -> Result<Line, Memory>
-    ensures { IfOk result (λ line. line ≡ rows_words fault.now) }
+fn rows_line(alloc: Global, fault: &FlatFault) -> Result<ReplyLine, Memory>
+    ensures { IfOk result (λ line. line ≡ reply_line (rows_words fault.now)) }
 {
     match fault {
         FlatFault::UnknownSubckt { name } => named(alloc, 16, b"UnknownSubckt", name),
         FlatFault::Cycle { name } => named(alloc, 18, b"Cycle", name),
         FlatFault::PortCount { path } => named(alloc, 17, b"PortCount", path),
         FlatFault::TooMany { count } => placed(alloc, 20, b"TooMany", *count),
-        FlatFault::Memory => headed(alloc, 94, b"Memory"),
+        FlatFault::Memory => plain(alloc, 94, b"Memory"),
     }
 }
 
-fn gds_line(alloc: Global, fault: GdsFault) -> Result<Line, Memory>
-    ensures { IfOk result (λ line. line ≡ gds_words fault) }
+fn gds_line(alloc: Global, fault: GdsFault) -> Result<ReplyLine, Memory>
+    ensures { IfOk result (λ line. line ≡ reply_line (gds_words fault)) }
 {
     match fault {
         GdsFault::Truncated { at } => placed(alloc, 1, b"Truncated", at),
@@ -149,24 +167,123 @@ fn gds_line(alloc: Global, fault: GdsFault) -> Result<Line, Memory>
         GdsFault::BadPath { at } => placed(alloc, 7, b"BadPath", at),
         GdsFault::TrailingBytes { at } => placed(alloc, 8, b"TrailingBytes", at),
         GdsFault::Twice { at } => placed(alloc, 10, b"Twice", at),
-        GdsFault::Memory => headed(alloc, 94, b"Memory"),
+        GdsFault::Memory => plain(alloc, 94, b"Memory"),
+    }
+}
+
+/// Out of memory, in a layer below or here.
+impl From<Memory> for Refusal {
+    ghost use Rattle.reply_lines.specs.declared.refusal.Refusal.TheVariants as refusal_of;
+
+    ghost from_gives = { λ _ r. r ≡ refusal_of.Memory };
+
+    fn from(_: Memory) -> Self {
+        Refusal::Memory
+    }
+}
+
+impl From<TechFault> for Refusal {
+    ghost use Rattle.reply_lines.specs.declared.refusal.Refusal.TheVariants as refusal_of;
+
+    ghost from_gives = { λ fault r. r ≡ refusal_of.Tech fault };
+
+    fn from(fault: TechFault) -> Self {
+        Refusal::Tech(fault)
+    }
+}
+
+impl From<GdsFault> for Refusal {
+    ghost use Rattle.reply_lines.specs.declared.refusal.Refusal.TheVariants as refusal_of;
+
+    ghost from_gives = { λ fault r. r ≡ refusal_of.Gds fault };
+
+    fn from(fault: GdsFault) -> Self {
+        Refusal::Gds(fault)
+    }
+}
+
+impl From<SpiceFault> for Refusal {
+    ghost use Rattle.reply_lines.specs.declared.refusal.Refusal.TheVariants as refusal_of;
+
+    ghost from_gives = { λ fault r. r ≡ refusal_of.Spice fault };
+
+    fn from(fault: SpiceFault) -> Self {
+        Refusal::Spice(fault)
+    }
+}
+
+impl From<FlattenFault> for Refusal {
+    ghost use Rattle.reply_lines.specs.declared.refusal.Refusal.TheVariants as refusal_of;
+
+    ghost from_gives = { λ fault r. r ≡ refusal_of.Flatten fault };
+
+    fn from(fault: FlattenFault) -> Self {
+        Refusal::Flatten(fault)
+    }
+}
+
+impl From<FlatFault> for Refusal {
+    ghost use Rattle.reply_lines.specs.declared.refusal.Refusal.TheVariants as refusal_of;
+
+    ghost from_gives = { λ fault r. r ≡ refusal_of.Rows fault };
+
+    fn from(fault: FlatFault) -> Self {
+        Refusal::Rows(fault)
     }
 }
 
 impl Refusal {
+    /// Whether memory ran out, here or in a layer below.
+    pub fn is_memory(&self) -> bool
+        ensures { result ≡ is_memory self.now }
+    {
+        matches!(
+            self,
+            Refusal::Memory
+                | Refusal::Tech(TechFault::Memory)
+                | Refusal::Gds(GdsFault::Memory)
+                | Refusal::Spice(SpiceFault::Memory)
+                | Refusal::Flatten(FlattenFault::Memory)
+                | Refusal::Rows(FlatFault::Memory)
+        )
+    }
+
+    /// Whether a file couldn't be read.
+    pub fn is_read_failure(&self) -> bool
+        ensures { result ≡ is_read_failure self.now }
+    {
+        matches!(self, Refusal::ReadFailed { .. })
+    }
+
+    /// The exit status. 2: the words are no form. 3: an input is refused. 4: the store failed. 5: out of memory.
+    pub fn status(&self) -> u8
+        ensures { result ≡ refusal_status self.now }
+    {
+        if self.is_memory() {
+            return 5;
+        }
+        match self {
+            Refusal::Usage => 2,
+            Refusal::ReadFailed { .. } => 4,
+            _ => 3,
+        }
+    }
+
     /// The line that is printed of it.
-    pub fn line(&self, alloc: Global) -> Result<Line, Memory>
-        ensures { IfOk result (λ line. line ≡ refusal_words self.now) }
+    pub fn line(&self, alloc: Global) -> Result<ReplyLine, Memory>
+        ensures { IfOk result (λ line. line ≡ reply_line (refusal_words self.now)) }
     {
         match self {
-            Refusal::Usage => headed(alloc, 90, b"Usage"),
+            Refusal::Usage => plain(alloc, 90, b"Usage"),
             Refusal::NoFile { name } => named(alloc, 67, b"NoFile", name),
             Refusal::TooLong { name } => named(alloc, 68, b"TooLong", name),
+            Refusal::ReadFailed { name } => named(alloc, 91, b"ReadFailed", name),
             Refusal::Tech(fault) => tech_line(alloc, fault),
             Refusal::Gds(fault) => gds_line(alloc, *fault),
             Refusal::Spice(fault) => spice_line(alloc, *fault),
             Refusal::Flatten(fault) => flatten_line(alloc, fault),
             Refusal::Rows(fault) => rows_line(alloc, fault),
+            Refusal::Memory => plain(alloc, 94, b"Memory"),
         }
     }
 }

@@ -1,24 +1,13 @@
-use Rattle.std.proofs.Common.{inl}
-use Rattle.openram_cli.proofs.EndLaws.{grows, grows_on, cut_early, stopped_early}
+use Rattle.std.proofs.Common.{refl}
+use Rattle.openram_cli.specs.Outside.{sink_state}
+use Rattle.openram_cli.proofs.EndLaws.{not_all}
 use Rattle.openram_cli.proofs.finish.finish.Goals as goal
 
-pub returns-in-Err-Failed-clause-cut : goal.returns-in-Err-Failed-clause-cut
-returns-in-Err-Failed-clause-cut g c four =
-    let printed = rw c.as_slice.ensures at (rw c.in-Err-Failed.field-0-is at c.in-Err-Failed.ensures.printed) in
-    grows _ _ (g.K.Sink.written c.args.out.now) (g.K.Sink.written c.print.new.out) (λ text front. inl front) printed
-
-pub returns-in-Err-Memory-clause-cut : goal.returns-in-Err-Memory-clause-cut
-returns-in-Err-Memory-clause-cut g c four =
-    let old = g.K.Sink.written c.args.out.now in
-    let mid = g.K.Sink.written c.print.new.out in
-    let new = g.K.Sink.written c.no_memory.new.out in
+pub returns-in-Err-Memory : goal.returns-in-Err-Memory
+returns-in-Err-Memory g c =
     let printed = rw c.as_slice.ensures at (rw c.in-Err-Memory.field-0-is at c.in-Err-Memory.ensures.printed) in
-    grows _ _ old new (cut_early _) (grows_on _ _ old mid new printed (c.no_memory.ensures.cut four))
-
-pub returns-in-Err-Memory-clause-memory : goal.returns-in-Err-Memory-clause-memory
-returns-in-Err-Memory-clause-memory g c five =
-    let old = g.K.Sink.written c.args.out.now in
-    let mid = g.K.Sink.written c.print.new.out in
-    let new = g.K.Sink.written c.no_memory.new.out in
-    let printed = rw c.as_slice.ensures at (rw c.in-Err-Memory.field-0-is at c.in-Err-Memory.ensures.printed) in
-    grows _ _ old new (stopped_early _) (grows_on _ _ old mid new printed (c.no_memory.ensures.printed five))
+    let cause = rw c.in-Err-Memory.field-0-is at c.in-Err-Memory.ensures.cause in
+    let mid = sink_state (g.K.Sink.written c.print.new.out) (g.K.Sink.faults c.print.new.out) in
+    let before = sink_state (g.K.Sink.written c.args.out.now) (g.K.Sink.faults c.args.out.now) in
+    let now = sink_state (g.K.Sink.written c.no_memory.new.out) (g.K.Sink.faults c.no_memory.new.out) in
+    not_all c.args.reply.now c.no_memory.result before mid now printed (cause.kept refl) c.no_memory.ensures

@@ -1,0 +1,92 @@
+-- What a command reads: its files in the order of its words, each decoded before the next is read.
+use Rattle.std.specs.Prelude.{◌≡◌, ◌⊎◌, ℕ, ◌<◌, ◌≤◌, List, length, Some, None, Result, Ok, Err}
+use Rattle.or_host.specs.Files.{Files}
+use Rattle.gds_library.specs.declared.library.Library.{Library}
+use Rattle.gds_library.specs.FirstFault.{IsFaultOf}
+use Rattle.gds_library.specs.Grammar.{Spells}
+use Rattle.gds_library.specs.Writable.{IsWritable}
+use Rattle.tech_rules.specs.Facts.{IsTech}
+use Rattle.tech_rules.specs.Technology.{technology}
+use Rattle.tech_rules.specs.declared.tech.Tech.{Tech}
+use Rattle.netlist.specs.declared.deck.Deck.{Deck}
+use Rattle.spice_text.specs.Deck.{deck}
+use Rattle.reply_lines.specs.declared.refusal.Refusal.{Refusal}
+use Rattle.reply_lines.specs.declared.refusal.Refusal.TheVariants as refusal_of
+use Rattle.openram_cli.specs.declared.inputs.Inputs.{Inputs}
+use Rattle.openram_cli.specs.declared.inputs.Inputs.TheVariants as inputs
+use Rattle.openram_cli.specs.declared.inputs.Layout.{Layout}
+use Rattle.openram_cli.specs.Command.{Command, LayoutWords}
+use Rattle.openram_cli.specs.Command.Command.{check, nets, compare}
+use Rattle.openram_cli.specs.Outcome.{WithoutRefusal, ValueOrFault, Then}
+
+-- 64 MiB
+abbrev pub limit : ℕ
+limit = 67108864
+
+-- the file is there, and not too long
+pub record IsReadable (files : Files) (name bytes : List ℕ) : Type 0 where
+  pub holds : files name ≡ Some bytes
+  pub fits : length bytes ≤ limit
+
+-- the file is there, and too long
+abbrev pub IsTooLong : Files → List ℕ → Type 0
+IsTooLong files name = (bytes : List ℕ) × (files name ≡ Some bytes) × (limit < length bytes)
+
+-- the bytes of a file, unless its read failed, or it isn't there, or is too long
+abbrev pub IsFile : Files → List ℕ → Result (List ℕ) Refusal → Type 0
+IsFile files name (Ok bytes) = IsReadable files name bytes
+IsFile files name (Err refusal) =
+    (refusal ≡ refusal_of.ReadFailed name)
+    ⊎ (((refusal ≡ refusal_of.NoFile name) × (files name ≡ None))
+    ⊎ ((refusal ≡ refusal_of.TooLong name) × IsTooLong files name))
+
+-- the technology that bytes are, or what is wrong with them
+abbrev pub IsTechnology : List ℕ → Result Tech Refusal → Type 0
+IsTechnology bytes = ValueOrFault (λ tech. technology bytes ≡ Ok tech) (λ fault. technology bytes ≡ Err fault) refusal_of.Tech
+
+-- the library that bytes spell, or their first fault
+abbrev pub IsLibrary : List ℕ → Result Library Refusal → Type 0
+IsLibrary bytes = ValueOrFault (Spells bytes) (λ fault. IsFaultOf fault bytes) refusal_of.Gds
+
+-- the deck that bytes are, or their first fault
+abbrev pub IsDeck : List ℕ → Result Deck Refusal → Type 0
+IsDeck bytes = ValueOrFault (λ d. deck bytes ≡ Ok d) (λ fault. deck bytes ≡ Err fault) refusal_of.Spice
+
+-- files, read and decoded
+abbrev pub IsTechnologyFile : Files → List ℕ → Result Tech Refusal → Type 0
+IsTechnologyFile files name = Then (IsFile files name) IsTechnology
+
+abbrev pub IsLibraryFile : Files → List ℕ → Result Library Refusal → Type 0
+IsLibraryFile files name = Then (IsFile files name) IsLibrary
+
+abbrev pub IsDeckFile : Files → List ℕ → Result Deck Refusal → Type 0
+IsDeckFile files name = Then (IsFile files name) IsDeck
+
+-- the layout after the technology
+abbrev pub IsLayoutWith : Files → LayoutWords → Tech → Result Layout Refusal → Type 0
+IsLayoutWith files words tech =
+    Then (IsLibraryFile files words.gds) (λ lib. WithoutRefusal (λ layout. layout ≡ record { tech = tech; lib = lib; top = words.top }))
+
+-- the technology first, and then the layout
+abbrev pub IsLayout : Files → LayoutWords → Result Layout Refusal → Type 0
+IsLayout files words = Then (IsTechnologyFile files words.tech) (IsLayoutWith files words)
+
+-- the netlist after the layout
+abbrev pub AreCompared : Files → List ℕ → Layout → Result Inputs Refusal → Type 0
+AreCompared files netlist layout = Then (IsDeckFile files netlist) (λ d. WithoutRefusal (λ read. read ≡ inputs.Compare layout d))
+
+-- what the files of a command hold; a comparison reads the netlist last
+abbrev pub AreInputs : Files → Command → Result Inputs Refusal → Type 0
+AreInputs files (check words) = Then (IsLayout files words) (λ layout. WithoutRefusal (λ read. read ≡ inputs.Check layout))
+AreInputs files (nets words) = Then (IsLayout files words) (λ layout. WithoutRefusal (λ read. read ≡ inputs.Nets layout))
+AreInputs files (compare words netlist) = Then (IsLayout files words) (AreCompared files netlist)
+
+-- what is known of every technology and every library that is read
+pub record IsSoundLayout (layout : Layout) : Type 0 where
+  pub tech : IsTech layout.tech
+  pub writable : IsWritable layout.lib
+
+abbrev pub AreSound : Inputs → Type 0
+AreSound (inputs.Check layout) = IsSoundLayout layout
+AreSound (inputs.Nets layout) = IsSoundLayout layout
+AreSound (inputs.Compare layout d) = IsSoundLayout layout

@@ -1,0 +1,77 @@
+//! That the workers of a check run beside each other.
+
+use crate::run::run_gated;
+use crate::tests::{FIRST, PLAIN, expect_reply, file, library};
+use or_host::{MemSink, MemStore};
+use std::sync::atomic::{AtomicU64, Ordering};
+use std::test::Fail;
+use tile_checker::Gate;
+
+/// How often a worker looks whether the other one has entered.
+const TURNS: u64 = 100_000_000;
+
+/// What the gate has seen of a worker: whether it has entered, and whether it met the limit of turns.
+#[derive(Drop)]
+struct Seen {
+    entered: AtomicU64,
+    late: AtomicU64,
+}
+
+/// Holds worker 0 until worker 1 has entered, and the reverse.
+#[derive(Drop)]
+struct Meeting {
+    first: Seen,
+    second: Seen,
+}
+
+fn unseen() -> Seen {
+    Seen {
+        entered: AtomicU64::new(0),
+        late: AtomicU64::new(0),
+    }
+}
+
+/// A worker enters, and waits for the other one.
+fn wait_for(own: &Seen, other: &Seen) {
+    own.entered.store(1, Ordering::SeqCst);
+    for _ in 0..TURNS {
+        if other.entered.load(Ordering::SeqCst) == 1 {
+            return;
+        }
+    }
+    own.late.store(1, Ordering::SeqCst);
+}
+
+impl Gate for Meeting {
+    fn enter(&self, worker: u8) {
+        if worker == 0 {
+            wait_for(&self.first, &self.second);
+        } else {
+            wait_for(&self.second, &self.first);
+        }
+    }
+}
+
+#[test]
+fn two_workers_meet(rt: HostRuntime) -> Result<(), Fail> {
+    let alloc = rt.alloc();
+    let mut words = Vec::new(alloc);
+    for word in ["check", "t.toml", "a.gds", "t", "2"] {
+        words.push(String::from_str(alloc, word)?)?;
+    }
+    let mut files = Vec::new(alloc);
+    files.push(file(alloc, b"t.toml", PLAIN.to_vec(alloc)?)?)?;
+    let gds = library(alloc, &[FIRST, [8, 0, 12, 4]])?;
+    files.push(file(alloc, b"a.gds", gds)?)?;
+    let mut store = MemStore::with(alloc, files, Vec::new(alloc));
+    let mut out = MemSink::with(alloc, Vec::new(alloc));
+    let gate = Meeting {
+        first: unseen(),
+        second: unseen(),
+    };
+    let status = run_gated(&rt, alloc, &gate, &words, &mut store, &mut out);
+    expect_reply(&rt, (status, out), 1, b"1 m1 0 0 4 4 m1 8 0 12 4\n");
+    assert_eq!(rt; gate.first.late.load(Ordering::SeqCst), 0);
+    assert_eq!(rt; gate.second.late.load(Ordering::SeqCst), 0);
+    Ok(())
+}
