@@ -5,3 +5,5 @@ pub mod LowestLaws
 pub mod SpelledLaws
 pub mod CanonicalLaws
 pub mod AppendLaws
+pub mod RunLaws
+pub mod NamesLaws

@@ -1,3 +1,5 @@
 pub mod Turned
 pub mod Canonical
 pub mod Written
+pub mod Bounds
+pub mod NewName

@@ -246,7 +246,7 @@ fn write_body(out: &mut Vec<u8>, element: &Element) -> Result<(), Memory>
 }
 
 /// The properties of an element.
-fn properties_of(element: &Element) -> &[Prop]
+pub(crate) fn properties_of(element: &Element) -> &[Prop]
     ensures { result.now ≡ props_of element.now }
 {
     match element {
