@@ -1,12 +1,13 @@
 ghost use Rattle.std.specs.Prelude.{◌≡◌, ◌↔◌, ◌≤◌, length, IsTrue, IfOk, MatchOption, OnOk};
 ghost use Rattle.or_geom.specs.Adds.{Adds};
-ghost use Rattle.or_geom.specs.Covered.{IsCovered};
+ghost use Rattle.or_geom.specs.Covered.{HasCellInSome, IsCovered};
+ghost use Rattle.or_geom.specs.Row.{IsFound};
 ghost use Rattle.shape_bins.specs.Layers.{rects_on};
 ghost use Rattle.shape_bins.specs.Forest.{IsForest};
 ghost use Rattle.shape_bins.specs.Hits.{IsNearShape, NoHitFrom, IsFirstHit};
 ghost use Rattle.shape_bins.specs.declared.query.Query.TheVariants.{Meets, At};
 
-use crate::cover::box_covered;
+use crate::cover::{box_covered, rect_at};
 use crate::layers::forest;
 use crate::node::Node;
 use crate::query::Query;
@@ -66,6 +67,13 @@ impl<'b> Bins<'b> {
         ensures { MatchOption result (NoHitFrom self.now layer (At point) 0) (IsFirstHit self.now layer (At point) 0) }
     {
         least_near(self.nodes, layer, Query::At(point), 0)
+    }
+
+    /// One of the layer's rectangles that hold the unit cell with this lower left corner.
+    pub fn rect_at(&self, layer: u16, cell: Point) -> Option<Rect>
+        ensures { MatchOption result (HasCellInSome (rects_on layer self.now) cell.x cell.y → ⊥) (IsFound (rects_on layer self.now) cell) }
+    {
+        rect_at(self.shapes, self.nodes, layer, cell)
     }
 
     /// Whether each unit cell of the area lies in some shape of the layer.

@@ -35,7 +35,7 @@ fn is_over(node: Node, layer: u16, cell: Point) -> bool
 }
 
 /// One of the layer's shapes that hold the cell.
-fn rect_at(_shapes: &[Shape], nodes: &[Node], layer: u16, cell: Point) -> Option<Rect>
+pub fn rect_at(_shapes: &[Shape], nodes: &[Node], layer: u16, cell: Point) -> Option<Rect>
     requires { IsForest _shapes.now nodes.now }
     ensures { MatchOption result (HasCellInSome (rects_on layer _shapes.now) cell.x cell.y → ⊥) (IsFound (rects_on layer _shapes.now) cell) }
 {

@@ -10,4 +10,6 @@ mod PlaceLaws
 mod FirstLaws
 mod PairLaws
 mod BoxLaws
+mod StripLaws
+mod SideLaws
 pub mod OneReportLaws

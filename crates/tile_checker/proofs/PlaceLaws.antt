@@ -1,22 +1,19 @@
 -- Places in a list in strict order, and the rectangles of a layer.
-use Rattle.std.proofs.Common.{◌≡◌, inl, inr, ℕ, zero, suc, ◌+◌, ◌<◌, ◌≤◌, List, [], ◌∷◌, length, get_or, drop, Some, Bool, true, false, ◌==◌, if◌then◌else◌, refl, sym, ap, subst, ◌∙◌, arith}
+use Rattle.std.proofs.Common.{◌≡◌, inl, inr, ℕ, zero, suc, ◌+◌, ◌<◌, List, [], ◌∷◌, length, get_or, drop, Some, refl, sym, ap, subst, ◌∙◌, arith}
 use Rattle.std.specs.Prelude.{Contains, slice_get}
 use Rattle.std.specs.Cmp.{IsTotalOrder}
 use Rattle.std.specs.List.Sorted.{IsStrictlySortedBy}
 use Rattle.std.specs.declared.cmp.Ordering.{Ordering}
 use Rattle.std.specs.declared.cmp.Ordering.TheVariants.{Less}
-use Rattle.std.proofs.lemmas.List.{drop_all}
-use Rattle.std.proofs.lemmas.Bool.{cases_lt, eqb-true}
+use Rattle.std.proofs.lemmas.Bool.{cases_lt}
 use Rattle.std.proofs.lemmas.Option.{same_Some, slice_get_within, slice_get_read, slice_get-get_or, get_or_from_slice_get}
-use Rattle.or_geom.specs.declared.shape.Rect.{Rect}
 use Rattle.or_geom.specs.declared.shape.Shape.{Shape}
 use Rattle.or_geom.specs.Distance.{IsReachable}
-use Rattle.or_geom.proofs.ListLaws.{contains_none, contains_cases, contains_first, contains_later, contained_at, all_contained, rest_at}
+use Rattle.or_geom.proofs.ListLaws.{contains_none, contains_cases, contained_at, all_contained, rest_at}
 use Rattle.or_geom.proofs.OneListLaws.{not_both}
 use Rattle.or_geom.specs.Gathering.{SomeHas}
 use Rattle.or_geom.proofs.GatheringLaws.{IsAmongLeft, among_found, among_goes_on}
 use Rattle.or_geom.specs.Reachable.{AreReachable}
-use Rattle.shape_bins.specs.Layers.{rects_on}
 
 -- of two places in a list in strict order, the later has what comes after
 pub sorted_at : {X : Type 0} (order : X → X → Ordering) (xs : List X) (i j : ℕ) (a b : X) → IsStrictlySortedBy order xs → slice_get xs i ≡ Some a → slice_get xs j ≡ Some b → i < j → order a b ≡ Less
@@ -53,28 +50,6 @@ reachable_in (t ∷ ts) s all h = elim (contains_cases t ts s h) [
   | inr k ↦ reachable_in ts s all.1 k
 ]
 
--- a rectangle of the layer is a shape's
-pub record IsOfShape (layer : ℕ) (shapes : List Shape) (r : Rect) : Type 0 where
-  pub shape : Shape
-  pub there : Contains shapes shape
-  pub on : shape.layer ≡ layer
-  pub is : shape.rect ≡ r
-
-of_later : (layer : ℕ) (s : Shape) (ss : List Shape) (r : Rect) → IsOfShape layer ss r → IsOfShape layer (s ∷ ss) r
-of_later layer s ss r o = record { shape = o.shape; there = contains_later s ss o.shape o.there; on = o.on; is = o.is }
-
-of_first : (layer : ℕ) (s : Shape) (ss : List Shape) (r : Rect) (b : Bool) → (s.layer == layer) ≡ b → (Contains (rects_on layer ss) r → IsOfShape layer ss r) → Contains (if b then s.rect ∷ rects_on layer ss else rects_on layer ss) r
-    → IsOfShape layer (s ∷ ss) r
-of_first layer s ss r true e more h = elim (contains_cases s.rect (rects_on layer ss) r h) [
-  | inl is ↦ record { shape = s; there = contains_first s ss; on = eqb-true s.layer layer e; is = sym is }
-  | inr k ↦ of_later layer s ss r (more k)
-]
-of_first layer s ss r false e more h = of_later layer s ss r (more h)
-
-pub rect_shape : (layer : ℕ) (shapes : List Shape) (r : Rect) → Contains (rects_on layer shapes) r → IsOfShape layer shapes r
-rect_shape layer [] r h = absurd (contains_none r h)
-rect_shape layer (s ∷ ss) r h = of_first layer s ss r (s.layer == layer) refl (rect_shape layer ss r) h
-
 -- the item at a place, whatever is read where there is none
 item_is : {X : Type 0} (xs : List X) (i : ℕ) (d : X) → i < length xs → get_or xs i d ≡ get_or xs i (get_or xs i d)
 item_is xs i d lt = sym (get_or_from_slice_get xs i (get_or xs i d) (get_or xs i d) (slice_get-get_or xs i d lt))
@@ -90,7 +65,3 @@ item_found has xs i d lt p = among_found has xs i (get_or xs i d) lt (item_is xs
 
 pub item_passed : {X : Type 0} (has : X → Type 0) (xs : List X) (i : ℕ) (d : X) → i < length xs → (has (get_or xs i d) → ⊥) → IsAmongLeft has xs i → IsAmongLeft has xs (i + 1)
 item_passed has xs i d lt none left = among_goes_on has xs i (get_or xs i d) lt (item_is xs i d lt) none left
-
--- at the end none is left
-pub none_ahead : {X : Type 0} (has : X → Type 0) (xs : List X) (i : ℕ) → length xs ≤ i → IsAmongLeft has xs i → SomeHas has xs → ⊥
-none_ahead {X} has xs i le left h = subst (λ (l : List X). SomeHas has l) (drop_all i xs le) (left h)

@@ -1,20 +1,17 @@
 -- The report, one rule after another, and as a list in order.
-use Rattle.std.proofs.Common.{◌≡◌, ◌⊎◌, inl, inr, ℕ, ◌+◌, ◌<◌, ◌≤◌, List, [], length, get_or, refl, sym, ap, subst, ◌∙◌, arith}
-use Rattle.std.specs.Prelude.{Contains, All, slice_get}
-use Rattle.std.specs.List.Sorted.{IsStrictlySortedBy}
+use Rattle.std.proofs.Common.{◌≡◌, ◌⊎◌, inl, inr, ℕ, ◌+◌, ◌<◌, List, length, get_or, refl, sym, ap, subst, ◌∙◌, arith}
+use Rattle.std.specs.Prelude.{All, slice_get}
 use Rattle.or_geom.specs.declared.shape.Shape.{Shape}
-use Rattle.or_geom.specs.Adds.{Adds}
-use Rattle.or_geom.proofs.AddsLaws.{adds_none, adds_both, adds_as}
 use Rattle.tech_rules.specs.declared.tech.Rule.{Rule}
 use Rattle.tech_rules.specs.declared.tech.Rule.TheVariants.{Width, Space, Enclose}
 use Rattle.tech_rules.specs.declared.tech.Layer.{Layer}
 use Rattle.tech_rules.specs.Facts.{IsRule}
 use Rattle.std.proofs.lemmas.List.Elements.{All-contains}
-use Rattle.std.proofs.lemmas.Option.{same_Some, slice_get_read, slice_get_within}
+use Rattle.std.proofs.lemmas.Option.{same_Some, slice_get_read}
 use Rattle.or_geom.proofs.ListLaws.{below_or}
 use Rattle.tile_checker.specs.Minimum.{HasMinimum}
 use Rattle.tile_checker.specs.Breaks.{Breaks}
-use Rattle.tile_checker.specs.RuleReport.{IsViolation, IsReport, violation_order}
+use Rattle.tile_checker.specs.RuleReport.{IsViolation}
 use Rattle.tile_checker.specs.Found.{IsViolationOf}
 use Rattle.tile_checker.specs.declared.violation.Violation.{Violation}
 

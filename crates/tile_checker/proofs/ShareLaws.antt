@@ -2,6 +2,7 @@
 use Rattle.std.proofs.Common.{◌≡◌, Some, inl, inr, ◌↔◌, ℕ, ◌+◌, ◌<◌, ◌/◌, ◌%◌, List, [], ◌++◌, length, get_or, refl, sym, ap, subst, ◌∙◌, arith, Result, Ok, Err}
 use Rattle.std.specs.Prelude.{Contains, IfOk, slice_get}
 use Rattle.std.proofs.lemmas.Option.{slice_get-get_or, same_Some, slice_get_cases, slice_get_read}
+use Rattle.std.specs.List.Sorted.{IsStrictlySortedBy}
 use Rattle.std.specs.declared.vec.Vec.{Vec}
 use Rattle.std.specs.declared.alloc.Global.{Global}
 use Rattle.or_geom.specs.declared.shape.Shape.{Shape}
@@ -12,7 +13,7 @@ use Rattle.or_geom.specs.Gathering.{SomeGives}
 use Rattle.or_geom.proofs.GatheringLaws.{giver, gives_some}
 use Rattle.tech_rules.specs.declared.tech.Rule.{Rule}
 use Rattle.tile_checker.specs.declared.violation.Violation.{Violation}
-use Rattle.tile_checker.specs.RuleReport.{IsViolation, IsReport}
+use Rattle.tile_checker.specs.RuleReport.{IsViolation, IsReport, violation_order}
 use Rattle.tile_checker.specs.Share.{owner, IsOwn, IsShare, HasOk, IsThere, AreThere, IsUnion}
 
 -- what was added to an empty list is what it holds
@@ -81,4 +82,18 @@ union_report rules shapes workers lists all some count shares u = record {
   rises = u.rises;
   only = λ v h. only_violations rules shapes workers lists v count shares ((u.holds v).0 h);
   each = λ v violation. (u.holds v).1 (held rules shapes workers lists v some count shares u.there violation);
+}
+
+all_own : (n : ℕ) → n % 1 ≡ 0
+all_own n = grind arith
+
+-- so a worker alone has it
+pub alone_report : (rules : List Rule) (shapes : List Shape) (list all : List Violation) → IsShare rules shapes 1 0 list → IsStrictlySortedBy violation_order all → ((v : Violation) → Contains all v ↔ Contains list v) → IsReport rules shapes all
+alone_report rules shapes list all share rises same = record {
+  rises = rises;
+  only = λ v h. ((share v).0 ((same v).0 h)).found.violation;
+  each = λ v violation.
+      let first = violation.first in
+      let stands : slice_get shapes first.0 ≡ Some v.first = slice_get_read shapes (length shapes) first.0 v.first refl first.1 (sym first.2) in
+      (same v).1 ((share v).1 (record { place = first.0; found = record { at = stands; violation = violation }; owned = all_own (first.0 / 1024) }));
 }

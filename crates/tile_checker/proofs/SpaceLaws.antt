@@ -1,30 +1,17 @@
 -- There is one least distance and one gap, and what the pairs of a list find is what the rule's definition says.
-use Rattle.std.proofs.Common.{not, Option, ◌≡◌, inl, inr, ℕ, ℤ, ◌≤ℤ◌, ◌<ℤ◌, List, ◌∷◌, Some, None, refl, sym, ap, subst, ◌∙◌, arith, Bool, true, false, IsTrue, ◌↔◌}
-use Rattle.std.specs.Prelude.{Contains}
-use Rattle.std.specs.List.Sorted.{IsStrictlySortedBy}
+use Rattle.std.proofs.Common.{not, ◌≡◌, inl, inr, ℕ, ℤ, ◌≤ℤ◌, ◌<ℤ◌, List, refl, sym, subst, ◌∙◌, arith, Bool, true, false, IsTrue, ◌↔◌}
 use Rattle.std.proofs.lemmas.Int.{ints, by_lt_z}
 use Rattle.or_geom.specs.declared.shape.Rect.{Rect}
 use Rattle.or_geom.specs.declared.shape.Shape.{Shape}
 use Rattle.or_geom.specs.declared.span.Span.{Span}
 use Rattle.or_geom.specs.Covered.{IsCovered}
-use Rattle.or_geom.specs.Distance.{IsLeastDist2, IsReachable}
+use Rattle.or_geom.specs.Distance.{IsLeastDist2}
 use Rattle.or_geom.specs.Gap.{IsGap, IsGapBox, IsFromTo}
 use Rattle.or_geom.specs.Span.{across, upward}
 use Rattle.or_geom.proofs.PlaceLaws.{same_rect}
-use Rattle.or_geom.specs.Adds.{Adds}
-use Rattle.or_geom.specs.Gathering.{SomePairGives}
-use Rattle.or_geom.specs.ShapeOrder.{shape_order}
-use Rattle.or_geom.proofs.AddsLaws.{adds_as}
-use Rattle.or_geom.proofs.GatheringLaws.{pair_of, pair_gives}
-use Rattle.or_geom.proofs.ShapeOrderLaws.{shape_total}
-use Rattle.tech_rules.specs.declared.tech.Rule.{Rule}
-use Rattle.tech_rules.specs.declared.tech.Rule.TheVariants.{Space}
 use Rattle.shape_bins.specs.Layers.{rects_on, IsCoveredBy}
-use Rattle.tile_checker.specs.Breaks.{AreNear, IsGapCovered, Breaks}
-use Rattle.tile_checker.specs.RuleReport.{IsLater}
+use Rattle.tile_checker.specs.Breaks.{AreNear, IsGapCovered}
 use Rattle.tile_checker.specs.Found.{AreOn, IsGapCoveredIn, IsSpaceFound}
-use Rattle.or_geom.specs.Reachable.{AreReachable}
-use Rattle.tile_checker.specs.declared.violation.Violation.{Violation}
 use Rattle.tile_checker.specs.declared.space.SpaceRule.{SpaceRule}
 
 pub at_most : (a b : Rect) (d e : ℤ) → IsLeastDist2 a b d → IsLeastDist2 a b e → d ≤ℤ e

@@ -1,5 +1,5 @@
 -- The boxes that are tried round a rectangle, to see whether it has a width.
-use Rattle.std.specs.Prelude.{◌≡◌, ◌⊎◌, ℤ, ◌≤ℤ◌, ◌<ℤ◌, ◌+ℤ◌, ◌-ℤ◌, List, [], ◌∷◌}
+use Rattle.std.specs.Prelude.{◌≡◌, ℤ, ◌≤ℤ◌, ◌<ℤ◌, ◌+ℤ◌, ◌-ℤ◌, List}
 use Rattle.std.specs.Int.{int_max}
 use Rattle.or_geom.specs.declared.shape.Point.{Point}
 use Rattle.or_geom.specs.declared.shape.Rect.{Rect}
@@ -29,21 +29,3 @@ pub record HasBoxAt (rects : List Rect) (f : Frame) (corner : Point) : Type 0 wh
   pub low : f.low.y ≤ℤ corner.y
   pub high : corner.y ≤ℤ f.high.y
   pub covered : CoversFrom rects corner f.width f.height
-
--- one whose corner stands as low as one of these rectangles
-abbrev pub HasBoxAtLow : List Rect → Frame → ℤ → List Rect → Type 0
-HasBoxAtLow rects f x [] = ⊥
-HasBoxAtLow rects f x (r ∷ rs) = HasBoxAt rects f (point x r.y1) ⊎ HasBoxAtLow rects f x rs
-
--- one at this x, as low as the frame allows or as one of the rectangles
-abbrev pub HasBoxAlong : List Rect → Frame → ℤ → Type 0
-HasBoxAlong rects f x = HasBoxAt rects f (point x f.low.y) ⊎ HasBoxAtLow rects f x rects
-
--- one that stands as far left as one of these rectangles
-abbrev pub HasBoxAtLeft : List Rect → Frame → List Rect → Type 0
-HasBoxAtLeft rects f [] = ⊥
-HasBoxAtLeft rects f (r ∷ rs) = HasBoxAlong rects f r.x1 ⊎ HasBoxAtLeft rects f rs
-
--- one of those that are tried
-abbrev pub HasBox : List Rect → Frame → Type 0
-HasBox rects f = HasBoxAlong rects f f.low.x ⊎ HasBoxAtLeft rects f rects

@@ -6,5 +6,6 @@ pub mod Found
 pub mod Unjoined
 pub mod OneReport
 pub mod Firsts
-pub mod Boxes
+pub mod Strips
 pub mod Share
+pub mod WideArea

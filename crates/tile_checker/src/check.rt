@@ -11,11 +11,23 @@ use crate::share::share_of;
 use crate::union::union_of;
 use crate::violation::Violation;
 use cell_hierarchy::Flat;
-use or_geom::Memory;
+use or_geom::{Memory, sort_distinct};
 use shape_bins::Bins;
 use std::alloc::Global;
 use std::thread::{Threads, map_indices};
 use tech_rules::Tech;
+
+/// The report by one worker, whose list needs no other.
+fn report_alone(alloc: Global, tech: &Tech, bins: &Bins) -> Result<Vec<Violation>, Memory>
+    requires tech { IsTech tech.now }
+    requires rises { IsStrictlySortedBy shape_order bins.now }
+    requires reach { AreReachable bins.now }
+    ensures { IfOk result (λ list. IsReport tech.now.rules bins.now list.items) }
+{
+    let mut list = share_of(alloc, tech, bins, 0, 1)?;
+    sort_distinct(&mut list);
+    Ok(list)
+}
 
 /// The report of the technology's rules over the shapes, by as many workers.
 pub fn check_all<G: Gate + Sync, R: Threads + Sync>(
@@ -35,6 +47,10 @@ pub fn check_all<G: Gate + Sync, R: Threads + Sync>(
     requires few { workers ≤ 64 }
     ensures { IfOk result (λ list. IsReport tech.now.rules flat.now.shapes.now list.items) }
 {
+    if workers == 1 {
+        gate.enter(0);
+        return report_alone(alloc, tech, bins);
+    }
     let count = usize::from(workers);
     let lists = map_indices(
         rt,

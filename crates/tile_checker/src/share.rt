@@ -7,19 +7,21 @@ ghost use Rattle.tech_rules.specs.Facts.{IsTech};
 ghost use Rattle.tile_checker.specs.Minimum.{HasMinimum};
 ghost use Rattle.tile_checker.specs.Firsts.{IsAt, IsFrom, IsFoundAt};
 ghost use Rattle.tile_checker.specs.Share.{IsShare};
+ghost use Rattle.tile_checker.specs.WideArea.{IsSeen};
 
 use crate::enclose::add_encloses;
 use crate::first::{First, is_own, shape_at};
 use crate::minimum::Minimum;
 use crate::space::{SpaceRule, add_spaces};
 use crate::violation::Violation;
-use crate::width::add_widths;
+use crate::width::{WideArea, add_widths};
 use or_geom::Memory;
 use shape_bins::Bins;
 use std::alloc::Global;
 use tech_rules::{Rule, Tech};
 
-/// Adds what breaks the rule and has this first shape. `near` is a list to use again.
+/// Adds what breaks the rule and has this first shape. `near` is a list to use again, and `seen` what the last shape
+/// showed of the next ones.
 fn add_violations(
     alloc: Global,
     bins: &Bins,
@@ -27,18 +29,21 @@ fn add_violations(
     rule: &Rule,
     first: First,
     near: &mut Vec<usize>,
+    seen: &mut Option<WideArea>,
     out: &mut Vec<Violation>,
 ) -> Result<(), Memory>
     requires minimum { HasMinimum rule.now }
     requires rises { IsStrictlySortedBy shape_order bins.now }
     requires reach { AreReachable bins.now }
     requires at { IsAt bins.now first }
-    ensures { OnOk result (Adds out.old.items out.new.items (IsFrom number rule.now bins.now first)) }
+    requires seen { IsSeen bins.now seen.old }
+    ensures seen { IsSeen bins.now seen.new }
+    ensures adds { OnOk result (Adds out.old.items out.new.items (IsFrom number rule.now bins.now first)) }
 {
     match rule {
         Rule::Width { layer, min } => {
             let min = Minimum { value: *min };
-            add_widths(alloc, bins, number, *layer, min, first, near, out)
+            add_widths(alloc, bins, number, *layer, min, first, seen, out)
         }
         Rule::Space { layer, other, min } => {
             let space = SpaceRule {
@@ -63,6 +68,7 @@ fn add_of_first(
     rules: &[Rule],
     first: First,
     near: &mut Vec<usize>,
+    seen: &mut Option<WideArea>,
     out: &mut Vec<Violation>,
 ) -> Result<(), Memory>
     requires minimums { All HasMinimum rules.now }
@@ -70,10 +76,21 @@ fn add_of_first(
     requires rises { IsStrictlySortedBy shape_order bins.now }
     requires reach { AreReachable bins.now }
     requires at { IsAt bins.now first }
-    ensures { OnOk result (Adds out.old.items out.new.items (IsFoundAt rules.now bins.now first.place)) }
+    requires seen { IsSeen bins.now seen.old }
+    ensures seen { IsSeen bins.now seen.new }
+    ensures adds { OnOk result (Adds out.old.items out.new.items (IsFoundAt rules.now bins.now first.place)) }
 {
     for number in 0..rules.len() {
-        add_violations(alloc, bins, number as u32, &rules[number], first, near, out)?;
+        add_violations(
+            alloc,
+            bins,
+            number as u32,
+            &rules[number],
+            first,
+            near,
+            seen,
+            out,
+        )?;
     }
     Ok(())
 }
@@ -95,6 +112,7 @@ pub fn share_of(
     let rules = tech.rules.as_slice();
     let shapes = bins.shapes();
     let mut near = Vec::new(alloc);
+    let mut seen = None;
     let mut list = Vec::new(alloc);
     for place in 0..shapes.len() {
         if !is_own(place, worker, workers) {
@@ -104,7 +122,7 @@ pub fn share_of(
             place,
             shape: shape_at(shapes, place),
         };
-        add_of_first(alloc, bins, rules, first, &mut near, &mut list)?;
+        add_of_first(alloc, bins, rules, first, &mut near, &mut seen, &mut list)?;
     }
     Ok(list)
 }

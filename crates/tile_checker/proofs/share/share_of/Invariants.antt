@@ -1,7 +1,11 @@
 use Rattle.std.proofs.Common.{[]}
 use Rattle.or_geom.specs.Adds.{Adds}
+use Rattle.tile_checker.specs.WideArea.{IsSeen}
 use Rattle.tile_checker.proofs.FirstLaws.{IsOwnBelow}
 use Rattle.tile_checker.proofs.share.share_of.Given as goal
 
 abbrev pub invariant-loop-place : goal.invariant-loop-place
-invariant-loop-place l = Adds [] l.list.items (IsOwnBelow l.fn.tech.rules l.bins l.workers l.worker l.place)
+invariant-loop-place l = record {
+  adds : Adds [] l.list.items (IsOwnBelow l.fn.tech.rules l.bins l.workers l.worker l.place);
+  seen : IsSeen l.bins l.seen;
+}
