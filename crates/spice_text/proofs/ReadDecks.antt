@@ -14,7 +14,7 @@ use Rattle.spice_text.specs.Subcircuits.{BegunSubckt, DeckSoFar, name_of, own_na
 use Rattle.spice_text.specs.Steps.{step, stops}
 use Rattle.spice_text.specs.Deck.{finished, then_lines, deck_after, start, deck}
 use Rattle.spice_text.specs.Writable.{IsNameByte, IsName, BeginsWithX, Differ, IsWritableInstance, instance_name, IsWritableSubckt, subckt_name, lowered_instance, lowered_subckt}
-use Rattle.spice_text.specs.ReadDecks.{HasNoReturn, IsInstanceWithoutReturns, IsOfNames, DecksAreWritable, DecksAreLowered}
+use Rattle.spice_text.specs.ReadDecks.{HasNoReturn, IsInstanceWithoutReturns, IsOfNames, DecksAreWritable, DecksAreLowered, IsReadableName, SubcktNamesAreReadable}
 use Rattle.spice_text.proofs.TestLaws.{once_differ}
 use Rattle.spice_text.proofs.AppendedText.{is_read}
 use Rattle.spice_text.proofs.ReadWords.{IsLineByte, IsReadLine, lines_read, IsWordByte, IsReadName, name_low, names_low}
@@ -90,6 +90,20 @@ some_length (b ∷ name) is = omega arith
 
 is_name : (name : List ℕ) → IsReadName name → HasNoReturn name → IsName name
 is_name name h off = record { some = some_length name h.word.some; bytes = name_bytes name h.word.bytes off h.plain }
+
+-- names without =
+no_assignment : (name : List ℕ) → is_assignment name ≡ false → AllByRecursion (λ b. b ≢ 61) name
+no_assignment [] plain = tt
+no_assignment (b ∷ name) plain =
+    let parts = or_parts (b == 61) (is_assignment name) plain in
+    ((λ same. let is = eq-eqb b 61 same in let both : true ≡ false = sym is ∙ parts.0 in absurd cc), no_assignment name parts.1)
+
+readable : (ss : List Subckt) → AllByRecursion IsReadSubckt ss → AllByRecursion (λ s. IsReadableName s.name) ss
+readable [] all = tt
+readable (s ∷ ss) all = (record { some = some_length s.name all.0.name.word.some; other = no_assignment s.name all.0.name.plain }, readable ss all.1)
+
+pub subckt_names_are_readable : SubcktNamesAreReadable
+subckt_names_are_readable bytes d e = let read = deck_read bytes d e in readable d.subckts read.subckts
 
 two_all : {X : Type 0} (P Q R : X → Type 0) → ((x : X) → P x → Q x → R x) → (xs : List X) → AllByRecursion P xs → AllByRecursion Q xs → AllByRecursion R xs
 two_all P Q R f [] p q = tt

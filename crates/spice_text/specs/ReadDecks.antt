@@ -1,5 +1,5 @@
 -- What is known of every deck that is read.
-use Rattle.std.specs.Prelude.{◌≡◌, ◌≢◌, ℕ, List, [], map, Ok}
+use Rattle.std.specs.Prelude.{◌≡◌, ◌≢◌, ◌<◌, ℕ, List, [], length, map, Ok}
 use Rattle.std.specs.List.{AllByRecursion}
 use Rattle.netlist.specs.declared.deck.Deck.{Deck}
 use Rattle.netlist.specs.declared.deck.Instance.{Instance}
@@ -26,6 +26,15 @@ pub record IsOfNames (s : Subckt) : Type 0 where
 -- but for such lines and such names what is read can be written
 abbrev pub DecksAreWritable : Type 0
 DecksAreWritable = (bytes : List ℕ) (d : Deck) → deck bytes ≡ Ok d → AllByRecursion IsOfNames d.subckts → AreWritable d.subckts
+
+-- a name that isn't empty and holds no `=`
+pub record IsReadableName (name : List ℕ) : Type 0 where
+  pub some : 0 < length name
+  pub other : AllByRecursion (λ b. b ≢ 61) name
+
+-- so are the names of the subcircuits that are read
+abbrev pub SubcktNamesAreReadable : Type 0
+SubcktNamesAreReadable = (bytes : List ℕ) (d : Deck) → deck bytes ≡ Ok d → AllByRecursion (λ s. IsReadableName s.name) d.subckts
 
 -- what is read has its names in lower case, so where it can be written it is read back as the same
 abbrev pub DecksAreLowered : Type 0

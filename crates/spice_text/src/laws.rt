@@ -1,5 +1,5 @@
 ghost use Rattle.spice_text.specs.Appended.{AppendedIsRead};
-ghost use Rattle.spice_text.specs.ReadDecks.{DecksAreLowered, DecksAreWritable};
+ghost use Rattle.spice_text.specs.ReadDecks.{DecksAreLowered, DecksAreWritable, SubcktNamesAreReadable};
 
 /// Subcircuits that are written after the bytes of a deck are read after the deck's own.
 pub fn appended_is_read()
@@ -15,4 +15,9 @@ pub fn decks_are_lowered()
 /// that doesn't end a line is part of a word, and no written name has one.
 pub fn decks_are_writable()
     ensures { DecksAreWritable }
+{}
+
+/// The name of a subcircuit that is read isn't empty and holds no `=`.
+pub fn subckt_names_are_readable()
+    ensures { SubcktNamesAreReadable }
 {}

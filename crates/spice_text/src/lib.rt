@@ -17,7 +17,9 @@ mod writable;
 mod write;
 
 pub use fault::SpiceFault;
-pub use laws::{appended_is_read, decks_are_lowered, decks_are_writable};
+pub use laws::{
+    appended_is_read, decks_are_lowered, decks_are_writable, subckt_names_are_readable,
+};
 pub use read::read_spice;
 pub use writable::are_writable;
 pub use write::write_spice;
