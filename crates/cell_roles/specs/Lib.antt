@@ -1,3 +1,4 @@
-pub mod Roles
 pub mod Acts
+pub mod Roles
+pub mod RowTexts
 pub mod Tables

@@ -3,6 +3,8 @@
 
 mod laws;
 mod role;
+mod table;
 
 pub use laws::tables_agree;
 pub use role::Role;
+pub use table::table_rows;

@@ -1,0 +1,5 @@
+pub mod RingLaws
+pub mod NameLaws
+pub mod BoxLaws
+pub mod KitLaws
+pub mod TurnLaws

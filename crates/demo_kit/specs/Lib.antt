@@ -1,0 +1,10 @@
+pub mod Layers
+pub mod Lines
+pub mod Numbers
+pub mod CellNames
+pub mod Technology
+pub mod Configuration
+pub mod Drawing
+pub mod DrawnPins
+pub mod Layout
+pub mod Subcircuits

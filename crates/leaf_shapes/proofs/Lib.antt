@@ -1,0 +1,4 @@
+pub mod PlaceLaws
+mod OutlineLaws
+mod CandidateLaws
+pub mod PinLaws

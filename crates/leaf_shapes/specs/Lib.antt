@@ -1,0 +1,6 @@
+pub mod Demands
+pub mod Fits
+pub mod Outline
+pub mod Candidates
+pub mod Wanted
+pub mod Pins

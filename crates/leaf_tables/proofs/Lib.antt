@@ -1,0 +1,4 @@
+mod FindLaws
+mod LeafLaws
+mod StepLaws
+mod AlignLaws

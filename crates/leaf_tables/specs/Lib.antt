@@ -1,0 +1,6 @@
+pub mod Parts
+pub mod Leaves
+pub mod Steps
+pub mod Alignment
+pub mod Faults
+pub mod Kits

@@ -1,0 +1,22 @@
+//! A kit: a technology with its leaf cells, each drawn and wired as its role asks for.
+#![tactic(auto)]
+
+mod align;
+mod alignment;
+mod convert;
+mod fault;
+mod kit;
+mod leaf;
+mod lookup;
+mod part;
+mod read;
+
+pub use alignment::{Facing, PinEdge, facing_pins, height_pairs, width_pairs};
+pub use cell_roles::Role;
+pub use fault::KitFault;
+pub use kit::{Kit, Leaf};
+pub use leaf_shapes::LeafPin;
+pub use lookup::role_number;
+pub use part::{Edge, Edges, PartFault};
+pub use read::read_kit;
+pub use role_tables::{TableFault, read_tables};

@@ -1,0 +1,9 @@
+pub mod CodeLaws
+pub mod CutLaws
+pub mod FaultLaws
+pub mod FewRows
+pub mod FitLaws
+pub mod MatchLaws
+pub mod PointLaws
+pub mod RowsLaws
+pub mod TableLaws

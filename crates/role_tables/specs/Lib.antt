@@ -1,0 +1,5 @@
+pub mod Columns
+pub mod Fault
+pub mod OneFault
+pub mod Point
+pub mod Table
