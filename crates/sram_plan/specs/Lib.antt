@@ -4,3 +4,4 @@ pub mod Keys
 pub mod Configuration
 pub mod Plan
 pub mod PlanNumbers
+pub mod View

@@ -1,0 +1,4 @@
+pub mod Lines
+pub mod Microns
+pub mod Lef
+pub mod Verilog
