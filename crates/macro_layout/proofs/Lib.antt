@@ -1,0 +1,14 @@
+pub mod NameLaws
+pub mod TakenLaws
+pub mod Parts
+pub mod BankLaws
+pub mod SpotLaws
+pub mod PathLaws
+pub mod RowLaws
+pub mod MacroLaws
+pub mod LayoutLaws
+pub mod StatedLaws
+pub mod SoundLaws
+pub mod RoutingLaws
+pub mod MovedLaws
+pub mod RailLaws

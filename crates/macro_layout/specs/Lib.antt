@@ -1,0 +1,12 @@
+pub mod LayoutKit
+pub mod Places
+pub mod Floorplan
+pub mod Cells
+pub mod Layout
+pub mod Pins
+pub mod Channels
+pub mod Wires
+pub mod Stated
+pub mod Sound
+pub mod Moved
+pub mod RailLists
