@@ -1,0 +1,4 @@
+mod SideLaws
+mod PlaceLaws
+mod WidthLaws
+mod LogicLaws

@@ -1,0 +1,8 @@
+use Rattle.std.proofs.Common.{◌≡◌, ◌++◌}
+use Rattle.sram_netlist.specs.InstanceList.{tabulate}
+use Rattle.macro_layout.specs.Cells.{row_at}
+use Rattle.macro_cells.specs.LayoutOfKit.{layout_kit}
+use Rattle.macro_cells.proofs.array.add_rows.Given as goal
+
+abbrev pub invariant-loop-row : goal.invariant-loop-row
+invariant-loop-row l = l.instances.items ≡ l.fn.instances.items ++ tabulate l.row (row_at (layout_kit l.kit) l.name)

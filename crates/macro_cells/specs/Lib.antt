@@ -1,0 +1,2 @@
+pub mod LeafSides
+pub mod LayoutOfKit

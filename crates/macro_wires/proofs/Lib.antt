@@ -1,0 +1,5 @@
+pub mod CountLaws
+pub mod FloorplanLaws
+pub mod JoinerLaws
+pub mod BarLaws
+pub mod SupplyLaws

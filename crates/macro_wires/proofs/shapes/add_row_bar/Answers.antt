@@ -1,0 +1,14 @@
+-- The bar of a row that has one.
+use Rattle.std.proofs.Common.{arith}
+use Rattle.std.proofs.lemmas.Int.{ints}
+use Rattle.macro_wires.proofs.BarLaws.{row_drawn, bar_as}
+use Rattle.macro_wires.proofs.shapes.add_row_bar.Goals as goal
+
+pub returns : goal.returns
+returns c =
+    let x = c.requires.room_x in
+    let y = c.requires.low in
+    let far = c.extent.ensures.value in
+    let few = c.extent.ensures.few in
+    row_drawn c.args.wire.now c.args.trunk c.args.from.x c.args.from.y c.args.height c.args.odd c.args.row _ _ c.if-row-odd.false
+    (bar_as c.args.wire.now _ _ _ _ _ _ _ _ c.in_ok-add_bar.ensures (omega (arith, ints, x.above, x.below)) (omega (arith, ints)) (omega (arith, ints, y.above, y.below, far, few)))

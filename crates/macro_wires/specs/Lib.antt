@@ -1,0 +1,5 @@
+pub mod Sides
+pub mod FloorplanNumbers
+pub mod Lowered
+pub mod Bars
+pub mod Trunks

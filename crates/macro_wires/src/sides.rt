@@ -1,0 +1,19 @@
+/// The sides of the leaf cells that stand in a memory's rows, and the width of its logic row, in nanometres.
+#[derive(Clone, Copy, Debug)]
+pub struct LeafSides {
+    /// The height of the logic row.
+    pub inv_height: u32,
+    pub write_height: u32,
+    pub sense_height: u32,
+    /// The height of the cells in which columns end: multiplexers, or ties where a row has one word.
+    pub end_height: u32,
+    pub precharge_height: u32,
+    pub bit_height: u32,
+    pub bit_width: u32,
+    /// The width of a row's gate.
+    pub gate_width: u32,
+    /// The width of a word line's driver.
+    pub driver_width: u32,
+    /// The width of all cells of the logic row, side by side.
+    pub logic_width: u32,
+}

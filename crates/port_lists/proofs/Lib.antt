@@ -1,0 +1,3 @@
+pub mod TabulateLaws
+pub mod NumberLaws
+pub mod PortLaws

@@ -1,0 +1,82 @@
+ghost use Rattle.std.specs.Prelude.{◌≡◌, ◌++◌, ◌∷◌, [], map, codes, IfOk, OnOk};
+ghost use Rattle.cell_roles.specs.Roles.{supplies};
+ghost use Rattle.sram_deck.specs.Deck.{subckt_instance, made_subckt};
+ghost use Rattle.port_lists.specs.Cells.{cell_in};
+ghost use Rattle.port_lists.specs.Spelled.{spelled};
+
+use crate::names::{NameList, Spelling, spell};
+use cell_roles::Role;
+use netlist::{Instance, Subckt};
+use or_geom::{Items, Memory, Name};
+use std::alloc::Global;
+use tech_rules::RoleName;
+
+/// The name of the cell that the technology gives a role, or nothing where it gives none.
+pub fn cell_of(roles: &[RoleName], role: Role) -> &[u8]
+    ensures { result.now ≡ cell_in roles.now role }
+{
+    let mut rest = roles;
+    while let Some((entry, others)) = rest.split_first() {
+        if entry.role.as_bytes() == role.name().as_bytes() {
+            return entry.cell.as_bytes();
+        }
+        rest = others;
+    }
+    &[]
+}
+
+/// An instance of a role's cell: its nodes, and behind them the supplies.
+pub fn leaf_instance(
+    alloc: Global,
+    roles: &[RoleName],
+    role: Role,
+    name: Spelling,
+    nodes: &[Spelling],
+) -> Result<Instance, Memory>
+    ensures { IfOk result (λ i. i ≡ subckt_instance (spelled name) (map spelled nodes.now ++ supplies) (cell_in roles.now role)) }
+{
+    let mut list = NameList::new(alloc);
+    list.add_all(nodes)?;
+    list.add_supplies()?;
+    Ok(Instance {
+        name: spell(alloc, name)?,
+        nodes: list.into_items(),
+        of: Name::from_bytes(alloc, cell_of(roles, role))?,
+    })
+}
+
+/// The name of one of the macro's subcircuits.
+pub fn part_name(alloc: Global, name: &Name, part: &[u8]) -> Result<Name, Memory>
+    ensures { IfOk result (λ made. made ≡ name.now ++ part.now) }
+{
+    let mut bytes = Vec::from_slice(alloc, name.as_bytes())?;
+    bytes.extend_from_slice(part)?;
+    Ok(Name::from_vec(bytes))
+}
+
+/// A subcircuit of instances alone.
+pub fn subckt_of(alloc: Global, name: Name, ports: NameList, instances: Vec<Instance>) -> Subckt
+    ensures { result ≡ made_subckt name ports instances.items }
+{
+    Subckt {
+        name,
+        ports: ports.into_items(),
+        instances: Items::from_vec(instances),
+        raw: Items::new(alloc),
+    }
+}
+
+/// Adds an instance of a role's cell.
+pub fn add_gate(
+    alloc: Global,
+    roles: &[RoleName],
+    role: Role,
+    name: Spelling,
+    nodes: &[Spelling],
+    instances: &mut Vec<Instance>,
+) -> Result<(), Memory>
+    ensures { OnOk result (instances.new.items ≡ instances.old.items ++ subckt_instance (spelled name) (map spelled nodes.now ++ supplies) (cell_in roles.now role) ∷ []) }
+{
+    instances.push(leaf_instance(alloc, roles, role, name, nodes)?)?;
+    Ok(())
+}

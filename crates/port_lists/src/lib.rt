@@ -1,0 +1,12 @@
+//! Names and lists of ports of a memory's subcircuits, and the instances of its leaf cells.
+#![tactic(auto)]
+
+mod cell;
+mod names;
+mod numbers;
+mod ports;
+
+pub use cell::{add_gate, cell_of, leaf_instance, part_name, subckt_of};
+pub use names::{NameList, Spelling, spell};
+pub use numbers::{enables_of, groups_of, lines_of};
+pub use ports::{sense_enable, word_line_enable};

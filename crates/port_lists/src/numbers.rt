@@ -1,0 +1,38 @@
+ghost use Rattle.std.specs.Prelude.{◌≡◌, ◌<◌, ◌≤◌, IfOk};
+ghost use Rattle.sram_netlist.specs.Organization.{power_of_two};
+ghost use Rattle.sram_netlist.specs.Netlist.{enable_count};
+ghost use Rattle.sram_plan.specs.PlanNumbers.{used_groups};
+
+use sram_plan::Plan;
+use std::alloc::{AllocError, Global};
+
+/// The sizes of the groups of row bits that a plan uses, low bits first.
+pub fn groups_of(alloc: Global, plan: &Plan) -> Result<Vec<u32>, AllocError>
+    ensures { IfOk result (λ groups. groups.items ≡ used_groups plan.now.groups) }
+{
+    plan.groups
+        .iter()
+        .copied()
+        .filter(|bits| *bits > 0)
+        .collect(alloc)
+}
+
+/// How many numbers so many bits make.
+pub fn lines_of(bits: u32) -> u32
+    requires { bits ≤ 8 }
+    ensures value { result ≡ power_of_two bits }
+    ensures some { 0 < result }
+{
+    let mut lines = 1;
+    for _ in 0..bits {
+        lines *= 2;
+    }
+    lines
+}
+
+/// How many write enables a bank has: one for each mask, or one.
+pub fn enables_of(plan: &Plan) -> u32
+    ensures { result ≡ enable_count plan.now.masks }
+{
+    if plan.masks == 0 { 1 } else { plan.masks }
+}

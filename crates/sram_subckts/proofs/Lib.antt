@@ -1,0 +1,4 @@
+pub mod SubcktLaws
+pub mod LineLaws
+pub mod KindLaws
+pub mod EnableLaws
