@@ -1,4 +1,5 @@
-use gds_stream::{GdsFault, read_gds, write_gds};
+use gds_stream::{GdsFault, Library, Structure, is_writable, read_gds, write_gds};
+use or_geom::{Items, Memory, Name};
 use std::alloc::Global;
 use std::test::Fail;
 
@@ -63,6 +64,35 @@ fn canonical_libraries_are_written_as_they_are(rt: HostRuntime) -> Result<(), Fa
 fn another_spelling_is_written_as_the_canonical_one(rt: HostRuntime) -> Result<(), Fail> {
     let written = rewritten(rt.alloc(), &OTHER).ok_or("refused")?;
     assert_eq!(rt; written.as_slice(), RECTANGLE.as_slice());
+    Ok(())
+}
+
+#[test]
+fn what_is_read_can_be_written(rt: HostRuntime) -> Result<(), Fail> {
+    let library = read_gds(rt.alloc(), &OTHER).ok().ok_or("refused")?;
+    assert!(rt; is_writable(&library));
+    Ok(())
+}
+
+/// A structure without elements.
+fn bare(alloc: Global, name: &[u8]) -> Result<Structure, Memory> {
+    Ok(Structure {
+        name: Name::from_bytes(alloc, name)?,
+        elements: Items::new(alloc),
+    })
+}
+
+#[test]
+fn structures_of_one_name_cannot_be_written(rt: HostRuntime) -> Result<(), Fail> {
+    let alloc = rt.alloc();
+    let mut structs = Items::new(alloc);
+    structs.push(bare(alloc, b"t")?)?;
+    structs.push(bare(alloc, b"t")?)?;
+    let library = Library {
+        name: Name::from_bytes(alloc, b"a")?,
+        structs,
+    };
+    assert!(rt; !is_writable(&library));
     Ok(())
 }
 

@@ -2,14 +2,24 @@
 #![tactic(auto)]
 
 #[cfg(test)]
+mod cells;
+#[cfg(test)]
 mod gds;
 #[cfg(test)]
 mod geometry;
 #[cfg(test)]
 mod host;
 #[cfg(test)]
+mod kits;
+#[cfg(test)]
+mod leaf_files;
+#[cfg(test)]
 mod plans;
 #[cfg(test)]
 mod routes;
 #[cfg(test)]
 mod spice;
+#[cfg(test)]
+mod tables;
+#[cfg(test)]
+mod views;

@@ -1,0 +1,201 @@
+use role_tables::{TableFault, read_tables};
+use std::alloc::Global;
+use std::process::Abort;
+use std::test::Fail;
+use tech_rules::read_tech;
+
+/// The roles and tables of the demonstration technology, with the one layer that a technology has to have.
+const TECHNOLOGY: &str = r#"outline = "outline"
+
+[[layer]]
+name = "outline"
+gds = [1, 0]
+
+[role]
+bitcell = "demo_bitcell"
+precharge = "demo_precharge"
+mux = "demo_mux"
+tie = "demo_tie"
+sense = "demo_sense"
+write = "demo_write"
+rownand2 = "demo_rownand2"
+rownand3 = "demo_rownand3"
+driver = "demo_driver"
+nand2 = "demo_nand2"
+nand3 = "demo_nand3"
+inv = "demo_inv"
+dff = "demo_dff"
+delay = "demo_delay"
+
+[table]
+bitcell = [
+  "0xx/x = zz//=", "100/0 = lz//0", "100/1 = zl//1", "101/0 = lz//0", "101/1 = zl//0",
+  "110/0 = lz//1", "110/1 = zl//1", "111/0 = lz//0", "111/1 = zl//1",
+]
+precharge = ["0/ = 11//", "1/ = zz//"]
+mux = ["0/ = /--/", "1/ = /jj/"]
+tie = ["/ = //"]
+sense = ["0xx/ = z//", "100/ = z//", "101/ = 0//", "110/ = 1//", "111/ = z//"]
+write = ["0x/ = zz//", "10/ = 01//", "11/ = 10//"]
+rownand2 = ["0x/ = 1//", "10/ = 1//", "11/ = 0//"]
+rownand3 = ["0xx/ = 1//", "10x/ = 1//", "110/ = 1//", "111/ = 0//"]
+driver = ["x0/ = 0//", "01/ = 1//", "11/ = 0//"]
+nand2 = ["0x/ = 1//", "10/ = 1//", "11/ = 0//"]
+nand3 = ["0xx/ = 1//", "10x/ = 1//", "110/ = 1//", "111/ = 0//"]
+inv = ["0/ = 1//", "1/ = 0//"]
+dff = ["01/x0 = 0//01", "11/x0 = 1//11", "x1/01 = 0//01", "x1/11 = 1//11", "x0/0x = 0//00", "x0/1x = 1//10"]
+delay = ["0/0 = 0//0", "1/0 = 0//1", "0/1 = 1//0", "1/1 = 1//1"]
+"#;
+
+/// The text with the first `old` in it replaced.
+fn replaced(alloc: Global, text: &str, old: &str, new: &str) -> Result<String, Fail> {
+    let Some((before, after)) = text.split_once(old) else {
+        return Err("nothing to replace".into());
+    };
+    Ok(format!(in alloc; "{before}{new}{after}")?)
+}
+
+/// What the tables of a technology are: good, or the fault with its fields.
+fn answer(alloc: Global, text: &str) -> Result<String, Fail> {
+    let Ok(tech) = read_tech(alloc, text.as_bytes()) else {
+        return Err("no technology".into());
+    };
+    let line = match read_tables(alloc, &tech) {
+        Ok(()) => format!(in alloc; "good"),
+        Err(TableFault::MissingRole { role }) => format!(in alloc; "MissingRole {role}"),
+        Err(TableFault::BadRow { role, row }) => format!(in alloc; "BadRow {role} {row}"),
+        Err(TableFault::Differs { role, point }) => format!(in alloc; "Differs {role} {point}"),
+        Err(TableFault::Memory) => format!(in alloc; "out of memory"),
+    };
+    Ok(line?)
+}
+
+fn check(rt: &impl Abort, alloc: Global, old: &str, new: &str, wanted: &str) -> Result<(), Fail> {
+    let text = replaced(alloc, TECHNOLOGY, old, new)?;
+    let given = answer(alloc, text.as_str())?;
+    assert_eq!(rt; given.as_str(), wanted, "where {old} is {new}");
+    Ok(())
+}
+
+#[test]
+fn demonstration_tables_are_good(rt: HostRuntime) -> Result<(), Fail> {
+    let given = answer(rt.alloc(), TECHNOLOGY)?;
+    assert_eq!(rt; given.as_str(), "good");
+    Ok(())
+}
+
+#[test]
+fn roles_that_are_missing(rt: HostRuntime) -> Result<(), Fail> {
+    let alloc = rt.alloc();
+    check(
+        &rt,
+        alloc,
+        "sense = \"demo_sense\"",
+        "",
+        "MissingRole sense",
+    )?;
+    check(&rt, alloc, "tie = [\"/ = //\"]", "", "MissingRole tie")?;
+    check(
+        &rt,
+        alloc,
+        "tie = [\"/ = //\"]",
+        "tie = []",
+        "MissingRole tie",
+    )
+}
+
+#[test]
+fn rows_that_are_bad(rt: HostRuntime) -> Result<(), Fail> {
+    let alloc = rt.alloc();
+    // Two spaces before the sign of equality, a value that no stored bit has, and a row that is too short.
+    check(
+        &rt,
+        alloc,
+        "\"1/ = zz//\"",
+        "\"1/  = zz//\"",
+        "BadRow precharge 1",
+    )?;
+    check(
+        &rt,
+        alloc,
+        "\"111/1 = zl//1\"",
+        "\"111/1 = zl//2\"",
+        "BadRow bitcell 8",
+    )?;
+    check(
+        &rt,
+        alloc,
+        "\"11/ = 10//\"",
+        "\"11/ = 1//\"",
+        "BadRow write 2",
+    )?;
+    // Rows that overlap an earlier one, which says something else or the same.
+    check(&rt, alloc, "\"1/ = /jj/\"", "\"x/ = /jj/\"", "BadRow mux 1")?;
+    check(
+        &rt,
+        alloc,
+        "\"/ = //\"",
+        "\"/ = //\", \"/ = //\"",
+        "BadRow tie 1",
+    )
+}
+
+#[test]
+fn points_that_differ(rt: HostRuntime) -> Result<(), Fail> {
+    let alloc = rt.alloc();
+    check(
+        &rt,
+        alloc,
+        "\"11/x0 = 1//11\"",
+        "\"11/x0 = 0//01\"",
+        "Differs dff 11/00",
+    )?;
+    check(
+        &rt,
+        alloc,
+        "\"0xx/x = zz//=\"",
+        "\"0xx/x = zz//0\"",
+        "Differs bitcell 000/1",
+    )?;
+    check(
+        &rt,
+        alloc,
+        "\"100/0 = lz//0\"",
+        "\"100/0 = 0z//0\"",
+        "Differs bitcell 100/0",
+    )?;
+    check(
+        &rt,
+        alloc,
+        "\"101/ = 0//\"",
+        "\"101/ = 1//\"",
+        "Differs sense 101/",
+    )?;
+    check(
+        &rt,
+        alloc,
+        "inv = [\"0/ = 1//\", \"1/ = 0//\"]",
+        "inv = [\"1/ = 0//\"]",
+        "Differs inv 0/",
+    )
+}
+
+/// Of a role all rows are looked at before the first point, and a role before the next.
+#[test]
+fn the_first_of_two_faults(rt: HostRuntime) -> Result<(), Fail> {
+    let alloc = rt.alloc();
+    let differs = replaced(alloc, TECHNOLOGY, "\"0xx/x = zz//=\"", "\"0xx/x = zz//0\"")?;
+    let bad = replaced(
+        alloc,
+        differs.as_str(),
+        "\"111/1 = zl//1\"",
+        "\"111/1 = zl/1\"",
+    )?;
+    assert_eq!(rt; answer(alloc, bad.as_str())?.as_str(), "BadRow bitcell 8");
+    let later = replaced(alloc, differs.as_str(), "\"/ = //\"", "\"/ =//\"")?;
+    assert_eq!(rt;
+        answer(alloc, later.as_str())?.as_str(),
+        "Differs bitcell 000/1"
+    );
+    Ok(())
+}
