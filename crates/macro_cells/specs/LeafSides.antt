@@ -1,4 +1,4 @@
--- What a layout takes of a kit.
+-- The sides of a kit's leaf cells.
 use Rattle.std.specs.Prelude.{ℕ, ℤ, pos, negsuc, Option, Some, None}
 use Rattle.cell_roles.specs.declared.role.Role.{Role}
 use Rattle.leaf_tables.specs.declared.kit.Kit.{Kit}

@@ -48,7 +48,8 @@ abbrev pub row_leaves_of : Leaf → LeafPin → ℤ → RowLeaves
 row_leaves_of gate enable height = record { inputs = gate.pins; enable = enable; gate_width = gate.width; height = height }
 
 -- The taps of the inputs of a row's gate, one a group: each on the rail of the group's line that is the row's. The lines of the
--- groups before these have the rails below the given one.
+-- groups before these have the rails below the given one. (Where pins run out there are no more taps; a kit's gate has an input
+-- for each group.)
 abbrev pub input_taps : Place → List LeafPin → List ℕ → ℕ → ℕ → List Tap
 input_taps place pins [] rail r = []
 input_taps place [] (b ∷ bs) rail r = []
@@ -77,8 +78,8 @@ pub record AreTapsOfRows (kit : List Leaf) (plan : Organization) (corner : Point
   pub of : AreRowLeaves kit plan.groups leaves
   pub are : taps ≡ tabulate_lists (bank_rows plan) (row_taps plan.groups leaves corner)
 
--- a side of a cell
-pub record IsSide (z : ℤ) : Type 0 where
+-- a length in a leaf cell: a side of it, or 0
+pub record IsLeafLength (z : ℤ) : Type 0 where
   pub above : pos 0 ≤ℤ z
   pub below : z ≤ℤ pos 65536
 
@@ -87,6 +88,6 @@ ArePinsReachable pins = (k : ℕ) (pin : LeafPin) → slice_get pins k ≡ Some 
 
 -- the width and the height are such, and pins lie near
 pub record IsNearLeaf (leaf : Leaf) : Type 0 where
-  pub width : IsSide leaf.width
-  pub height : IsSide leaf.height
+  pub width : IsLeafLength leaf.width
+  pub height : IsLeafLength leaf.height
   pub pins : ArePinsReachable leaf.pins
