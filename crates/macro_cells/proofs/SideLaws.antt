@@ -47,13 +47,14 @@ few_roles Delay = omega arith
 pub role_below : (kit : Kit) → IsKit kit → (place : ℕ) (role : Role) → place ≡ role_number role → place < length kit.leaves
 role_below kit is place role at = let few = few_roles role in let sized : length kit.leaves ≡ 14 = is.leaves.sized in omega (arith, few, sized, at)
 
--- a side between 0 and 65,536
+-- a side between 1 and 65,536
 pub record IsSide (z : ℤ) (n : ℕ) : Type 0 where
   pub is : z ≡ pos n
+  pub some : 0 < n
   pub few : n ≤ 65536
 
 side_is : (z : ℤ) → pos 0 <ℤ z → z ≤ℤ pos 65536 → IsSide z (side_of (Some z))
-side_is (pos n) some few = record { is = refl; few = omega (arith, ints, few) }
+side_is (pos n) some few = record { is = refl; some = omega (arith, ints, some); few = omega (arith, ints, few) }
 side_is (negsuc n) some few = absurd (omega (arith, ints, some))
 
 pub leaf_of : (kit : Kit) (is : IsKit kit) (role : Role) (leaf : Leaf) → leaf_in kit.leaves role ≡ Some leaf → IsLeaf (source_of kit is.wire) role leaf
@@ -92,3 +93,6 @@ side_size z n side = ap nat_abs (side_read z n side)
 
 pub side_few : (z : ℤ) (n : ℕ) → IsSide z n → nat_abs (to_z w64 (of_z w64 z)) ≤ 65536
 side_few z n side = subst (λ (m : ℕ). m ≤ 65536) (sym (side_size z n side)) side.few
+
+pub side_some : (z : ℤ) (n : ℕ) → IsSide z n → 0 < nat_abs (to_z w64 (of_z w64 z))
+side_some z n side = subst (λ (m : ℕ). 0 < m) (sym (side_size z n side)) side.some

@@ -76,7 +76,7 @@ fn gate_at(alloc: Global, gate: &Instance, x: u32) -> Result<PlacedInstance, Mem
 }
 
 /// The width of the cell of this name, which plays a role. (All roles that a cell plays have its width.)
-fn width_of_cell(kit: &Kit, cell: &[u8]) -> u32
+pub fn width_of_cell(kit: &Kit, cell: &[u8]) -> u32
     requires kit { IsKit kit.now }
     ensures is { (role : Role) → cell.now ≡ cell_in kit.now.tech.roles role → result ≡ leaf_width kit.now role }
     ensures few { result ≤ 65536 }

@@ -38,7 +38,7 @@ pub fn row_cell(alloc: Global, kit: &Kit, plan: &Plan, name: &Name) -> Result<Dr
 }
 
 /// The gate of a row over these groups.
-fn gate_of_row(groups: &[u32]) -> Role
+pub fn gate_of_row(groups: &[u32]) -> Role
     requires { (length groups.now ≡ 2) ⊎ (length groups.now ≡ 3) }
     ensures { result ≡ row_gate groups.now }
 {

@@ -1,4 +1,4 @@
-ghost use Rattle.std.specs.Prelude.{◌≡◌, ◌≤◌, pos, Some};
+ghost use Rattle.std.specs.Prelude.{◌≡◌, ◌<◌, ◌≤◌, pos, Some};
 ghost use Rattle.leaf_tables.specs.Kits.{IsKit};
 ghost use Rattle.leaf_tables.specs.Alignment.{role_number, leaf_in};
 ghost use Rattle.macro_cells.specs.LeafSides.{leaf_width, leaf_height};
@@ -41,6 +41,7 @@ pub fn leaf_width(kit: &Kit, role: Role) -> u32
     requires { IsKit kit.now }
     ensures is { result ≡ leaf_width kit.now role }
     ensures few { result ≤ 65536 }
+    ensures some { 0 < result }
 {
     leaf_of(kit, role).width as u32
 }
@@ -50,6 +51,7 @@ pub fn leaf_height(kit: &Kit, role: Role) -> u32
     requires { IsKit kit.now }
     ensures is { result ≡ leaf_height kit.now role }
     ensures few { result ≤ 65536 }
+    ensures some { 0 < result }
 {
     leaf_of(kit, role).height as u32
 }

@@ -58,9 +58,9 @@ pub some_of : (b : ℕ) → (b ≡ 0 → ⊥) → power_of_two b ≡ choice_coun
 some_of zero other = absurd (other refl)
 some_of (suc b) other = refl
 
--- at most 2^36
-pub pitches_bound : (n p : ℕ) → n ≤ 524288 → p ≤ 131072 → n * p ≤ 68719476736
-pitches_bound n p le high = let more = mul-le-mul_left n high in omega (arith, more, le)
+-- at most so many times 2^17
+pub pitches_bound : (n p : ℕ) → p ≤ 131072 → n * p ≤ n * 131072
+pitches_bound n p high = mul-le-mul_left n high
 
 -- at most 2^24
 pub extent_bound : (n side : ℕ) → n ≤ 256 → side ≤ 65536 → n * side ≤ 16777216

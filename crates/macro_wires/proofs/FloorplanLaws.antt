@@ -1,11 +1,11 @@
 -- Sums of the floorplan as they are computed.
 use Rattle.std.proofs.Common.{◌≡◌, ℕ, ◌+◌, ◌*◌, ◌≤◌, ℤ, pos, ◌+ℤ◌, ◌≤ℤ◌, w64, to_z, ap, ◌∙◌, arith}
 use Rattle.std.proofs.lemmas.Int.{ints}
-use Rattle.macro_wires.specs.FloorplanNumbers.{IsFloorplanLength}
+use Rattle.macro_wires.specs.FloorplanNumbers.{IsUpTo, IsFloorplanLength}
 
 -- within the room of a floorplan
 abbrev pub limit : ℕ
-limit = 549755813888
+limit = 1073741824
 
 pub next : (n m k : ℕ) → n + m ≤ limit → m ≡ k → to_z w64 (n + m) ≡ to_z w64 n +ℤ pos k
 next n m k le is = omega (arith, ints, le, is)
@@ -24,6 +24,10 @@ rows_high e a b c d is first second = is ∙ (ap (λ (n : ℕ). n * b) first ∙
 
 pub placed : (n : ℕ) → n ≤ limit → IsFloorplanLength (to_z w64 n)
 placed n le = record { above = omega (arith, ints, le); below = omega (arith, ints, le) }
+
+-- and nearer
+pub placed_near : (n most : ℕ) → n ≤ most → most ≤ limit → IsUpTo most (to_z w64 n)
+placed_near n most le few = record { above = omega (arith, ints, le, few); below = omega (arith, ints, le, few) }
 
 pub kept : (n : ℕ) → n ≤ limit → to_z w64 n ≡ pos n
 kept n le = omega (arith, ints, le)

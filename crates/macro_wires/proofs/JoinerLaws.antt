@@ -10,7 +10,7 @@ use Rattle.port_lists.proofs.NumberLaws.{words_are}
 use Rattle.port_lists.proofs.TabulateLaws.{some_lines}
 use Rattle.macro_wires.proofs.CountLaws.{some_product}
 use Rattle.toml_keys.specs.Keys.{IsInRange}
-use Rattle.macro_wires.specs.FloorplanNumbers.{IsFloorplanLength}
+use Rattle.macro_wires.specs.FloorplanNumbers.{IsUpTo, IsFloorplanLength}
 use Rattle.macro_wires.specs.Lowered.{IsLowered}
 
 lower : (z y by : ℤ) (a : ℤ) → a ≡ y -ℤ by → z ≡ a → z ≡ y +ℤ (pos 0 -ℤ by)
@@ -81,10 +81,10 @@ pub sunk_less : (a b w : ℤ) → IsFloorplanLength a → IsFloorplanLength b �
 sunk_less a b w at by wide = rw (sunk a b w at by wide, apart a b at by) (below_by a b w wide.from)
 
 -- the columns end behind the left end
-pub wide_from : (row left x : ℤ) (far e : ℕ) → IsFloorplanLength row → left ≡ row +ℤ pos far → far ≤ 131072 → 0 < e → e ≤ 16777216 → x ≡ left → to_z w64 (of_z w64 x) <ℤ to_z w64 (of_z w64 (to_z w64 (of_z w64 left) +ℤ to_z w64 e))
+pub wide_from : (row left x : ℤ) (far e : ℕ) → IsUpTo 8388608 row → left ≡ row +ℤ pos far → far ≤ 131072 → 0 < e → e ≤ 16777216 → x ≡ left → to_z w64 (of_z w64 x) <ℤ to_z w64 (of_z w64 (to_z w64 (of_z w64 left) +ℤ to_z w64 e))
 wide_from row left x far e placed is near some few at = omega (arith, ints, placed.above, placed.below, is, near, some, few, at)
 
-pub wide_rows : (row left : ℤ) (far e : ℕ) → IsFloorplanLength row → left ≡ row +ℤ pos far → far ≤ 131072 → 0 < e → e ≤ 16777216 → to_z w64 (of_z w64 row) <ℤ to_z w64 (of_z w64 (to_z w64 (of_z w64 left) +ℤ to_z w64 e))
+pub wide_rows : (row left : ℤ) (far e : ℕ) → IsUpTo 8388608 row → left ≡ row +ℤ pos far → far ≤ 131072 → 0 < e → e ≤ 16777216 → to_z w64 (of_z w64 row) <ℤ to_z w64 (of_z w64 (to_z w64 (of_z w64 left) +ℤ to_z w64 e))
 wide_rows row left far e placed is near some few = omega (arith, ints, placed.above, placed.below, is, near, some, few)
 
 pub lower_both : (by : ℤ) (A B : Shape → Type 0) (old now new : List Shape) → Adds old now (IsLowered by A) → Adds now new (IsLowered by B) → Adds old new (IsLowered by (λ s. A s ⊎ B s))

@@ -3,7 +3,7 @@ use Rattle.std.proofs.Common.{◌≡◌, ◌⊎◌, inl, inr, ℕ, ◌*◌, ◌<
 use Rattle.std.proofs.lemmas.Int.{ints}
 use Rattle.toml_keys.specs.Keys.{IsInRange}
 use Rattle.tech_rules.specs.Drawing.{LeavesRoom}
-use Rattle.macro_wires.specs.FloorplanNumbers.{IsFloorplanLength}
+use Rattle.macro_wires.specs.FloorplanNumbers.{IsUpTo, IsFloorplanLength}
 use Rattle.or_geom.specs.declared.shape.Shape.{Shape}
 use Rattle.or_geom.specs.Adds.{Adds}
 use Rattle.or_geom.proofs.AddsLaws.{adds_both, adds_as}
@@ -106,19 +106,19 @@ rows_as wire a b c trunk x y h height odd n rows old now adds behind left low hi
     (subst (λ (z : ℤ). Adds old now (IsRowBar wire z b c h odd n)) behind adds))))
 
 -- where trunks and bars stand
-pub room_trunk : (logic trunk : ℤ) → IsFloorplanLength logic → logic ≤ℤ trunk → trunk ≤ℤ pos 4398046511104 → LeavesRoom (to_z w64 (of_z w64 trunk))
+pub room_trunk : {most : ℕ} (logic trunk : ℤ) → IsUpTo most logic → logic ≤ℤ trunk → trunk ≤ℤ pos 4398046511104 → LeavesRoom (to_z w64 (of_z w64 trunk))
 room_trunk logic trunk placed behind near = record { above = omega (arith, ints, placed.above, behind, near); below = omega (arith, ints, placed.above, behind, near) }
 
 pub room_placed : (z : ℤ) → IsFloorplanLength z → LeavesRoom (to_z w64 (of_z w64 z))
 room_placed z placed = record { above = omega (arith, ints, placed.above, placed.below); below = omega (arith, ints, placed.above, placed.below) }
 
-pub before_trunk : (z trunk w : ℤ) → IsFloorplanLength z → z ≤ℤ trunk → trunk ≤ℤ pos 4398046511104 → pos 1 ≤ℤ w → to_z w64 (of_z w64 z) <ℤ (to_z w64 (of_z w64 trunk) +ℤ w)
+pub before_trunk : {most : ℕ} (z trunk w : ℤ) → IsUpTo most z → z ≤ℤ trunk → trunk ≤ℤ pos 4398046511104 → pos 1 ≤ℤ w → to_z w64 (of_z w64 z) <ℤ (to_z w64 (of_z w64 trunk) +ℤ w)
 before_trunk z trunk w placed behind near some = omega (arith, ints, placed.above, behind, near, some)
 
-pub rows_before : (row trunk w : ℤ) (far : ℕ) → IsFloorplanLength row → (row +ℤ pos far) ≤ℤ trunk → trunk ≤ℤ pos 4398046511104 → pos 1 ≤ℤ w → to_z w64 (of_z w64 row) <ℤ (to_z w64 (of_z w64 trunk) +ℤ w)
+pub rows_before : {most : ℕ} (row trunk w : ℤ) (far : ℕ) → IsUpTo most row → (row +ℤ pos far) ≤ℤ trunk → trunk ≤ℤ pos 4398046511104 → pos 1 ≤ℤ w → to_z w64 (of_z w64 row) <ℤ (to_z w64 (of_z w64 trunk) +ℤ w)
 rows_before row trunk w far placed behind near some = omega (arith, ints, placed.above, behind, near, some)
 
-pub columns_before : (z row trunk w : ℤ) (far : ℕ) → z ≡ row +ℤ pos far → IsFloorplanLength row → (row +ℤ pos far) ≤ℤ trunk → trunk ≤ℤ pos 4398046511104 → pos 1 ≤ℤ w → to_z w64 (of_z w64 z) <ℤ (to_z w64 (of_z w64 trunk) +ℤ w)
+pub columns_before : {most : ℕ} (z row trunk w : ℤ) (far : ℕ) → z ≡ row +ℤ pos far → IsUpTo most row → (row +ℤ pos far) ≤ℤ trunk → trunk ≤ℤ pos 4398046511104 → pos 1 ≤ℤ w → to_z w64 (of_z w64 z) <ℤ (to_z w64 (of_z w64 trunk) +ℤ w)
 columns_before z row trunk w far is placed behind near some = omega (arith, ints, is, placed.above, behind, near, some)
 
 pub upper_above : (z : ℤ) (n : ℕ) → IsFloorplanLength z → 0 < n → n ≤ 65536 → pos 0 <ℤ to_z w64 (of_z w64 (to_z w64 (of_z w64 z) +ℤ to_z w64 n))

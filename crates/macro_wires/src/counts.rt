@@ -1,4 +1,4 @@
-ghost use Rattle.std.specs.Prelude.{◌≡◌, ◌<◌, ◌≤◌, ◌*◌, pos, ◌*ℤ◌};
+ghost use Rattle.std.specs.Prelude.{◌≡◌, ◌<◌, ◌≤◌, ◌+◌, ◌*◌, pos, ◌*ℤ◌};
 ghost use Rattle.tech_rules.specs.Facts.{AreSizes};
 ghost use Rattle.tech_rules.specs.Drawing.{pitch};
 ghost use Rattle.channel_router.specs.Wires.{channel_height};
@@ -41,9 +41,9 @@ fn pitch(wire: &Wire) -> u64
 /// So many pitches.
 pub(crate) fn pitches(count: u32, wire: &Wire) -> u64
     requires sizes { AreSizes wire.now }
-    requires few { count ≤ 524288 }
+    requires few { count ≤ 4096 }
     ensures value { pos result ≡ pos count *ℤ pitch wire.now }
-    ensures few { result ≤ 68719476736 }
+    ensures few { result ≤ count * 131072 }
 {
     count as u64 * pitch(wire)
 }
@@ -51,9 +51,9 @@ pub(crate) fn pitches(count: u32, wire: &Wire) -> u64
 /// The height of a channel with so many tracks.
 pub(crate) fn channel_height(tracks: u32, wire: &Wire) -> u64
     requires sizes { AreSizes wire.now }
-    requires few { tracks ≤ 524288 }
+    requires few { tracks ≤ 4096 }
     ensures value { pos result ≡ channel_height wire.now tracks }
-    ensures few { result ≤ 137438953472 }
+    ensures few { result ≤ 65536 + tracks * 131072 }
 {
     wire.space as u64 + pitches(tracks, wire)
 }

@@ -40,8 +40,8 @@ pub fn floorplan(
     requires plan { ArePlanNumbers (numbers_of plan.now) }
     requires sides { AreLeafSides sides.now }
     requires sizes { AreSizes wire.now }
-    requires few_main { main_tracks ≤ 524288 }
-    requires few_column { column_tracks ≤ 524288 }
+    requires few_main { main_tracks ≤ 4096 }
+    requires few_column { column_tracks ≤ 1024 }
     ensures stated { (kit : LayoutKit) → AreSidesOf (organization plan.now) kit sides.now → IsFloorplan (organization plan.now) kit wire.now (record { main = main_tracks; column = column_tracks }) (floorplan_of result) }
     ensures near { IsNearFloorplan result }
     ensures columns { EndsBehindColumns sides.now result }

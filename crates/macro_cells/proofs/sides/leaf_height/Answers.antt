@@ -1,7 +1,7 @@
 -- A side is a number of nanometres.
 use Rattle.std.proofs.Common.{ℤ, T, Fits, nat_abs, w32, sym, subst, arith}
 use lib.Signed.{non_neg}
-use Rattle.macro_cells.proofs.SideLaws.{height_is, side_read, side_size, side_few}
+use Rattle.macro_cells.proofs.SideLaws.{height_is, side_read, side_size, side_few, side_some}
 use Rattle.macro_cells.proofs.sides.leaf_height.Goals as goal
 
 pub overflow_cast-result : goal.overflow_cast-result
@@ -15,3 +15,6 @@ returns-clause-is c = side_size _ _ (height_is c.args.kit.now c.requires c.args.
 
 pub returns-clause-few : goal.returns-clause-few
 returns-clause-few c = side_few _ _ (height_is c.args.kit.now c.requires c.args.role c.leaf_of.result.now c.leaf_of.ensures)
+
+pub returns-clause-some : goal.returns-clause-some
+returns-clause-some c = side_some _ _ (height_is c.args.kit.now c.requires c.args.role c.leaf_of.result.now c.leaf_of.ensures)

@@ -4,7 +4,7 @@ use Rattle.std.proofs.lemmas.Int.{ints}
 use Rattle.tech_rules.specs.Drawing.{pitch}
 use Rattle.sram_plan.specs.PlanNumbers.{numbers_of}
 use Rattle.port_lists.proofs.NumberLaws.{rows_are, columns_are}
-use Rattle.macro_wires.proofs.FloorplanLaws.{next, next_channel, first_channel, next_bank, rows_high, placed, kept, columns_within}
+use Rattle.macro_wires.proofs.FloorplanLaws.{next, next_channel, first_channel, next_bank, rows_high, placed, placed_near, kept, columns_within}
 use Rattle.macro_wires.proofs.numbers.floorplan.Goals as goal
 
 pub extent-requires-clause-few : goal.extent-requires-clause-few
@@ -37,13 +37,13 @@ returns-clause-near c =
     let space = c.requires.sizes.space in
     record {
       logic_x = record { above = omega (arith, ints, width.from, width.to, space.from, space.to); below = omega (arith, ints, width.from, width.to, space.from, space.to) };
-      row_x = placed _ (omega arith);
+      row_x = placed_near _ 8388608 (omega arith) (omega arith);
       write_y = placed _ (omega arith);
       sense_y = placed _ (omega arith);
       column_y = placed _ (omega arith);
       array_y = placed _ (omega arith);
       precharge_y = placed _ (omega arith);
-      bank_width = placed _ (omega arith);
+      bank_width = placed_near _ 33554432 (omega arith) (omega arith);
     }
 
 pub returns-clause-columns : goal.returns-clause-columns
