@@ -1,0 +1,10 @@
+pub mod BoxLaws
+pub mod NearLaws
+pub mod TextLaws
+pub mod CountLaws
+pub mod FloorplanLaws
+pub mod CellLaws
+pub mod SupplyLaws
+pub mod DifferLaws
+pub mod CompleteLaws
+pub mod LibraryLaws

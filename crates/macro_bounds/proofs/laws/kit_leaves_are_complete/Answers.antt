@@ -1,0 +1,8 @@
+use Rattle.macro_bounds.proofs.CompleteLaws.{flat_cells_are_complete, flat_cells_are_sound}
+use Rattle.macro_bounds.proofs.laws.kit_leaves_are_complete.Goals as goal
+
+pub returns-clause-complete : goal.returns-clause-complete
+returns-clause-complete c = flat_cells_are_complete
+
+pub returns-clause-sound : goal.returns-clause-sound
+returns-clause-sound c = flat_cells_are_sound
