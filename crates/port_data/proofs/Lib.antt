@@ -1,0 +1,15 @@
+mod LeafLaws
+mod PortLaws
+mod FormulaLaws
+mod PinLaws
+mod MeetLaws
+mod ChannelLaws
+mod KitLaws
+mod TrackCountLaws
+mod NetLaws
+mod PlaceLaws
+mod SenseLaws
+mod TopLaws
+mod ExitLaws
+mod ColumnLaws
+mod RoutedLaws

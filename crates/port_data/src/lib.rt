@@ -1,0 +1,14 @@
+//! The data of a bank: write and sense cells, multiplexers or ties, and the channel between them.
+#![tactic(auto)]
+
+mod bottom;
+mod columns;
+mod exits;
+mod leaves;
+mod lines;
+mod routing;
+mod slices;
+mod top;
+
+pub use routing::channel;
+pub use slices::refuse_narrow_slices;

@@ -1,0 +1,64 @@
+ghost use Rattle.std.specs.Prelude.{◌≡◌, ◌+◌, ◌*◌, ◌≤◌, length, Some, IfOk, IfErr};
+ghost use Rattle.leaf_tables.specs.Kits.{IsKit};
+ghost use Rattle.tech_rules.specs.declared.tech.Wire.{Wire};
+ghost use Rattle.tech_rules.specs.Facts.{AreSizes};
+ghost use Rattle.sram_netlist.specs.Numbers.{ArePlanNumbers};
+ghost use Rattle.sram_plan.specs.PlanNumbers.{numbers_of, organization};
+ghost use Rattle.macro_layout.specs.Places.{Floorplan};
+ghost use Rattle.macro_layout.specs.Floorplan.{choice_count};
+ghost use Rattle.macro_cells.specs.LayoutOfKit.{layout_kit};
+ghost use Rattle.port_data.specs.Column.{IsColumnFault, IsBankFloorplan, IsColumnRouted, IsNearColumnRouted};
+ghost use Rattle.port_data.specs.Pins.{column_channel};
+
+use crate::bottom::bottom_pins;
+use crate::columns::columns_in;
+use crate::exits::{drive_width, exit_pins};
+use crate::leaves::{leaf_height, wire_of};
+use crate::top::top_pins;
+use cell_roles::Role;
+use channel_router::{Channel, Routed, route};
+use leaf_tables::{Kit, PartFault};
+use or_geom::{Items, Memory};
+use sram_plan::Plan;
+use std::alloc::Global;
+use tech_rules::Wire;
+
+/// The column channel, from the left end of the columns and the lower edge of the write cells.
+fn column_channel(alloc: Global, kit: &Kit, plan: &Plan, wire: &Wire) -> Result<Channel, Memory>
+    requires kit { IsKit kit.now }
+    requires plan { ArePlanNumbers (numbers_of plan.now) }
+    requires sizes { AreSizes wire.now }
+    ensures { IfOk result (λ ch. ch ≡ column_channel (organization plan.now) (layout_kit kit.now) wire.now) }
+{
+    let columns = columns_in(kit, plan);
+    let drive = drive_width(alloc, kit, plan)?;
+    let top = top_pins(alloc, kit, plan.col_bits, &columns)?;
+    let bottom = bottom_pins(alloc, kit, &columns)?;
+    let exits = exit_pins(alloc, columns.choices, drive, wire)?;
+    let low = leaf_height(kit, Role::Write) + leaf_height(kit, Role::Sense);
+    Ok(Channel {
+        low: i64::from(low),
+        top: Items::from_vec(top),
+        bottom: Items::from_vec(bottom),
+        exits: Items::from_vec(exits),
+        nets: columns.choices + 2 * columns.bits,
+    })
+}
+
+/// Routes the channel between the sense cells and the multiplexers, or ties where a row has one word. The lines of each bit
+/// lead from its columns down to its sense cell, and the column choices from the multiplexers to their rails. x counts from
+/// the left end of the columns and y from the lower edge of the write cells, in nanometres. Pins of one side that are nearer
+/// to each other than the pitch are refused.
+pub fn channel(alloc: Global, kit: &Kit, plan: &Plan) -> Result<Routed, PartFault>
+    requires kit { IsKit kit.now }
+    requires plan { ArePlanNumbers (numbers_of plan.now) }
+    ensures few { IfOk result (λ routed. routed.tracks ≤ 1024) }
+    ensures each { IfOk result (λ routed. length routed.track ≡ choice_count (organization plan.now).col_bits + 2 * plan.now.word_size) }
+    ensures near { IfOk result (λ routed. (wire : Wire) → kit.now.tech.wire ≡ Some wire → IsNearColumnRouted wire routed) }
+    ensures stated { IfOk result (λ routed. (wire : Wire) (floorplan : Floorplan) → kit.now.tech.wire ≡ Some wire → IsBankFloorplan (organization plan.now) (layout_kit kit.now) wire floorplan → IsColumnRouted (organization plan.now) (layout_kit kit.now) wire floorplan routed) }
+    ensures fault { IfErr result (λ fault. (wire : Wire) → kit.now.tech.wire ≡ Some wire → IsColumnFault (organization plan.now) (layout_kit kit.now) wire fault) }
+{
+    let wire = wire_of(kit);
+    let meant = column_channel(alloc, kit, plan, wire)?;
+    Ok(route(alloc, &meant, wire)?)
+}
