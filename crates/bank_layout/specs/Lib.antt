@@ -1,0 +1,4 @@
+pub mod Near
+pub mod BankTaps
+pub mod Outputs
+pub mod StatedWires

@@ -1,0 +1,116 @@
+ghost use Rattle.std.specs.Prelude.{◌≡◌, ◌<◌, ◌≤◌, ◌^◌, ◌*◌, ◌*ℤ◌, IfOk, pos};
+ghost use Rattle.tech_rules.specs.Facts.{AreSizes};
+ghost use Rattle.tech_rules.specs.Drawing.{pitch};
+ghost use Rattle.sram_netlist.specs.Organization.{words_per_row};
+ghost use Rattle.sram_netlist.specs.InstanceList.{tabulate};
+ghost use Rattle.sram_netlist.specs.Numbers.{ArePlanNumbers};
+ghost use Rattle.sram_plan.specs.PlanNumbers.{numbers_of, organization};
+ghost use Rattle.macro_layout.specs.Floorplan.{line_count, choice_count, rail_x};
+ghost use Rattle.macro_wires.specs.Sides.{AreLeafSides};
+ghost use Rattle.macro_wires.specs.FloorplanNumbers.{IsNearFloorplan, IsUpTo, columns_from};
+
+use macro_wires::{FloorplanNumbers, LeafSides};
+use or_geom::Memory;
+use port_lists::lines_of;
+use sram_plan::Plan;
+use std::alloc::Global;
+use tech_rules::Wire;
+
+/// The left end of the first bank's columns.
+pub fn columns_x(sides: &LeafSides, floorplan: &FloorplanNumbers) -> i64
+    requires sides { AreLeafSides sides.now }
+    requires near { IsNearFloorplan floorplan.now }
+    ensures is { result ≡ columns_from sides.now floorplan.now }
+    ensures near { IsUpTo (2 ^ 24) result }
+{
+    floorplan.row_x + (sides.gate_width + sides.driver_width) as i64
+}
+
+/// How many lines so many bits have: none where there are no bits.
+fn choices(bits: u32) -> u32
+    requires { bits ≤ 3 }
+    ensures value { result ≡ choice_count bits }
+    ensures few { result ≤ 8 }
+{
+    if bits == 0 { 0 } else { lines_of(bits) }
+}
+
+/// How many column choices there are.
+pub fn choice_count(plan: &Plan) -> u32
+    requires { ArePlanNumbers (numbers_of plan.now) }
+    ensures value { result ≡ choice_count (organization plan.now).col_bits }
+    ensures few { result ≤ 8 }
+{
+    choices(plan.col_bits)
+}
+
+/// How many lines the groups of row bits have.
+pub fn line_count(plan: &Plan) -> u32
+    requires { ArePlanNumbers (numbers_of plan.now) }
+    ensures value { result ≡ line_count (organization plan.now).groups }
+    ensures few { result ≤ 24 }
+{
+    choices(plan.groups[0]) + choices(plan.groups[1]) + choices(plan.groups[2])
+}
+
+/// So many pitches.
+pub fn pitches(count: u32, wire: &Wire) -> u64
+    requires sizes { AreSizes wire.now }
+    requires few { count ≤ 1024 }
+    ensures value { pos result ≡ pos count *ℤ pitch wire.now }
+    ensures few { result ≤ count * 131072 }
+{
+    count as u64 * pitch(wire)
+}
+
+/// The distance from a wire's edge to the same edge of the next wire.
+fn pitch(wire: &Wire) -> u64
+    requires { AreSizes wire.now }
+    ensures value { pos result ≡ pitch wire.now }
+    ensures few { result ≤ 131072 }
+{
+    (wire.width + wire.space) as u64
+}
+
+/// Where a rail stands.
+pub fn rail_x(rail: u32, wire: &Wire) -> i64
+    requires sizes { AreSizes wire.now }
+    requires few { rail ≤ 64 }
+    ensures is { result ≡ rail_x wire.now rail }
+    ensures near { IsUpTo (2 ^ 24) result }
+{
+    pitches(rail + 1, wire) as i64
+}
+
+/// Where so many rails stand.
+pub fn rail_xs(alloc: Global, count: u32, wire: &Wire) -> Result<Vec<i64>, Memory>
+    requires sizes { AreSizes wire.now }
+    requires few { count ≤ 64 }
+    ensures { IfOk result (λ xs. xs.items ≡ tabulate count (rail_x wire.now)) }
+{
+    let mut xs = Vec::new(alloc);
+    for rail in 0..count {
+        xs.push(rail_x(rail, wire))?;
+    }
+    Ok(xs)
+}
+
+/// How far behind the first column a column begins.
+pub fn column_offset(column: u32, width: u32) -> i64
+    requires column { column ≤ 256 }
+    requires width { width ≤ 65536 }
+    ensures is { result ≡ pos (column * width) }
+    ensures near { IsUpTo (2 ^ 24) result }
+{
+    i64::from(column * width)
+}
+
+/// The first column of a bit of the word.
+pub fn first_column(plan: &Plan, bit: u32) -> u32
+    requires plan { ArePlanNumbers (numbers_of plan.now) }
+    requires bit { bit < plan.now.word_size }
+    ensures is { result ≡ bit * words_per_row (organization plan.now) }
+    ensures few { result ≤ 256 }
+{
+    bit * plan.wpr
+}

@@ -1,0 +1,7 @@
+use Rattle.std.proofs.Common.{ℕ}
+use Rattle.main_channel.specs.Numbers.{found_number, IsNetNumbering}
+use Rattle.main_channel.specs.Pins.{AreMainPins}
+use Rattle.main_channel.proofs.top.add_slice_pins.Given as goal
+
+abbrev pub invariant-loop-bit : goal.invariant-loop-bit
+invariant-loop-bit l = (nets : ℕ) → IsNetNumbering nets (found_number l.numbers) → AreMainPins nets l.fn.pins.items → AreMainPins nets l.pins.items

@@ -1,0 +1,70 @@
+ghost use Rattle.std.specs.Prelude.{◌≡◌, ◌++◌, ◌≤◌, map, length, IfOk, OnOk};
+ghost use Rattle.sram_netlist.specs.Numbers.{ArePlanNumbers};
+ghost use Rattle.sram_plan.specs.PlanNumbers.{numbers_of, organization};
+ghost use Rattle.sram_deck.specs.Deck.{logic_instances};
+ghost use Rattle.port_lists.specs.Cells.{cell_in};
+ghost use Rattle.main_channel.specs.Names.{output_name, AreGates, channel_names, port_count};
+
+use leaf_tables::Kit;
+use netlist::Instance;
+use or_geom::{Items, Memory, Name};
+use port_lists::NameList;
+use sram_plan::Plan;
+use sram_subckts::logic_subckt;
+use std::alloc::Global;
+
+/// The cells of the logic row as the netlist has them.
+pub fn logic_gates(alloc: Global, kit: &Kit, plan: &Plan) -> Result<Items<Instance>, Memory>
+    requires { ArePlanNumbers (numbers_of plan.now) }
+    ensures { IfOk result (λ gates. gates ≡ logic_instances (organization plan.now) (cell_in kit.now.tech.roles)) }
+{
+    // The subcircuit's own name is in none of its instances.
+    let name = Name::from_bytes(alloc, b"macro")?;
+    let subckt = logic_subckt(alloc, plan, kit.tech.roles.as_slice(), &name)?;
+    Ok(subckt.instances)
+}
+
+/// How many signal ports the macro has.
+pub fn port_count(plan: &Plan) -> u32
+    requires { ArePlanNumbers (numbers_of plan.now) }
+    ensures is { result ≡ port_count (organization plan.now) }
+    ensures few { result ≤ 800 }
+{
+    3 + plan.masks + plan.addr_bits + plan.word_size + plan.word_size
+}
+
+/// The names of the channel's nets: the macro's signal ports, and then the outputs of the logic row.
+pub fn net_names(alloc: Global, plan: &Plan, gates: &[Instance]) -> Result<Vec<Name>, Memory>
+    requires plan { ArePlanNumbers (numbers_of plan.now) }
+    requires gates { AreGates gates.now }
+    ensures { IfOk result (λ names. names.items ≡ channel_names (organization plan.now) gates.now) }
+{
+    let mut ports = NameList::new(alloc);
+    ports.add_macro_inputs(plan)?;
+    ports.add_indexed(b"dout0", plan.word_size)?;
+    let mut names = ports.into_items().into_vec();
+    add_outputs(alloc, gates, &mut names)?;
+    Ok(names)
+}
+
+/// Adds the name of each cell's output.
+fn add_outputs(alloc: Global, gates: &[Instance], names: &mut Vec<Name>) -> Result<(), Memory>
+    requires { AreGates gates.now }
+    ensures { OnOk result (names.new.items ≡ names.old.items ++ map output_name gates.now) }
+{
+    let mut rest = gates;
+    while let Some((gate, others)) = rest.split_first() {
+        names.push(Name::from_bytes(alloc, output_of(gate))?)?;
+        rest = others;
+    }
+    Ok(())
+}
+
+/// The name of a cell's output: the last of its nodes before the supplies.
+fn output_of(gate: &Instance) -> &[u8]
+    requires { 3 ≤ length gate.now.nodes }
+    ensures { result.now ≡ output_name gate.now }
+{
+    let nodes = gate.nodes.as_slice();
+    nodes[nodes.len() - 3].as_bytes()
+}
