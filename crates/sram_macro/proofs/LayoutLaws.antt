@@ -1,0 +1,98 @@
+-- Laying out.
+use Rattle.std.proofs.Common.{◌≡◌, ◌⊎◌, ◌↔◌, inl, inr, ℕ, zero, suc, ◌+◌, ◌*◌, ◌<◌, ◌≤◌, ℤ, pos, ◌+ℤ◌, ◌≤ℤ◌, List, [], ◌∷◌, ◌++◌, All, Contains, Some, Ok, Err, Result, IfErr, IfOk, length, ap, sym, subst, ◌∙◌, arith}
+use Rattle.std.specs.List.{AllByRecursion}
+use Rattle.std.proofs.lemmas.Int.{ints}
+use Rattle.std.proofs.lemmas.List.Elements.{Contains-append_left, Contains-append_right, Contains-append_cases}
+use Rattle.or_geom.specs.declared.shape.Shape.{Shape}
+use Rattle.or_geom.specs.Adds.{Adds}
+use Rattle.tech_rules.specs.declared.tech.Layer.{Layer}
+use Rattle.tech_rules.specs.declared.tech.Wire.{Wire}
+use Rattle.tech_rules.specs.declared.route.RouteFault.{RouteFault}
+use Rattle.tech_rules.specs.declared.route.RouteFault.TheVariants.{Close, TapsClose, Memory}
+use Rattle.tech_rules.specs.Facts.{IsWire}
+use Rattle.channel_router.specs.declared.channel.Channel.{Channel}
+use Rattle.channel_router.specs.declared.channel.ChannelPin.{ChannelPin}
+use Rattle.channel_router.specs.declared.channel.Interval.{Interval}
+use Rattle.channel_router.specs.declared.channel.Routed.{Routed}
+use Rattle.channel_router.specs.Intervals.{AreIntervals}
+use Rattle.channel_router.specs.Density.{IsDensity}
+use Rattle.tech_rules.specs.Drawing.{pitch}
+use Rattle.channel_router.specs.Routed.{IsRouted, IsRouteFault}
+use Rattle.sram_netlist.specs.Organization.{Organization}
+use Rattle.macro_layout.specs.LayoutKit.{LayoutKit}
+use Rattle.macro_layout.specs.Floorplan.{choice_count}
+use Rattle.macro_bounds.specs.Near.{IsCoordinate, IsChannelWithin, IsSevenLayerWire, IsWireShape, AreWireShapes, RoutedShapesAreNear, TracksAreFew}
+use Rattle.bank_layout.specs.Near.{IsWireWithin, HasTracks, IsNearRouted}
+use Rattle.port_data.specs.Column as column
+use Rattle.sram_macro.specs.Layout.{IsMainOf, IsMainFault, IsMainRouted, IsColumnOf}
+
+-- a list that grew twice
+pub both_added : {X : Type 0} (old now new : List X) (P Q : X → Type 0) → Adds old now P → Adds now new Q → (x : X) → Contains new x ↔ (Contains old x ⊎ (P x ⊎ Q x))
+both_added {X = X} old now new P Q a b x = (
+  λ h. elim (Contains-append_cases now b.added x (subst (λ (l : List X). Contains l x) b.is h)) [
+    | inl before ↦ elim (Contains-append_cases old a.added x (subst (λ (l : List X). Contains l x) a.is before)) [ inl first ↦ inl first | inr p ↦ inr (inl (a.only x p)) ]
+    | inr q ↦ inr (inr (b.only x q))
+  ],
+  λ h. subst (λ (l : List X). Contains l x) (sym b.is) (elim h [
+    | inl first ↦ Contains-append_left now b.added x (subst (λ (l : List X). Contains l x) (sym a.is) (Contains-append_left old a.added x first))
+    | inr (inl p) ↦ Contains-append_left now b.added x (subst (λ (l : List X). Contains l x) (sym a.is) (Contains-append_right old a.added x (a.each x p)))
+    | inr (inr q) ↦ Contains-append_right now b.added x (b.each x q)
+  ]),
+)
+
+-- a list that began as another
+pub begun_as : {X : Type 0} (first old : List X) (x : X) (Q : Type 0) (new : List X) → old ≡ first → Contains new x ↔ (Contains old x ⊎ Q) → Contains new x ↔ (Contains first x ⊎ Q)
+begun_as {X = X} first old x Q new is both = subst (λ (l : List X). Contains new x ↔ (Contains l x ⊎ Q)) is both
+
+pub seven_layers : (layers : List Layer) (wire : Wire) → IsWire layers wire → IsSevenLayerWire wire
+seven_layers layers wire is = record { sizes = is.sizes; four = is.four; three = is.three }
+
+pub listed_has : {X : Type 0} (P : X → Type 0) (xs : List X) (x : X) → AllByRecursion P xs → Contains xs x → P x
+listed_has P [] x all (k, lt, is) = absurd (omega (arith, lt))
+listed_has P (y ∷ ys) x all (zero, lt, is) = subst P is all.0
+listed_has P (y ∷ ys) x all (suc k, lt, is) = listed_has P ys x all.1 (k, omega (arith, lt), is)
+
+within : (wire : Wire) (s : Shape) → IsWireShape wire 1073741824 s → IsWireWithin 1073741824 wire s
+within wire s near = record {
+  layer = near.on;
+  corners = record {
+    low = record { x_above = near.left.above; x_below = near.left.below; y_above = near.low.above; y_below = near.low.below };
+    high = record { x_above = near.right.above; x_below = near.right.below; y_above = near.high.above; y_below = near.high.below };
+  };
+}
+
+all_near : (pins : List ChannelPin) → All (λ (pin : ChannelPin). column.IsChannelLength pin.x) pins → All (λ (pin : ChannelPin). IsCoordinate 268435456 pin.x) pins
+all_near pins all = λ k d lt. let near = all k d lt in record { above = near.above; below = near.below }
+
+channel_near : (ch : Channel) → column.IsNearColumnChannel ch → IsChannelWithin ch
+channel_near ch near = record { low = record { above = near.low.above; below = near.low.below }; top = all_near ch.top near.top; bottom = all_near ch.bottom near.bottom; exits = all_near ch.exits near.exits }
+
+-- the column channel is near enough for a bank
+pub column_near : RoutedShapesAreNear → (layers : List Layer) (plan : Organization) (wire : Wire) (routed : Routed) → IsWire layers wire → column.IsNearColumnRouted wire routed → routed.tracks ≤ 1024 → length routed.track ≡ choice_count plan.col_bits + 2 * plan.word_size
+    → IsNearRouted wire (choice_count plan.col_bits) routed
+column_near law layers plan wire routed is near few each = record {
+  shapes = λ s there. within wire s (listed_has (IsWireShape wire 1073741824) routed.shapes s
+      (law near.channel wire near.intervals routed (seven_layers layers wire is) (channel_near near.channel near.near) near.is (omega (arith, few))) there);
+  tracks = record { each = omega (arith, each); few = λ number t at. let below = near.is.count.below number t at in omega (arith, below, few) };
+}
+
+pub main_fault : (plan : Organization) (kit : LayoutKit) (wire : Wire) (ch : Channel) (fault : RouteFault) → IsMainOf plan kit ch → IsRouteFault ch wire fault → IsMainFault plan kit wire fault
+main_fault plan kit wire ch (Close side first second) is close = (ch, is, close)
+main_fault plan kit wire ch (TapsClose first second) is none = none
+main_fault plan kit wire ch Memory is any = tt
+
+pub err_as : {X E : Type 0} (r : Result X E) (P Q : E → Type 0) → ((e : E) → P e → Q e) → IfErr r P → IfErr r Q
+err_as (Ok x) P Q to is = tt
+err_as (Err e) P Q to is = to e is
+
+pub ok_as : {X E : Type 0} (r : Result X E) (P Q : X → Type 0) → ((x : X) → P x → Q x) → IfOk r P → IfOk r Q
+ok_as (Ok x) P Q to is = to x is
+ok_as (Err e) P Q to is = tt
+
+-- the channel that is routed, with few tracks
+pub main_routed : (plan : Organization) (kit : LayoutKit) (wire : Wire) (ch : Channel) (r : Result Routed RouteFault) → TracksAreFew → IsMainOf plan kit ch → ch.nets ≤ 4096 → IfOk r (λ (x : Routed). (intervals : List Interval) × IsRouted ch wire intervals x)
+    → IfOk r (λ (x : Routed). (intervals : List Interval) → AreIntervals ch intervals → IsDensity (pitch wire) intervals x.tracks) → IfOk r (IsMainRouted plan kit wire)
+main_routed plan kit wire ch (Err e) law is few routed dense = tt
+main_routed plan kit wire ch (Ok x) law is few routed dense =
+    let tracks = law ch wire routed.0 x.tracks routed.1.nets (dense routed.0 routed.1.nets) in
+    record { channel = ch; is = is; intervals = routed.0; routed_as = routed.1; few = omega (arith, tracks, few) }

@@ -1,0 +1,8 @@
+mod NameLaws
+mod ExtentLaws
+mod LibraryLaws
+mod SignalLaws
+mod LayoutLaws
+mod KitFacts
+mod LabelFacts
+mod AssemblyLaws

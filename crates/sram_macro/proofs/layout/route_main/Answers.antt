@@ -1,0 +1,20 @@
+-- The main channel, routed.
+use Rattle.std.proofs.Common.{◌≡◌, ◌≤◌, arith}
+use Rattle.channel_router.specs.declared.channel.Routed.{Routed}
+use Rattle.channel_router.specs.declared.channel.Interval.{Interval}
+use Rattle.tech_rules.specs.declared.route.RouteFault.{RouteFault}
+use Rattle.sram_plan.specs.PlanNumbers.{organization}
+use Rattle.macro_cells.specs.LayoutOfKit.{layout_kit}
+use Rattle.sram_macro.specs.Layout.{IsMainOf}
+use Rattle.sram_macro.proofs.LayoutLaws.{main_routed, main_fault, err_as}
+use Rattle.sram_macro.proofs.layout.route_main.Goals as goal
+
+pub returns-clause-routed : goal.returns-clause-routed
+returns-clause-routed c =
+    let is : IsMainOf (organization c.args.plan.now) (layout_kit c.args.kit.now) c.in_ok-channel.channel = record { near = c.in_ok-channel.ensures.near; nets = c.in_ok-channel.ensures.nets; exits = c.in_ok-channel.ensures.exits; low = c.in_ok-channel.ensures.low } in
+    main_routed (organization c.args.plan.now) (layout_kit c.args.kit.now) c.args.wire.now c.in_ok-channel.channel c.route.result c.tracks_are_few.ensures is c.in_ok-channel.ensures.few c.route.ensures.routed c.route.ensures.dense
+
+pub returns-clause-fault : goal.returns-clause-fault
+returns-clause-fault c =
+    err_as c.route.result _ _ (λ (e : RouteFault) close. main_fault (organization c.args.plan.now) (layout_kit c.args.kit.now) c.args.wire.now c.in_ok-channel.channel e
+    (record { near = c.in_ok-channel.ensures.near; nets = c.in_ok-channel.ensures.nets; exits = c.in_ok-channel.ensures.exits; low = c.in_ok-channel.ensures.low }) close) c.route.ensures.fault

@@ -1,0 +1,10 @@
+use Rattle.std.proofs.Common.{◌≡◌, length}
+use Rattle.sram_macro.specs.Names.{macro_names, first_taken}
+use Rattle.sram_macro.proofs.names.refuse_taken_names.Given as goal
+
+-- none of the names before is taken
+abbrev pub invariant-loop-first : goal.invariant-loop-first
+invariant-loop-first l = first_taken l.kit (macro_names l.name) ≡ first_taken l.kit l.rest
+
+abbrev pub decreases-loop-first : goal.decreases-loop-first
+decreases-loop-first l = length l.rest

@@ -1,0 +1,7 @@
+pub mod Names
+pub mod Extents
+pub mod Library
+pub mod Signals
+pub mod View
+pub mod Layout
+pub mod Macro

@@ -1,0 +1,87 @@
+-- What a macro is that is assembled, and why there is none.
+use Rattle.std.specs.Prelude.{◌≡◌, ◌⊎◌, ◌↔◌, ℕ, ◌≤◌, pos, List, Contains, Some, None}
+use Rattle.or_geom.specs.declared.shape.Shape.{Shape}
+use Rattle.gds_library.specs.Writable.{IsWritable}
+use Rattle.netlist.specs.declared.deck.Deck.{Deck}
+use Rattle.tech_rules.specs.declared.tech.Wire.{Wire}
+use Rattle.channel_router.specs.declared.channel.Routed.{Routed}
+use Rattle.cell_builder.specs.Finish.{IsLibraryOf}
+use Rattle.sram_netlist.specs.Organization.{Organization}
+use Rattle.sram_deck.specs.Deck.{written_subckts}
+use Rattle.sram_plan.specs.declared.numbers.Plan.{Plan}
+use Rattle.sram_plan.specs.PlanNumbers.{organization}
+use Rattle.sram_plan.specs.View.{IsView}
+use Rattle.sram_plan.specs.declared.view.SignalPin.{SignalPin}
+use Rattle.sram_rows.specs.Rows.{AreLeavesFor}
+use Rattle.leaf_tables.specs.declared.kit.Kit.{Kit}
+use Rattle.leaf_tables.specs.declared.part.PartFault.{PartFault}
+use Rattle.port_lists.specs.Cells.{cell_in}
+use Rattle.port_data.specs.Column.{IsNarrowFault, AreWideSlices, IsColumnFault}
+use Rattle.macro_layout.specs.LayoutKit.{LayoutKit}
+use Rattle.macro_layout.specs.Wires.{IsPowerWire, IsGroundWire}
+use Rattle.macro_wires.specs.FloorplanNumbers.{floorplan_of}
+use Rattle.macro_cells.specs.LayoutOfKit.{layout_kit}
+use Rattle.sram_macro.specs.declared.assembly.Macro.{Macro}
+use Rattle.sram_macro.specs.declared.layout.Layout.{Layout}
+use Rattle.sram_macro.specs.declared.library.Wires.{Wires}
+use Rattle.sram_macro.specs.Library.{macro_list, drawing_with}
+use Rattle.sram_macro.specs.Signals.{signal_names, input_count, signals_on_tracks, macro_labels}
+use Rattle.sram_macro.specs.View.{macro_view}
+use Rattle.sram_macro.specs.Names.{macro_names, first_taken, IsTakenFault}
+use Rattle.sram_macro.specs.Layout.{IsColumnOf, IsMacroLayout, IsMacroLayoutFault}
+
+-- the subcircuits that are written behind those of the kit
+abbrev pub macro_deck : Kit → Plan → List ℕ → Deck
+macro_deck kit plan name = record { subckts = written_subckts (organization plan) (cell_in kit.tech.roles) name; used = 0 }
+
+-- the wires of the macro's cells: a bank's, those of the main channel and of the supplies, and the labels
+pub record AreWiresOf (plan : Organization) (kit : LayoutKit) (wire : Wire) (layout : Layout) (pins : List SignalPin) (wires : Wires) : Type 0 where
+  pub bank : wires.bank.items ≡ layout.bank.items
+  pub top : (s : Shape) → Contains wires.top.items s
+      ↔ (Contains layout.main.shapes s ⊎ (IsPowerWire plan kit wire (floorplan_of layout.floorplan) s ⊎ IsGroundWire plan kit wire (floorplan_of layout.floorplan) s))
+  pub labels : wires.labels.items ≡ macro_labels wire layout.ends pins
+
+-- the signal ports, on their tracks of the main channel
+abbrev pub layout_pins : Organization → Wire → Layout → List SignalPin
+layout_pins plan wire layout = signals_on_tracks wire (pos layout.sides.inv_height) (input_count plan) (signal_names plan) layout.main.track
+
+-- The library is that of the seven stated cells with these wires, behind the kit's structures; the view is that of the layout.
+pub record IsDrawnFrom (kit : Kit) (plan : Organization) (name : List ℕ) (layout : Layout) (m : Macro) : Type 0 where
+  pub wire : Wire
+  pub wired : kit.tech.wire ≡ Some wire
+  pub wires : Wires
+  pub are : AreWiresOf plan (layout_kit kit) wire layout (layout_pins plan wire layout) wires
+  pub library : IsLibraryOf kit.tech.layers (macro_list kit plan name (drawing_with layout.floorplan wires)) name m.lib
+  pub view : m.view ≡ macro_view kit.tech.layers name wire layout.ends (layout_pins plan wire layout)
+  pub tracks : m.tracks ≡ layout.main.tracks
+
+-- the macro is laid out around some column channel
+pub record IsLaidOut (kit : Kit) (plan : Organization) (layout : Layout) : Type 0 where
+  pub column : Routed
+  pub few : column.tracks ≤ 1024
+  pub is : IsMacroLayout kit plan column layout
+
+pub record IsMacro (kit : Kit) (plan : Plan) (name : List ℕ) (m : Macro) : Type 0 where
+  pub named : m.lib.name ≡ name
+  pub writable : IsWritable m.lib
+  pub deck : m.deck ≡ macro_deck kit plan name
+  -- the kit's subcircuits are those of the roles, and none has a name that is written
+  pub leaves : AreLeavesFor (organization plan) (cell_in kit.tech.roles) kit.deck.subckts name
+  pub good_view : IsView m.view
+  pub layout : Layout
+  pub laid : IsLaidOut kit (organization plan) layout
+  pub drawn : IsDrawnFrom kit (organization plan) name layout m
+
+-- a slice is too narrow, or else pins of the column channel are too close
+abbrev pub IsDataFault : Kit → Organization → PartFault → Type 0
+IsDataFault kit plan fault =
+    IsNarrowFault plan (layout_kit kit) fault
+    ⊎ (AreWideSlices plan (layout_kit kit) × ((wire : Wire) → kit.tech.wire ≡ Some wire → IsColumnFault plan (layout_kit kit) wire fault))
+
+-- that, or else taps of a bank or pins of the main channel are too close
+abbrev pub IsPartsFault : Kit → Organization → PartFault → Type 0
+IsPartsFault kit plan fault = IsDataFault kit plan fault ⊎ ((column : Routed) × IsColumnOf kit plan column × IsMacroLayoutFault kit plan column fault)
+
+-- Why there is no macro: the first name that is taken, or else the first fault of its parts.
+abbrev pub IsMacroFault : Kit → Plan → List ℕ → PartFault → Type 0
+IsMacroFault kit plan name fault = IsTakenFault kit name fault ⊎ ((first_taken kit (macro_names name) ≡ None) × IsPartsFault kit (organization plan) fault)

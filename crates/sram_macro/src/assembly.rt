@@ -1,0 +1,209 @@
+ghost use Rattle.std.specs.Prelude.{◌≡◌, ◌≤◌, pos, Some, None, IfOk, IfErr, IsTrue};
+ghost use Rattle.std.specs.List.{AllByRecursion};
+ghost use Rattle.gds_library.specs.Writable.{IsWritable};
+ghost use Rattle.cell_builder.specs.Finish.{IsLibraryOf};
+ghost use Rattle.leaf_tables.specs.Kits.{IsKit};
+ghost use Rattle.tech_rules.specs.Facts.{IsWire};
+ghost use Rattle.sram_netlist.specs.Numbers.{ArePlanNumbers};
+ghost use Rattle.sram_plan.specs.Config.{is_output_name};
+ghost use Rattle.sram_plan.specs.PlanNumbers.{numbers_of, organization};
+ghost use Rattle.macro_cells.specs.LayoutOfKit.{layout_kit};
+ghost use Rattle.macro_wires.specs.Sides.{AreLeafSides, AreSidesOf};
+ghost use Rattle.macro_wires.specs.FloorplanNumbers.{IsNearFloorplan};
+ghost use Rattle.macro_bounds.specs.Writable.{IsWritableDrawing};
+ghost use Rattle.sram_macro.specs.Names.{macro_names, first_taken};
+ghost use Rattle.sram_macro.specs.Signals.{signal_names, input_count, signals_on_tracks, IsWritablePin};
+ghost use Rattle.sram_macro.specs.Library.{macro_list, drawing_with, AreOnLayers};
+ghost use Rattle.sram_macro.specs.Layout.{IsMainRouted, IsColumnOf};
+ghost use Rattle.sram_macro.specs.Macro.{IsMacro, IsMacroFault, IsLaidOut, IsDataFault, AreWiresOf};
+
+use crate::deck::macro_deck;
+use crate::layout::{Layout, lay_out, top_wires, wire_of};
+use crate::library::{Wires, library};
+use crate::names::refuse_taken_names;
+use crate::signals::{macro_labels, signal_names, signal_pins};
+use crate::view::macro_view;
+use channel_router::Routed;
+use gds_library::Library;
+use leaf_tables::{Kit, PartFault};
+use macro_bounds::{
+    floorplans_are_near, macro_libraries_are_writable, near_shapes_are_listed,
+    near_wires_are_writable, output_names_are_short, routed_shapes_are_near, supply_wires_are_near,
+};
+use macro_wires::{FloorplanNumbers, LeafSides};
+use netlist::Deck;
+use or_geom::{Memory, Name};
+use port_data::{channel, refuse_narrow_slices};
+use sram_plan::{Abstract, Plan, SignalPin};
+use std::alloc::Global;
+use tech_rules::Wire;
+
+/// A macro: its library, the subcircuits behind those of the leaf cells, its abstract view, and how many tracks its main
+/// channel has.
+#[derive(Debug, Drop)]
+pub struct Macro {
+    pub lib: Library,
+    pub deck: Deck,
+    pub view: Abstract,
+    pub tracks: u32,
+}
+
+/// The signal ports of the macro, each on its track of the main channel, which begins at `low`.
+fn signals_of(
+    alloc: Global,
+    kit: &Kit,
+    plan: &Plan,
+    wire: &Wire,
+    low: u32,
+    main: &Routed,
+) -> Result<Vec<SignalPin>, Memory>
+    requires plan { ArePlanNumbers (numbers_of plan.now) }
+    requires wire { IsWire kit.now.tech.layers wire.now }
+    requires low { low ≤ 65536 }
+    requires main { IsMainRouted (organization plan.now) (layout_kit kit.now) wire.now main.now }
+    ensures are { IfOk result (λ pins. pins.items ≡ signals_on_tracks wire.now (pos low) (input_count (organization plan.now)) (signal_names (organization plan.now)) main.now.track) }
+    ensures writable { IfOk result (λ pins. AllByRecursion IsWritablePin pins.items) }
+{
+    let names = signal_names(alloc, plan)?;
+    let inputs = inputs_of(plan);
+    Ok(signal_pins(
+        alloc,
+        names.as_slice(),
+        inputs,
+        low,
+        main.track.as_slice(),
+        wire,
+    )?)
+}
+
+/// How many signals go into the macro.
+fn inputs_of(plan: &Plan) -> usize
+    requires { ArePlanNumbers (numbers_of plan.now) }
+    ensures { result ≡ input_count (organization plan.now) }
+{
+    3 + plan.masks as usize + plan.addr_bits as usize + plan.word_size as usize
+}
+
+/// The wires of a bank, and the wires and labels of the macro.
+fn wires_of(
+    alloc: Global,
+    kit: &Kit,
+    plan: &Plan,
+    wire: &Wire,
+    layout: Layout,
+    signals: &[SignalPin],
+) -> Result<Wires, Memory>
+    requires kit { IsKit kit.now }
+    requires plan { ArePlanNumbers (numbers_of plan.now) }
+    requires wired { kit.now.tech.wire ≡ Some wire.now }
+    requires wire { IsWire kit.now.tech.layers wire.now }
+    requires layout { IsLaidOut kit.now (organization plan.now) layout }
+    requires signals { AllByRecursion IsWritablePin signals.now }
+    ensures are { IfOk result (AreWiresOf (organization plan.now) (layout_kit kit.now) wire.now layout signals.now) }
+    ensures layers { IfOk result (AreOnLayers kit.now.tech.layers) }
+    ensures writable { IfOk result (λ wires. IsWritableDrawing (drawing_with layout.floorplan wires)) }
+{
+    // That all wires fit 32 bits and are on layers follows by these laws.
+    routed_shapes_are_near();
+    supply_wires_are_near();
+    floorplans_are_near();
+    near_wires_are_writable();
+    near_shapes_are_listed();
+    let Layout {
+        sides,
+        floorplan,
+        ends,
+        bank,
+        main,
+    } = layout;
+    let labels = macro_labels(alloc, wire, &ends, signals)?;
+    let top = top_wires(plan, wire, &sides, &floorplan, &ends, main)?;
+    Ok(Wires { bank, top, labels })
+}
+
+/// The macro's library, which can be written.
+fn written_library(
+    alloc: Global,
+    kit: &Kit,
+    plan: &Plan,
+    name: &Name,
+    sides: &LeafSides,
+    floorplan: &FloorplanNumbers,
+    wires: Wires,
+) -> Result<Library, Memory>
+    requires kit { IsKit kit.now }
+    requires plan { ArePlanNumbers (numbers_of plan.now) }
+    requires name { IsTrue (is_output_name name.now) }
+    requires free { first_taken kit.now (macro_names name.now) ≡ None }
+    requires sides { AreLeafSides sides.now }
+    requires of { AreSidesOf (organization plan.now) (layout_kit kit.now) sides.now }
+    requires near { IsNearFloorplan floorplan.now }
+    requires layers { AreOnLayers kit.now.tech.layers wires }
+    requires drawing { IsWritableDrawing (drawing_with floorplan.now wires) }
+    ensures library { IfOk result (IsLibraryOf kit.now.tech.layers (macro_list kit.now (organization plan.now) name.now (drawing_with floorplan.now wires)) name.now) }
+    ensures named { IfOk result (λ lib. lib.name ≡ name.now) }
+    ensures writable { IfOk result IsWritable }
+{
+    // That the library can be written follows by these laws.
+    macro_libraries_are_writable();
+    output_names_are_short();
+    Ok(library(alloc, kit, plan, name, sides, floorplan, wires)?)
+}
+
+/// The macro that is laid out so.
+fn macro_of(
+    alloc: Global,
+    kit: &Kit,
+    plan: &Plan,
+    name: &Name,
+    layout: Layout,
+) -> Result<Macro, Memory>
+    requires kit { IsKit kit.now }
+    requires plan { ArePlanNumbers (numbers_of plan.now) }
+    requires name { IsTrue (is_output_name name.now) }
+    requires free { first_taken kit.now (macro_names name.now) ≡ None }
+    requires layout { IsLaidOut kit.now (organization plan.now) layout }
+    ensures { IfOk result (IsMacro kit.now plan.now name.now) }
+{
+    let wire = wire_of(kit);
+    let tracks = layout.main.tracks;
+    let (sides, floorplan, ends) = (layout.sides, layout.floorplan, layout.ends);
+    let signals = signals_of(alloc, kit, plan, wire, sides.inv_height, &layout.main)?;
+    let wires = wires_of(alloc, kit, plan, wire, layout, &signals)?;
+    let layers = kit.tech.layers.as_slice();
+    Ok(Macro {
+        lib: written_library(alloc, kit, plan, name, &sides, &floorplan, wires)?,
+        deck: macro_deck(alloc, kit, plan, name)?,
+        view: macro_view(alloc, layers, name, wire, &ends, signals)?,
+        tracks,
+    })
+}
+
+/// The column channel of the macro's banks, where its slices are wide enough.
+fn column_of(alloc: Global, kit: &Kit, plan: &Plan) -> Result<Routed, PartFault>
+    requires kit { IsKit kit.now }
+    requires plan { ArePlanNumbers (numbers_of plan.now) }
+    ensures column { IfOk result (IsColumnOf kit.now (organization plan.now)) }
+    ensures fault { IfErr result (IsDataFault kit.now (organization plan.now)) }
+{
+    refuse_narrow_slices(alloc, kit, plan)?;
+    channel(alloc, kit, plan)
+}
+
+/// Assembles the macro of this name from leaf cells. `NameTaken`: a structure or subcircuit of the leaf cells has the name of
+/// one of the macro's; `SliceTooNarrow`: the sense or the write cell is wider than the columns of a bit; `Close`: pins of a
+/// channel are nearer to each other than the pitch, first of a bank's and then of the main channel; `TapsClose`: taps of a
+/// bank's rails are. x and y of the first channel's pins count from the left end of the columns, those of taps from the lower
+/// edge of the bank, and those of the main channel in the macro.
+pub fn assemble(alloc: Global, kit: &Kit, plan: &Plan, name: &Name) -> Result<Macro, PartFault>
+    requires kit { IsKit kit.now }
+    requires plan { ArePlanNumbers (numbers_of plan.now) }
+    requires name { IsTrue (is_output_name name.now) }
+    ensures ok { IfOk result (IsMacro kit.now plan.now name.now) }
+    ensures fault { IfErr result (IsMacroFault kit.now plan.now name.now) }
+{
+    refuse_taken_names(alloc, kit, name)?;
+    let column = column_of(alloc, kit, plan)?;
+    let layout = lay_out(alloc, kit, plan, name, &column)?;
+    Ok(macro_of(alloc, kit, plan, name, layout)?)
+}

@@ -1,0 +1,13 @@
+//! Assembles the macro: its library, its subcircuits and its abstract view.
+#![tactic(auto)]
+
+mod assembly;
+mod deck;
+mod extents;
+mod layout;
+mod library;
+mod names;
+mod signals;
+mod view;
+
+pub use assembly::{Macro, assemble};
