@@ -1,0 +1,4 @@
+pub mod NearLaws
+pub mod NetlistLaws
+pub mod CountLaws
+pub mod CheckLaws

@@ -1,0 +1,22 @@
+use Rattle.sram_plan.specs.PlanNumbers.{organization}
+use Rattle.std.proofs.Common.{sym, subst}
+use Rattle.std.proofs.lemmas.Result.{err_from_is_err_and}
+use Rattle.macro_build.specs.Built.{IsBuildFault}
+use Rattle.macro_build.proofs.CheckLaws.{part_cause}
+use Rattle.macro_build.proofs.builder.build.Goals as goal
+
+pub returns-clause-memory : goal.returns-clause-memory
+returns-clause-memory g c =
+    let plan = organization c.args.plan.now in
+    record {
+      runs = λ s cs. c.runs_exist.ensures plan s cs c.requires.plan.plan;
+      answers = λ s cs vs end. c.runs_answer_numbers.ensures plan s cs vs end c.requires.plan.plan;
+    }
+
+pub returns-in_err-made-clause-fault : goal.returns-in_err-made-clause-fault
+returns-in_err-made-clause-fault g c =
+    let kit = c.args.kit.now in
+    let plan = c.args.plan.now in
+    let name = c.args.name.now in
+    let p = err_from_is_err_and c.from_residual.result c.from_residual.ensures.1 in
+    rw p.1 (subst (IsBuildFault kit plan name) (sym p.2) (part_cause kit plan name c.in_err-made.field-0.0 c.in_err-made.ensures.fault))

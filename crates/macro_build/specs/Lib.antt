@@ -1,0 +1,6 @@
+pub mod Built
+pub mod Causes
+pub mod Checks
+pub mod Counts
+pub mod Memory
+pub mod Written

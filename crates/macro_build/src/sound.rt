@@ -1,0 +1,123 @@
+ghost use Rattle.std.specs.Prelude.{◌≡◌, ◌<◌, ◌≤◌, ◌^◌, length, IfOk, IfErr, OnOk};
+ghost use Rattle.std.specs.List.Sorted.{IsStrictlySortedBy};
+ghost use Rattle.or_geom.specs.Reachable.{AreReachable};
+ghost use Rattle.or_geom.specs.ShapeOrder.{shape_order};
+ghost use Rattle.cell_hierarchy.specs.FlatLists.{AreFlatLists};
+ghost use Rattle.cell_hierarchy.specs.Plain.{lists_of};
+ghost use Rattle.leaf_tables.specs.Kits.{IsKit};
+ghost use Rattle.sram_netlist.specs.Numbers.{ArePlanNumbers};
+ghost use Rattle.sram_plan.specs.PlanNumbers.{numbers_of};
+ghost use Rattle.sram_macro.specs.Macro.{IsMacro};
+ghost use Rattle.macro_build.specs.Built.{IsBuildFault, IsSoundMacro};
+ghost use Rattle.macro_build.specs.Checks.{IsFirstBroken, IsFirstDiffering};
+
+use crate::built::BuildFault;
+use crate::rows::rows_of;
+use bumpalo::Bump;
+use cell_hierarchy::{Flat, flatten};
+use leaf_tables::Kit;
+use net_extractor::{NetDiff, compare, extract};
+use or_geom::{Memory, Name};
+use shape_bins::{Bins, index};
+use sram_macro::Macro;
+use sram_plan::Plan;
+use std::alloc::Global;
+use std::thread::Threads;
+use tile_checker::{Gate, Violation, check_all, first_fault};
+
+/// The flat shapes and labels of the macro, in the arena.
+fn flat_of<'b>(
+    alloc: Global,
+    bump: &'b Bump,
+    kit: &Kit,
+    _plan: &Plan,
+    name: &Name,
+    made: &Macro,
+) -> Result<Flat<'b>, BuildFault>
+    requires kit { IsKit kit.now }
+    requires made { IsMacro kit.now _plan.now name.now made.now }
+    ensures flat { IfOk result (λ flat. AreFlatLists kit.now.tech.layers made.now.lib.structs name.now (lists_of flat)) }
+    ensures rises { IfOk result (λ flat. IsStrictlySortedBy shape_order flat.shapes.now) }
+    ensures reach { IfOk result (λ flat. AreReachable flat.shapes.now) }
+    ensures few { IfOk result (λ flat. length flat.shapes.now ≤ 16777216) }
+    ensures few_labels { IfOk result (λ flat. length flat.labels.now ≤ 2 ^ 22) }
+    ensures fault { IfErr result (IsBuildFault kit.now _plan.now name.now) }
+{
+    Ok(flatten(alloc, bump, &made.lib, &kit.tech, name)?)
+}
+
+/// The first violation of the rules over a flat layout, by as many workers.
+fn broken_rule<'b, R: Threads + Sync, G: Gate + Sync>(
+    rt: &R,
+    alloc: Global,
+    gate: &G,
+    kit: &Kit,
+    flat: &Flat<'b>,
+    bins: &Bins<'b>,
+    workers: u8,
+) -> Result<Option<Violation>, Memory>
+    requires kit { IsKit kit.now }
+    requires rises { IsStrictlySortedBy shape_order flat.now.shapes.now }
+    requires reach { AreReachable flat.now.shapes.now }
+    requires bins { bins.now ≡ flat.now.shapes.now }
+    requires some { 0 < workers }
+    requires at_most { workers ≤ 64 }
+    ensures { IfOk result (IsFirstBroken kit.now.tech.rules flat.now.shapes.now) }
+{
+    let violations = check_all(rt, alloc, gate, &kit.tech, flat, bins, workers)?;
+    Ok(first_fault(&violations))
+}
+
+/// The first difference of the nets of a flat layout from the macro's netlist.
+fn net_difference<'b, R: Threads + Sync>(
+    rt: &R,
+    alloc: Global,
+    kit: &Kit,
+    plan: &Plan,
+    name: &Name,
+    made: &Macro,
+    flat: &Flat<'b>,
+    bins: &Bins<'b>,
+) -> Result<Option<NetDiff>, Memory>
+    requires plan { ArePlanNumbers (numbers_of plan.now) }
+    requires made { IsMacro kit.now plan.now name.now made.now }
+    requires rises { IsStrictlySortedBy shape_order flat.now.shapes.now }
+    requires bins { bins.now ≡ flat.now.shapes.now }
+    requires few_labels { length flat.now.labels.now ≤ 2 ^ 22 }
+    ensures { IfOk result (IsFirstDiffering kit.now name.now made.now (lists_of flat.now)) }
+{
+    let nets = extract(rt, alloc, &kit.tech, flat, bins)?;
+    let rows = rows_of(alloc, kit, plan, name, made)?;
+    Ok(compare(alloc, &nets, &rows)?)
+}
+
+/// Checks that the macro breaks no rule, and then that its labels are joined as its netlist says.
+pub fn check_sound<R: Threads + Sync, G: Gate + Sync>(
+    rt: &R,
+    alloc: Global,
+    gate: &G,
+    kit: &Kit,
+    plan: &Plan,
+    name: &Name,
+    made: &Macro,
+    workers: u8,
+) -> Result<(), BuildFault>
+    requires kit { IsKit kit.now }
+    requires plan { ArePlanNumbers (numbers_of plan.now) }
+    requires made { IsMacro kit.now plan.now name.now made.now }
+    requires some { 0 < workers }
+    requires at_most { workers ≤ 64 }
+    ensures sound { OnOk result (IsSoundMacro kit.now plan.now name.now made.now) }
+    ensures fault { IfErr result (IsBuildFault kit.now plan.now name.now) }
+{
+    let bump = Bump::new(alloc);
+    let flat = flat_of(alloc, &bump, kit, plan, name, made)?;
+    let bins = index(alloc, &bump, &flat)?;
+    if let Some(violation) = broken_rule(rt, alloc, gate, kit, &flat, &bins, workers)? {
+        return Err(BuildFault::RuleBroken(violation));
+    }
+    if let Some(difference) = net_difference(rt, alloc, kit, plan, name, made, &flat, &bins)? {
+        return Err(BuildFault::NetsDiffer(difference));
+    }
+    Ok(())
+}

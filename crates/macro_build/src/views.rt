@@ -1,0 +1,156 @@
+ghost use Rattle.std.specs.Prelude.{◌≡◌, ◌++◌, ◌∷◌, [], take, IfOk, IsTrue, if◌then◌else◌};
+ghost use Rattle.gds_stream.specs.Canonical.{canonical};
+ghost use Rattle.spice_text.specs.Appended.{appended, with_lf};
+ghost use Rattle.leaf_tables.specs.Kits.{IsKit};
+ghost use Rattle.sram_netlist.specs.Numbers.{ArePlanNumbers};
+ghost use Rattle.sram_plan.specs.Config.{is_output_name};
+ghost use Rattle.sram_plan.specs.PlanNumbers.{numbers_of};
+ghost use Rattle.sram_macro.specs.Macro.{IsMacro};
+ghost use Rattle.macro_build.specs.Built.{IsBuilt, IsSoundMacro};
+ghost use Rattle.macro_build.specs.Written.{IsReadInLowerCase, IsReferenceNetlist, SpellSoundLayout};
+
+use crate::built::Built;
+use crate::counts::leaf_count;
+use gds_stream::write_gds;
+use leaf_tables::Kit;
+use macro_views::{lef_text, verilog_text};
+use or_geom::{Memory, Name};
+use spice_text::write_spice;
+use sram_macro::Macro;
+use sram_plan::Plan;
+use sram_rows::{
+    cells_are_names, rows_equal_netlist, written_subckts_are_read, written_subckts_are_writable,
+};
+use std::alloc::Global;
+use written_layout::writing_keeps_flat;
+
+/// The bytes of the kit's netlist before its `.END`.
+fn front_of(kit: &Kit) -> &[u8]
+    ensures { result.now ≡ take kit.now.deck.used kit.now.text }
+{
+    let text = kit.text.as_slice();
+    if kit.deck.used < text.len() as u64 {
+        &text[..kit.deck.used as usize]
+    } else {
+        text
+    }
+}
+
+/// Whether the last line has no end.
+fn lacks_end(text: &[u8]) -> bool
+    ensures { with_lf text.now ≡ (if result then text.now ++ 10 ∷ [] else text.now) }
+{
+    match text.last() {
+        None => false,
+        Some(last) => *last != b'\n',
+    }
+}
+
+/// The kit's netlist before its `.END`, with an end to its last line.
+fn kit_lines(alloc: Global, kit: &Kit) -> Result<Vec<u8>, Memory>
+    ensures { IfOk result (λ lines. lines.items ≡ with_lf (take kit.now.deck.used kit.now.text)) }
+{
+    let mut lines = Vec::from_slice(alloc, front_of(kit))?;
+    if lacks_end(&lines) {
+        lines.push(b'\n')?;
+    }
+    Ok(lines)
+}
+
+/// The netlist: that of the kit, and the macro's subcircuits behind it.
+fn joined_text(
+    alloc: Global,
+    kit: &Kit,
+    _plan: &Plan,
+    _name: &Name,
+    made: &Macro,
+) -> Result<Vec<u8>, Memory>
+    requires kit { IsKit kit.now }
+    requires plan { ArePlanNumbers (numbers_of _plan.now) }
+    requires name { IsTrue (is_output_name _name.now) }
+    requires made { IsMacro kit.now _plan.now _name.now made.now }
+    ensures { IfOk result (λ text. text.items ≡ appended kit.now.deck kit.now.text made.now.deck.subckts) }
+{
+    // These calls do nothing when the program runs: their contracts are the laws that the subcircuits can be written.
+    cells_are_names();
+    written_subckts_are_writable();
+    let mut text = kit_lines(alloc, kit)?;
+    text.extend_from_slice(&write_spice(alloc, made.deck.subckts.as_slice())?)?;
+    Ok(text)
+}
+
+/// The same, which is read as the reference netlist.
+fn spice_text(
+    alloc: Global,
+    kit: &Kit,
+    plan: &Plan,
+    name: &Name,
+    made: &Macro,
+) -> Result<Vec<u8>, Memory>
+    requires kit { IsKit kit.now }
+    requires plan { ArePlanNumbers (numbers_of plan.now) }
+    requires name { IsTrue (is_output_name name.now) }
+    requires made { IsMacro kit.now plan.now name.now made.now }
+    ensures text { IfOk result (λ text. text.items ≡ appended kit.now.deck kit.now.text made.now.deck.subckts) }
+    ensures read { IfOk result (λ text. IsReadInLowerCase kit.now plan.now name.now text.items) }
+    ensures netlist { IfOk result (λ text. IsReferenceNetlist kit.now plan.now name.now text.items) }
+{
+    // So do these: that the subcircuits are read back, and that they are the reference netlist.
+    cells_are_names();
+    written_subckts_are_read();
+    rows_equal_netlist();
+    Ok(joined_text(alloc, kit, plan, name, made)?)
+}
+
+/// The layout's bytes.
+fn gds_bytes(
+    alloc: Global,
+    _kit: &Kit,
+    _plan: &Plan,
+    _name: &Name,
+    made: &Macro,
+) -> Result<Vec<u8>, Memory>
+    requires plan { ArePlanNumbers (numbers_of _plan.now) }
+    requires sound { IsSoundMacro _kit.now _plan.now _name.now made.now }
+    ensures bytes { IfOk result (λ bytes. bytes.items ≡ canonical made.now.lib) }
+    ensures layout { IfOk result (λ bytes. SpellSoundLayout _kit.now _plan.now _name.now bytes.items) }
+{
+    // These calls do nothing when the program runs: their contracts are the laws that what is written is flat as what was
+    // checked, and that its rows are those of the reference netlist.
+    writing_keeps_flat();
+    rows_equal_netlist();
+    Ok(write_gds(alloc, &made.lib)?)
+}
+
+/// The views of a sound macro, and what is told of it.
+pub fn views(
+    alloc: Global,
+    kit: &Kit,
+    plan: &Plan,
+    name: &Name,
+    made: &Macro,
+) -> Result<Built, Memory>
+    requires kit { IsKit kit.now }
+    requires plan { ArePlanNumbers (numbers_of plan.now) }
+    requires name { IsTrue (is_output_name name.now) }
+    requires sound { IsSoundMacro kit.now plan.now name.now made.now }
+    ensures built { IfOk result (IsBuilt kit.now plan.now name.now) }
+    ensures read { IfOk result (λ built. IsReadInLowerCase kit.now plan.now name.now built.spice.items) }
+    ensures netlist { IfOk result (λ built. IsReferenceNetlist kit.now plan.now name.now built.spice.items) }
+    ensures layout { IfOk result (λ built. SpellSoundLayout kit.now plan.now name.now built.gds.items) }
+{
+    let spice = spice_text(alloc, kit, plan, name, made)?;
+    let gds = gds_bytes(alloc, kit, plan, name, made)?;
+    let lef = lef_text(alloc, &made.view)?;
+    let verilog = verilog_text(alloc, plan, name)?;
+    Ok(Built {
+        spice,
+        gds,
+        lef,
+        verilog,
+        tracks: made.tracks,
+        leaves: leaf_count(plan),
+        width: made.view.width,
+        height: made.view.height,
+    })
+}
