@@ -1,6 +1,4 @@
-mod OutcomeLaws
-mod EndLaws
-mod PrintLaws
 mod RunLaws
 mod NearLaws
+mod WorkLaws
 mod OneAnswer

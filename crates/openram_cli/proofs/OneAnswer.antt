@@ -59,8 +59,9 @@ use Rattle.openram_cli.specs.declared.inputs.Inputs.TheVariants as inputs
 use Rattle.openram_cli.specs.declared.inputs.Layout.{Layout}
 use Rattle.openram_cli.specs.Command.{Command, LayoutWords, command_of}
 use Rattle.openram_cli.specs.Command.Command.{check, nets, compare}
-use Rattle.openram_cli.specs.Outcome.{WithoutRefusal, ValueOrFault, Then}
-use Rattle.openram_cli.specs.Inputs.{limit, IsReadable, IsFile, IsTechnology, IsLibrary, IsDeck, IsTechnologyFile, IsLibraryFile, IsDeckFile, IsLayoutWith, IsLayout, AreCompared, AreInputs}
+use Rattle.command_steps.specs.Outcome.{WithoutRefusal, ValueOrFault, Then}
+use Rattle.command_steps.specs.File.{limit, IsReadable, IsFile, IsTechnology, IsTechnologyFile}
+use Rattle.openram_cli.specs.Inputs.{IsLibrary, IsDeck, IsLibraryFile, IsDeckFile, IsLayoutWith, IsLayout, AreCompared, AreInputs}
 use Rattle.openram_cli.specs.Answer.{AreFlatShapesOf, AreFlat, leaves_of, AreLeafRows, IsReported, IsNetListing, IsDifference, IsCompared, IsCheckAnswer, IsNetsAnswer, IsCompareAnswer, IsReplyTo, IsUsage, IsCommandWork, IsWork, IsAnswer, reply_of}
 use Rattle.openram_cli.specs.OneAnswer.{HoldBytes, IsOnly, HaveOneAnswer}
 
@@ -311,5 +312,5 @@ settled (Ok x) reply is low = tt
 settled (Err e) reply is low = subst (λ (r : Reply). r.status < 4) is low
 
 pub one_answer : (words : List (List ℕ)) (files : Files) → HaveOneAnswer words files
-one_answer words files hold a b p q =
+one_answer words files none hold a b p q =
     p.is ∙ (ap reply_of (on_work all_laws files hold (command_of words) p.result q.result (settled p.result a p.is p.settled) (settled q.result b q.is q.settled) p.work q.work) ∙ sym q.is)

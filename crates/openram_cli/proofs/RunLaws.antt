@@ -15,14 +15,14 @@ use Rattle.reply_lines.specs.Reply.{refusal_reply}
 use Rattle.reply_lines.specs.Statuses.{is_memory, is_read_failure, is_usage, refusal_status}
 use Rattle.openram_cli.specs.Answer.{IsWork, IsAnswer, IsRead, IsUsage, IsCommandWork, reply_of}
 use Rattle.openram_cli.specs.Command.{Command, command_of}
-use Rattle.openram_cli.specs.Finished.{AreSomeLines, IsCut, IsStopped, IsMemorySaid, IsFinished, IsOutOfMemory, IsUnreadTold, IsRefusalTold, memory_line}
-use Rattle.openram_cli.specs.Outcome.{UnlessMemory, is_usage_outcome}
-use Rattle.openram_cli.specs.Outside.{Outside, SinkState, StoreState, IfTold}
-use Rattle.openram_cli.specs.Printed.{IsWholeText, IsPrefixOf}
-use Rattle.openram_cli.specs.Reading.{HasRead}
-use Rattle.openram_cli.specs.Run.{IsRunEnd, IsProgramRun, IsAnswered, IsCutText, IsMemoryText, AreAnswerLines, IsReadText, IsNothingOf, read_line, usage_line}
-use Rattle.openram_cli.proofs.EndLaws.{grows, followed, alone}
-use Rattle.openram_cli.proofs.OutcomeLaws.{told_all, told_map}
+use Rattle.command_steps.specs.Finished.{AreSomeLines, IsCut, IsStopped, IsMemorySaid, IsFinished, IsOutOfMemory, IsUnreadTold, IsRefusalTold, memory_line}
+use Rattle.command_steps.specs.Outcome.{UnlessMemory, is_usage_outcome}
+use Rattle.command_steps.specs.Outside.{Outside, SinkState, StoreState, IfTold}
+use Rattle.command_steps.specs.Printed.{IsWholeText, IsPrefixOf}
+use Rattle.command_steps.specs.Reading.{HasRead}
+use Rattle.openram_cli.specs.Run.{IsRunEnd, IsAnswerRun, IsAnswered, IsCutText, IsMemoryText, AreAnswerLines, IsReadText, IsNothingOf, read_line, usage_line}
+use Rattle.command_steps.proofs.EndLaws.{grows, followed, alone}
+use Rattle.command_steps.proofs.OutcomeLaws.{told_all, told_map}
 
 -- the texts of the answer
 answer_lines : (words : List (List ℕ)) (files : Files) (reply : Reply) → IsAnswer words files reply → (text : List ℕ) → AreSomeLines reply.lines text → AreAnswerLines words files text
@@ -113,7 +113,7 @@ pub record IsFitting (words : List (List ℕ)) (reply : Reply) : Type 0 where
 
 -- the run that prints it
 finished_run : (words : List (List ℕ)) (reply : Reply) (ended : ℕ) (before now : Outside) → IsFitting words reply → IfTold before.store.files (λ files. IsAnswer words files reply)
-    → (command_of words ≡ None → (files : Files) → IsAnswer words files reply) → now.store.files ≡ before.store.files → now.store.faults ≡ before.store.faults → IsFinished reply ended before.sink now.sink → IsProgramRun words ended before now
+    → (command_of words ≡ None → (files : Files) → IsAnswer words files reply) → now.store.files ≡ before.store.files → now.store.faults ≡ before.store.faults → IsFinished reply ended before.sink now.sink → IsAnswerRun words ended before now
 finished_run words reply ended before now fits told free same kept (inl whole) =
     let low = fits.low in
     record {
@@ -154,7 +154,7 @@ finished_run words reply ended before now fits told free same kept (inr (inr sto
 }
 
 -- the run where memory ran out before there was an answer
-memory_run : (words : List (List ℕ)) (ended : ℕ) (before now : Outside) → now.store.files ≡ before.store.files → now.store.faults ≡ before.store.faults → IsOutOfMemory ended before.sink now.sink → IsProgramRun words ended before now
+memory_run : (words : List (List ℕ)) (ended : ℕ) (before now : Outside) → now.store.files ≡ before.store.files → now.store.faults ≡ before.store.faults → IsOutOfMemory ended before.sink now.sink → IsAnswerRun words ended before now
 memory_run words ended before now same kept (inl cut) = record {
   range = omega arith;
   told = told_all before.store.files (λ files. IsRunEnd words files ended before now) (λ files. memory_end words files ended before now kept (inl cut));
@@ -182,7 +182,7 @@ memory_run words ended before now same kept (inr said) = record {
 
 -- the run where a read failed; words that are no form read nothing
 unread_run : (words : List (List ℕ)) (name : List ℕ) (ended : ℕ) (before now : Outside) → (command_of words ≡ None → ⊥) → IfTold before.store.files (λ files. IsRead words files name)
-    → now.store.files ≡ before.store.files → Rose before.store.faults now.store.faults → IsUnreadTold (read_line name) ended before.sink now.sink → IsProgramRun words ended before now
+    → now.store.files ≡ before.store.files → Rose before.store.faults now.store.faults → IsUnreadTold (read_line name) ended before.sink now.sink → IsAnswerRun words ended before now
 unread_run words name ended before now form told same rose (inl whole) = record {
   range = omega arith;
   told = told_map before.store.files (λ files. IsRead words files name) (λ files. IsRunEnd words files ended before now) (λ files read. unread_end words files name ended before now read rose (inl whole)) told;
@@ -263,7 +263,7 @@ usage_text refusal two =
 
 -- the run of an answer
 pub answer_run : (words : List (List ℕ)) (reply : Reply) (ended : ℕ) (before now : Outside) → HasRead (IsWork words) (Ok reply) before.store now.store → reply.status < 2 → false ≡ is_none (command_of words)
-    → IsFinished reply ended before.sink now.sink → IsProgramRun words ended before now
+    → IsFinished reply ended before.sink now.sink → IsAnswerRun words ended before now
 answer_run words reply ended before now read small form finished =
     let low : reply.status < 4 = omega arith in
     let is : (files : Files) → IsWork words files (Ok reply) → IsAnswer words files reply = λ files work. record { result = Ok reply; work = work; is = refl; settled = low } in
@@ -273,7 +273,7 @@ answer_run words reply ended before now read small form finished =
 
 -- the run of a refusal that is an answer
 refused_run : (words : List (List ℕ)) (refusal : Refusal) (ended : ℕ) (before now : Outside) → HasRead (IsWork words) (Err refusal) before.store now.store → is_usage refusal ≡ is_none (command_of words)
-    → is_memory refusal ≡ false → is_read_failure refusal ≡ false → IsFinished (refusal_reply refusal) ended before.sink now.sink → IsProgramRun words ended before now
+    → is_memory refusal ≡ false → is_read_failure refusal ≡ false → IsFinished (refusal_reply refusal) ended before.sink now.sink → IsAnswerRun words ended before now
 refused_run words refusal ended before now read usage lasts readable finished =
     let low : refusal_status refusal < 4 = low_status (is_memory refusal) (is_read_failure refusal) (is_usage refusal) lasts readable in
     let is : (files : Files) → IsWork words files (Err refusal) → IsAnswer words files (refusal_reply refusal) = λ files work. record { result = Err refusal; work = work; is = refl; settled = low } in
@@ -288,7 +288,7 @@ refused_run words refusal ended before now read usage lasts readable finished =
 
 -- the run of a failed read
 read_failed_run : (words : List (List ℕ)) (refusal : Refusal) (ended : ℕ) (before now : Outside) → HasRead (IsWork words) (Err refusal) before.store now.store → is_usage refusal ≡ is_none (command_of words)
-    → is_read_failure refusal ≡ true → IsUnreadTold (reply_line (refusal_words refusal)) ended before.sink now.sink → IsProgramRun words ended before now
+    → is_read_failure refusal ≡ true → IsUnreadTold (reply_line (refusal_words refusal)) ended before.sink now.sink → IsAnswerRun words ended before now
 read_failed_run words (ReadFailed name) ended before now read usage failed told =
     unread_run words name ended before now (formed (command_of words) usage)
     (told_map before.store.files (λ files. UnlessMemory (IsWork words files) (Err (ReadFailed name))) (λ files. IsRead words files name) (λ files work. work refl) read.told) read.same (read.cause.rose refl) told
@@ -299,7 +299,7 @@ readable (ReadFailed name) e = absurd cc
 readable other e = refl
 
 pub refusal_run : (words : List (List ℕ)) (refusal : Refusal) (ended : ℕ) (before now : Outside) → HasRead (IsWork words) (Err refusal) before.store now.store → is_usage refusal ≡ is_none (command_of words)
-    → IsRefusalTold refusal ended before.sink now.sink → IsProgramRun words ended before now
+    → IsRefusalTold refusal ended before.sink now.sink → IsAnswerRun words ended before now
 refusal_run words refusal ended before now read usage (inl out) = memory_run words ended before now read.same (read.cause.kept (readable refusal out.0)) out.1
 refusal_run words refusal ended before now read usage (inr (inl unread)) = read_failed_run words refusal ended before now read usage unread.0 unread.1
 refusal_run words refusal ended before now read usage (inr (inr finished)) = refused_run words refusal ended before now read usage finished.0 finished.1 finished.2

@@ -29,7 +29,7 @@ use Rattle.openram_cli.specs.declared.inputs.Inputs.TheVariants as inputs
 use Rattle.openram_cli.specs.declared.inputs.Layout.{Layout}
 use Rattle.openram_cli.specs.Command.{Command, command_of}
 use Rattle.openram_cli.specs.Inputs.{AreInputs}
-use Rattle.openram_cli.specs.Outcome.{WithoutRefusal, ValueOrFault, Then}
+use Rattle.command_steps.specs.Outcome.{WithoutRefusal, ValueOrFault, Then}
 
 -- why the structure has no flat layout
 abbrev pub IsFlatteningFault : Layout → FlattenFault → Type 0

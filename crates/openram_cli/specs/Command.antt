@@ -1,6 +1,7 @@
 -- The forms of the command line.
-use Rattle.std.specs.Prelude.{ℕ, ◌+◌, ◌*◌, ◌-◌, List, [], ◌∷◌, Bool, false, ◌&&◌, nat_le, Option, Some, None, if◌then◌else◌, codes}
+use Rattle.std.specs.Prelude.{ℕ, List, [], ◌∷◌, ◌&&◌, Option, Some, None, if◌then◌else◌, codes}
 use Rattle.std.specs.Str.{bytes_eq}
+use Rattle.command_steps.specs.Workers.{is_workers}
 
 -- the files of a technology and of a layout, and the name of a structure
 pub record LayoutWords : Type 0 where
@@ -13,16 +14,6 @@ pub data Command : Type 0 where
   check : LayoutWords → Command
   nets : LayoutWords → Command
   compare : LayoutWords → List ℕ → Command
-
-abbrev pub is_digit : ℕ → Bool
-is_digit b = nat_le 48 b && nat_le b 57
-
--- a number from 1 to 64 in decimal digits, without a leading zero
-abbrev pub is_workers : List ℕ → Bool
-is_workers [] = false
-is_workers (ones ∷ []) = nat_le 49 ones && nat_le ones 57
-is_workers (tens ∷ ones ∷ []) = is_digit tens && (is_digit ones && (nat_le 10 (10 * (tens - 48) + (ones - 48)) && nat_le (10 * (tens - 48) + (ones - 48)) 64))
-is_workers (a ∷ b ∷ c ∷ more) = false
 
 -- check TECH GDS TOP WORKERS
 abbrev pub check_form : List (List ℕ) → Option Command

@@ -1,12 +1,11 @@
 -- What a command reads: its files in the order of its words, each decoded before the next is read.
-use Rattle.std.specs.Prelude.{◌≡◌, ◌⊎◌, ℕ, ◌<◌, ◌≤◌, List, length, Some, None, Result, Ok, Err}
+use Rattle.std.specs.Prelude.{◌≡◌, ℕ, List, Result, Ok, Err}
 use Rattle.or_host.specs.Files.{Files}
 use Rattle.gds_library.specs.declared.library.Library.{Library}
 use Rattle.gds_library.specs.FirstFault.{IsFaultOf}
 use Rattle.gds_library.specs.Grammar.{Spells}
 use Rattle.gds_library.specs.Writable.{IsWritable}
 use Rattle.tech_rules.specs.Facts.{IsTech}
-use Rattle.tech_rules.specs.Technology.{technology}
 use Rattle.tech_rules.specs.declared.tech.Tech.{Tech}
 use Rattle.netlist.specs.declared.deck.Deck.{Deck}
 use Rattle.spice_text.specs.Deck.{deck}
@@ -17,32 +16,8 @@ use Rattle.openram_cli.specs.declared.inputs.Inputs.TheVariants as inputs
 use Rattle.openram_cli.specs.declared.inputs.Layout.{Layout}
 use Rattle.openram_cli.specs.Command.{Command, LayoutWords}
 use Rattle.openram_cli.specs.Command.Command.{check, nets, compare}
-use Rattle.openram_cli.specs.Outcome.{WithoutRefusal, ValueOrFault, Then}
-
--- 64 MiB
-abbrev pub limit : ℕ
-limit = 67108864
-
--- the file is there, and not too long
-pub record IsReadable (files : Files) (name bytes : List ℕ) : Type 0 where
-  pub holds : files name ≡ Some bytes
-  pub fits : length bytes ≤ limit
-
--- the file is there, and too long
-abbrev pub IsTooLong : Files → List ℕ → Type 0
-IsTooLong files name = (bytes : List ℕ) × (files name ≡ Some bytes) × (limit < length bytes)
-
--- the bytes of a file, unless its read failed, or it isn't there, or is too long
-abbrev pub IsFile : Files → List ℕ → Result (List ℕ) Refusal → Type 0
-IsFile files name (Ok bytes) = IsReadable files name bytes
-IsFile files name (Err refusal) =
-    (refusal ≡ refusal_of.ReadFailed name)
-    ⊎ (((refusal ≡ refusal_of.NoFile name) × (files name ≡ None))
-    ⊎ ((refusal ≡ refusal_of.TooLong name) × IsTooLong files name))
-
--- the technology that bytes are, or what is wrong with them
-abbrev pub IsTechnology : List ℕ → Result Tech Refusal → Type 0
-IsTechnology bytes = ValueOrFault (λ tech. technology bytes ≡ Ok tech) (λ fault. technology bytes ≡ Err fault) refusal_of.Tech
+use Rattle.command_steps.specs.File.{IsFile, IsTechnologyFile}
+use Rattle.command_steps.specs.Outcome.{WithoutRefusal, ValueOrFault, Then}
 
 -- the library that bytes spell, or their first fault
 abbrev pub IsLibrary : List ℕ → Result Library Refusal → Type 0
@@ -53,9 +28,6 @@ abbrev pub IsDeck : List ℕ → Result Deck Refusal → Type 0
 IsDeck bytes = ValueOrFault (λ d. deck bytes ≡ Ok d) (λ fault. deck bytes ≡ Err fault) refusal_of.Spice
 
 -- files, read and decoded
-abbrev pub IsTechnologyFile : Files → List ℕ → Result Tech Refusal → Type 0
-IsTechnologyFile files name = Then (IsFile files name) IsTechnology
-
 abbrev pub IsLibraryFile : Files → List ℕ → Result Library Refusal → Type 0
 IsLibraryFile files name = Then (IsFile files name) IsLibrary
 

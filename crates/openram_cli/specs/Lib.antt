@@ -1,11 +1,6 @@
 pub mod Command
 pub mod CommandWords
-pub mod Outcome
 pub mod Inputs
 pub mod Answer
 pub mod OneAnswer
-pub mod Outside
-pub mod Reading
-pub mod Printed
-pub mod Finished
 pub mod Run

@@ -2,6 +2,7 @@
 use Rattle.std.specs.Prelude.{◌≡◌, ℕ, List, Some}
 use Rattle.or_host.specs.Files.{Files}
 use Rattle.gds_records.specs.Bytes.{AreBytes}
+use Rattle.build_command.specs.Words.{AreNoMaking}
 use Rattle.reply_lines.specs.declared.reply.Reply.{Reply}
 use Rattle.openram_cli.specs.Answer.{IsAnswer}
 
@@ -13,6 +14,6 @@ HoldBytes files = (name bytes : List ℕ) → files name ≡ Some bytes → AreB
 abbrev pub IsOnly : (Reply → Type 0) → Type 0
 IsOnly P = (a b : Reply) → P a → P b → a ≡ b
 
--- the words have at most one answer, over these files
+-- words that are no build and no demonstration have at most one answer, over these files
 abbrev pub HaveOneAnswer : List (List ℕ) → Files → Type 0
-HaveOneAnswer words files = HoldBytes files → IsOnly (IsAnswer words files)
+HaveOneAnswer words files = AreNoMaking words → HoldBytes files → IsOnly (IsAnswer words files)

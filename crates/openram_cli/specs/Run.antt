@@ -6,11 +6,13 @@ use Rattle.or_host.specs.Text.{Grows}
 use Rattle.reply_lines.specs.declared.reply.Reply.{Reply}
 use Rattle.reply_lines.specs.Lines.{reply_line, lines_text}
 use Rattle.reply_lines.specs.Refusals.{headed}
+use Rattle.build_command.specs.Run.{IsMakingRun}
+use Rattle.build_command.specs.Words.{Making, IsMakingForm, AreNoMaking}
 use Rattle.openram_cli.specs.Answer.{IsAnswer, IsRead}
 use Rattle.openram_cli.specs.Command.{command_of}
-use Rattle.openram_cli.specs.Finished.{memory_line, IsMemorySaid}
-use Rattle.openram_cli.specs.Outside.{Outside, IfTold}
-use Rattle.openram_cli.specs.Printed.{IsWholeText, IsPrefixOf, AreFirstLines, IsFollowedBy}
+use Rattle.command_steps.specs.Finished.{memory_line, IsMemorySaid}
+use Rattle.command_steps.specs.Outside.{Outside, IfTold}
+use Rattle.command_steps.specs.Printed.{IsWholeText, IsPrefixOf, AreFirstLines, IsFollowedBy}
 
 -- the line of words that are no form
 abbrev pub usage_line : List ℕ
@@ -72,8 +74,8 @@ pub record IsRunEnd (words : List (List ℕ)) (files : Files) (status : ℕ) (be
   pub cut : status ≡ 4 → IsFaultEnd words files before now
   pub memory : status ≡ 5 → IsMemoryEnd words files before now
 
--- What a run does.
-pub record IsProgramRun (words : List (List ℕ)) (status : ℕ) (before now : Outside) : Type 0 where
+-- What a run on words that are no build and no demonstration does.
+pub record IsAnswerRun (words : List (List ℕ)) (status : ℕ) (before now : Outside) : Type 0 where
   pub range : status < 6
   -- where the store tells its files, status and text are those of the answer over them
   pub told : IfTold before.store.files (λ files. IsRunEnd words files status before now)
@@ -91,3 +93,8 @@ pub record IsProgramRun (words : List (List ℕ)) (status : ℕ) (before now : O
   pub silent : status ≡ 5 → (now.store.faults ≡ before.store.faults) ⊎ (Rose before.store.faults now.store.faults × Grows (λ text. text ≡ []) before.sink.text now.sink.text)
   -- the files stay as they were
   pub files : now.store.files ≡ before.store.files
+
+-- What a run does: the words are a build or a demonstration, or they are neither.
+abbrev pub IsProgramRun : List (List ℕ) → ℕ → Outside → Outside → Type 0
+IsProgramRun words status before now =
+    ((m : Making) × IsMakingForm words m × IsMakingRun m status before now) ⊎ (AreNoMaking words × IsAnswerRun words status before now)

@@ -7,7 +7,7 @@ ghost use Rattle.tech_rules.specs.Facts.{IsTech};
 ghost use Rattle.tile_checker.specs.RuleReport.{IsReport};
 ghost use Rattle.openram_cli.specs.Answer.{AreFlatListsIn, AreFlatShapesIn, AreLeafRows, AreNetsOf, IsCheckAnswer, IsNetsAnswer, IsCompareAnswer, IsReplyTo};
 ghost use Rattle.openram_cli.specs.Inputs.{AreSound, IsSoundLayout};
-ghost use Rattle.openram_cli.specs.Outcome.{UnlessMemory, is_read_failed, is_usage_outcome};
+ghost use Rattle.command_steps.specs.Outcome.{UnlessMemory, is_read_failed, is_usage_outcome};
 
 use crate::inputs::{Inputs, Layout};
 use bumpalo::Bump;

@@ -1,8 +1,10 @@
-ghost use Rattle.std.specs.Prelude.{◌≡◌, ◌<◌, ◌≤◌, ◌∷◌, [], map, string_bytes, codes, IfSome};
+ghost use Rattle.std.specs.Prelude.{◌≡◌, map, string_bytes, codes, IfSome};
 ghost use Rattle.std.specs.Str.{bytes_eq};
-ghost use Rattle.openram_cli.specs.Command.{command_of, check_form, nets_form, compare_form, is_workers};
+ghost use Rattle.openram_cli.specs.Command.{command_of, check_form, nets_form, compare_form};
 ghost use Rattle.openram_cli.specs.CommandWords.{HasWorkers, told_asked, told_command};
-ghost use Rattle.std.specs.Option.{is_some, option_map};
+ghost use Rattle.std.specs.Option.{option_map};
+
+use command_steps::workers_in;
 
 /// The words that name a structure of a layout: the files of the technology and of the layout, and the structure's name.
 #[derive(Clone, Copy)]
@@ -31,42 +33,6 @@ pub enum Asked<'a> {
         layout: LayoutWords<'a>,
         netlist: &'a str,
     },
-}
-
-/// The number of workers that the word is: 1 to 64 in decimal digits, without a leading zero.
-fn workers_in(word: &String) -> Option<u8>
-    ensures some { is_some result ≡ is_workers (string_bytes word.now) }
-    ensures range { IfSome result (λ n. (0 < n) × (n ≤ 64)) }
-{
-    match word.as_bytes() {
-        [ones] => one_digit(*ones),
-        [tens, ones] => two_digits(*tens, *ones),
-        _ => None,
-    }
-}
-
-fn one_digit(ones: u8) -> Option<u8>
-    ensures some { is_some result ≡ is_workers (ones ∷ []) }
-    ensures range { IfSome result (λ n. (0 < n) × (n ≤ 64)) }
-{
-    if b'1' <= ones && ones <= b'9' {
-        return Some(ones - b'0');
-    }
-    None
-}
-
-fn two_digits(tens: u8, ones: u8) -> Option<u8>
-    ensures some { is_some result ≡ is_workers (tens ∷ ones ∷ []) }
-    ensures range { IfSome result (λ n. (0 < n) × (n ≤ 64)) }
-{
-    if !tens.is_ascii_digit() || !ones.is_ascii_digit() {
-        return None;
-    }
-    let number = 10 * (tens - b'0') + (ones - b'0');
-    if 10 <= number && number <= 64 {
-        return Some(number);
-    }
-    None
 }
 
 /// A command of one worker.

@@ -2,13 +2,13 @@ ghost use Rattle.std.specs.Prelude.{◌≡◌, false, IfOk};
 ghost use Rattle.gds_library.specs.Writable.{IsWritable};
 ghost use Rattle.tech_rules.specs.Facts.{IsTech};
 ghost use Rattle.openram_cli.specs.CommandWords.{told_asked, told_layout};
-ghost use Rattle.openram_cli.specs.Inputs.{IsTechnologyFile, IsLibraryFile, IsDeckFile, IsLayout, AreInputs, AreSound};
-ghost use Rattle.openram_cli.specs.Outcome.{is_usage_outcome};
-ghost use Rattle.openram_cli.specs.Outside.{store_state};
-ghost use Rattle.openram_cli.specs.Reading.{HasRead};
+ghost use Rattle.openram_cli.specs.Inputs.{IsLibraryFile, IsDeckFile, IsLayout, AreInputs, AreSound};
+ghost use Rattle.command_steps.specs.Outcome.{is_usage_outcome};
+ghost use Rattle.command_steps.specs.Outside.{store_state};
+ghost use Rattle.command_steps.specs.Reading.{HasRead};
 
 use crate::command::{Asked, LayoutWords};
-use crate::file::read_file;
+use command_steps::{read_file, read_technology};
 use gds_library::{Library, read_gds};
 use netlist::Deck;
 use or_geom::Name;
@@ -16,7 +16,7 @@ use or_host::Store;
 use reply_lines::Refusal;
 use spice_text::read_spice;
 use std::alloc::Global;
-use tech_rules::{Tech, read_tech};
+use tech_rules::Tech;
 
 /// A technology and a library, of which one structure is looked at.
 #[derive(Drop)]
@@ -32,15 +32,6 @@ pub enum Inputs {
     Check(Layout),
     Nets(Layout),
     Compare { layout: Layout, deck: Deck },
-}
-
-fn read_technology<S: Store>(alloc: Global, name: &str, store: &mut S) -> Result<Tech, Refusal>
-    ensures read { HasRead (λ files. IsTechnologyFile files name.now) result (store_state (S.files store.old) (S.faults store.old)) (store_state (S.files store.new) (S.faults store.new)) }
-    ensures good { IfOk result IsTech }
-    ensures words { is_usage_outcome result ≡ false }
-{
-    let bytes = read_file(alloc, name, store)?;
-    Ok(read_tech(alloc, bytes.as_slice())?)
 }
 
 fn read_library<S: Store>(alloc: Global, name: &str, store: &mut S) -> Result<Library, Refusal>

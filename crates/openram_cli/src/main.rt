@@ -3,8 +3,6 @@
 
 mod answer;
 mod command;
-mod file;
-mod finish;
 #[cfg(test)]
 mod hostile;
 mod inputs;
@@ -14,13 +12,12 @@ mod inverters;
 mod layouts;
 #[cfg(test)]
 mod meeting;
-mod print;
 mod run;
 #[cfg(test)]
 mod tests;
 
-use crate::finish::NO_MEMORY;
 use crate::run::run;
+use command_steps::NO_MEMORY;
 use or_host::{FileStore, StreamSink};
 use std::env;
 use std::io::ErrorKind;

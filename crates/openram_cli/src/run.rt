@@ -4,15 +4,16 @@ ghost use Rattle.or_host.specs.Files.{Files};
 ghost use Rattle.openram_cli.specs.Answer.{IsWork};
 ghost use Rattle.openram_cli.specs.Command.{command_of};
 ghost use Rattle.openram_cli.specs.OneAnswer.{HaveOneAnswer};
-ghost use Rattle.openram_cli.specs.Outcome.{is_usage_outcome};
-ghost use Rattle.openram_cli.specs.Outside.{store_state, sink_state, outside_at};
-ghost use Rattle.openram_cli.specs.Reading.{HasRead};
-ghost use Rattle.openram_cli.specs.Run.{IsProgramRun};
+ghost use Rattle.command_steps.specs.Outcome.{is_usage_outcome};
+ghost use Rattle.command_steps.specs.Outside.{store_state, sink_state, outside_at};
+ghost use Rattle.command_steps.specs.Reading.{HasRead};
+ghost use Rattle.openram_cli.specs.Run.{IsAnswerRun, IsProgramRun};
 
 use crate::answer::answer;
 use crate::command::command_in;
-use crate::finish::{finish, refuse};
 use crate::inputs::read_inputs;
+use build_command::{make, making_in};
+use command_steps::{finish, refuse};
 use or_host::{Sink, Store};
 use reply_lines::{Refusal, Reply};
 use std::alloc::Global;
@@ -38,6 +39,24 @@ fn reply_to<R: Threads + Sync, G: Gate + Sync, S: Store>(
     answer(rt, alloc, gate, &inputs, command.workers)
 }
 
+/// Answers the words, which are no build and no demonstration.
+fn answer_words<R: Threads + Sync, G: Gate + Sync, S: Store, K: Sink>(
+    rt: &R,
+    alloc: Global,
+    gate: &G,
+    words: &[String],
+    store: &mut S,
+    out: &mut K,
+) -> u8
+    ensures run { IsAnswerRun (map string_bytes words.now) result (outside_at (store_state (S.files store.old) (S.faults store.old)) (sink_state (K.written out.old) (K.faults out.old))) (outside_at (store_state (S.files store.new) (S.faults store.new)) (sink_state (K.written out.new) (K.faults out.new))) }
+    ensures one { (files : Files) → HaveOneAnswer (map string_bytes words.now) files }
+{
+    match reply_to(rt, alloc, gate, words, store) {
+        Ok(reply) => finish(&reply, out),
+        Err(refusal) => refuse(alloc, &refusal, out),
+    }
+}
+
 /// The same as `run`, for tests: each worker of a check enters the gate before all else.
 pub fn run_gated<R: Threads + Sync, G: Gate + Sync, S: Store, K: Sink>(
     rt: &R,
@@ -48,17 +67,18 @@ pub fn run_gated<R: Threads + Sync, G: Gate + Sync, S: Store, K: Sink>(
     out: &mut K,
 ) -> u8
     ensures run { IsProgramRun (map string_bytes words.now) result (outside_at (store_state (S.files store.old) (S.faults store.old)) (sink_state (K.written out.old) (K.faults out.old))) (outside_at (store_state (S.files store.new) (S.faults store.new)) (sink_state (K.written out.new) (K.faults out.new))) }
-    // Over files of bytes the words have one answer at most, so status and text are a function of them.
+    // Over files of bytes the words have one answer at most, so status and text are a function of them. Of a build and a
+    // demonstration this is not said.
     ensures one { (files : Files) → HaveOneAnswer (map string_bytes words.now) files }
 {
-    match reply_to(rt, alloc, gate, words, store) {
-        Ok(reply) => finish(&reply, out),
-        Err(refusal) => refuse(alloc, &refusal, out),
+    match making_in(words) {
+        Some(making) => make(rt, alloc, gate, making, store, out),
+        None => answer_words(rt, alloc, gate, words, store, out),
     }
 }
 
-/// All that the program does: it reads the files that the words name, prints each line by one call of `put`, and
-/// answers the exit status. 0: done. 1: a check found violations. 2: the words are no form. 3: an input is
+/// All that the program does: it reads the files that the words name, writes the views of a build, prints each line by one call
+/// of `put`, and answers the exit status. 0: done. 1: a check found violations. 2: the words are no form. 3: an input is
 /// refused. 4: the store or the sink failed, and its count of faults rose. 5: out of memory.
 pub fn run<R: Threads + Sync, S: Store, K: Sink>(
     rt: &R,
@@ -68,7 +88,8 @@ pub fn run<R: Threads + Sync, S: Store, K: Sink>(
     out: &mut K,
 ) -> u8
     ensures run { IsProgramRun (map string_bytes words.now) result (outside_at (store_state (S.files store.old) (S.faults store.old)) (sink_state (K.written out.old) (K.faults out.old))) (outside_at (store_state (S.files store.new) (S.faults store.new)) (sink_state (K.written out.new) (K.faults out.new))) }
-    // Over files of bytes the words have one answer at most, so status and text are a function of them.
+    // Over files of bytes the words have one answer at most, so status and text are a function of them. Of a build and a
+    // demonstration this is not said.
     ensures one { (files : Files) → HaveOneAnswer (map string_bytes words.now) files }
 {
     run_gated(rt, alloc, &OpenGate, words, store, out)

@@ -41,3 +41,14 @@ five_words a b c d e f name name' w x y z w' x' y' z' p q r s t j k l m n =
     let three = one_number_more a c d x x' (name ∷ (signed_decimal w ∷ [])) two r l in
     let four = one_number_more a d e y y' (name ∷ (signed_decimal w ∷ (signed_decimal x ∷ []))) three s m in
     one_number_more a e f z z' (name ∷ (signed_decimal w ∷ (signed_decimal x ∷ (signed_decimal y ∷ [])))) four t n
+
+-- a number, and two that may be negative
+pub numbered_pair : (number side side' : ℕ) (name a b c d e : List ℕ) (x y x' y' : ℤ) → a ≡ sentence (headed number name []) → b ≡ a ++ 32 ∷ decimal side' → c ≡ b ++ 32 ∷ signed_decimal x' → d ≡ c ++ 32 ∷ signed_decimal y' → e ≡ d ++ 10 ∷ []
+    → side' ≡ side → x' ≡ x → y' ≡ y → e ≡ reply_line (headed number name (decimal side ∷ (signed_decimal x ∷ (signed_decimal y ∷ []))))
+numbered_pair number side side' name a b c d e x y x' y' p q r s t i j k =
+    let text = codes "openram:" in
+    let head = decimal number ∷ (name ∷ []) in
+    let one : b ≡ text ++ spaced (head ++ decimal side ∷ []) = one_more text a b (decimal side) (decimal side') head p q (ap decimal i) in
+    let two = one_number_more text b c x x' (head ++ decimal side ∷ []) one r j in
+    let three = one_number_more text c d y y' ((head ++ decimal side ∷ []) ++ signed_decimal x ∷ []) two s k in
+    t ∙ ap (λ (l : List ℕ). l ++ 10 ∷ []) three

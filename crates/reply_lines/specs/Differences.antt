@@ -1,14 +1,10 @@
 -- The line of a difference between a layout and a netlist.
 use Rattle.std.specs.Prelude.{ℕ, List, [], ◌∷◌, Option, Some, None, codes}
-use Rattle.net_extractor.specs.declared.difference.PinName.{PinName}
 use Rattle.net_extractor.specs.declared.difference.NetDiff.{NetDiff}
 use Rattle.net_extractor.specs.declared.difference.NetDiff.TheVariants.{Unlabelled, Stranger, Open, Short}
 use Rattle.reply_lines.specs.declared.reply.Reply.{Reply}
 use Rattle.reply_lines.specs.Lines.{reply_line}
-use Rattle.reply_lines.specs.NetLines.{pin_text}
-
-abbrev pub pin_word : PinName → List ℕ
-pin_word p = pin_text p.path p.pin
+use Rattle.reply_lines.specs.Pins.{pin_word}
 
 -- the difference's name and its pins
 abbrev pub difference_words : NetDiff → List (List ℕ)

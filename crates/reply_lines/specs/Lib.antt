@@ -1,4 +1,6 @@
 pub mod Lines
+pub mod Pins
+pub mod Shapes
 pub mod Refusals
 pub mod Statuses
 pub mod Reply

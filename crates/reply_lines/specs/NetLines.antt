@@ -5,17 +5,13 @@ use Rattle.tech_rules.specs.declared.tech.Layer.{Layer}
 use Rattle.net_extractor.specs.declared.label.NetLabel.{NetLabel}
 use Rattle.reply_lines.specs.declared.reply.Reply.{Reply}
 use Rattle.reply_lines.specs.Lines.{reply_line}
-use Rattle.reply_lines.specs.Reply.{layer_name}
+use Rattle.reply_lines.specs.Pins.{pin_text}
+use Rattle.reply_lines.specs.Shapes.{layer_name}
 
 -- the net's number, or `-` where the label binds no shape
 abbrev pub net_word : Option ℕ → List ℕ
 net_word None = 45 ∷ []
 net_word (Some number) = decimal number
-
--- the path, `/` and the name; the name alone where the path is empty
-abbrev pub pin_text : List ℕ → List ℕ → List ℕ
-pin_text [] name = name
-pin_text (b ∷ bs) name = (b ∷ bs) ++ (47 ∷ name)
 
 -- the label's net, its layer's name, and its path and name as a pin
 abbrev pub net_words : List Layer → NetLabel → List (List ℕ)

@@ -11,8 +11,18 @@ use Rattle.spice_netlist.specs.declared.fault.FlatFault.{FlatFault}
 use Rattle.spice_netlist.specs.declared.fault.FlatFault.TheVariants as rows
 use Rattle.cell_hierarchy.specs.declared.fault.FlattenFault.{FlattenFault}
 use Rattle.cell_hierarchy.specs.declared.fault.FlattenFault.TheVariants as flatten
+use Rattle.sram_plan.specs.declared.fault.ConfigFault.{ConfigFault}
+use Rattle.sram_plan.specs.declared.fault.ConfigFault.TheVariants as config
+use Rattle.role_tables.specs.declared.fault.TableFault.{TableFault}
+use Rattle.role_tables.specs.declared.fault.TableFault.TheVariants as table
+use Rattle.leaf_tables.specs.declared.fault.KitFault.{KitFault}
+use Rattle.leaf_tables.specs.declared.fault.KitFault.TheVariants as kit
+use Rattle.leaf_tables.specs.declared.part.PartFault.{PartFault}
+use Rattle.leaf_tables.specs.declared.part.PartFault.TheVariants as part
+use Rattle.reply_lines.specs.Pins.{kind_and_pins}
+use Rattle.reply_lines.specs.Shapes.{violation_words}
 use Rattle.reply_lines.specs.declared.refusal.Refusal.{Refusal}
-use Rattle.reply_lines.specs.declared.refusal.Refusal.TheVariants.{Usage, NoFile, TooLong, ReadFailed, Tech, Gds, Spice, Flatten, Rows, Memory}
+use Rattle.reply_lines.specs.declared.refusal.Refusal.TheVariants.{Usage, NoFile, TooLong, ReadFailed, Tech, Gds, Spice, Flatten, Rows, Config, Plan, Kit, Part, RuleBroken, NetsDiffer, Memory}
 
 abbrev pub headed : ℕ → List ℕ → List (List ℕ) → List (List ℕ)
 headed number name fields = codes "openram:" ∷ (decimal number ∷ (name ∷ fields))
@@ -62,6 +72,48 @@ rows_words (rows.PortCount path) = headed 17 (codes "PortCount") (path ∷ [])
 rows_words (rows.TooMany count) = headed 20 (codes "TooMany") (decimal count ∷ [])
 rows_words rows.Memory = headed 94 (codes "Memory") []
 
+abbrev pub config_words : ConfigFault → List (List ℕ)
+config_words config.NotToml = headed 61 (codes "NotToml") []
+config_words (config.UnknownKey key) = headed 64 (codes "UnknownKey") (key ∷ [])
+config_words (config.Missing key) = headed 62 (codes "Missing") (key ∷ [])
+config_words (config.WrongKind key) = headed 63 (codes "WrongKind") (key ∷ [])
+config_words (config.OutOfRange key) = headed 65 (codes "OutOfRange") (key ∷ [])
+config_words config.Memory = headed 94 (codes "Memory") []
+
+abbrev pub table_words : TableFault → List (List ℕ)
+table_words (table.MissingRole role) = headed 51 (codes "MissingRole") (role ∷ [])
+table_words (table.BadRow role row) = headed 52 (codes "BadRow") (role ∷ decimal row ∷ [])
+table_words (table.Differs role point) = headed 53 (codes "Differs") (role ∷ point ∷ [])
+table_words table.Memory = headed 94 (codes "Memory") []
+
+-- what a kit is read from has its own faults
+abbrev pub kit_words : KitFault → List (List ℕ)
+kit_words (kit.Gds fault) = gds_words fault
+kit_words (kit.Spice fault) = spice_words fault
+kit_words kit.NoWire = headed 50 (codes "NoWire") []
+kit_words (kit.Table fault) = table_words fault
+kit_words (kit.Flatten fault) = flatten_words fault
+kit_words (kit.Outline role) = headed 56 (codes "Outline") (role ∷ [])
+kit_words (kit.UnknownSubckt name) = headed 16 (codes "UnknownSubckt") (name ∷ [])
+kit_words (kit.PortsDiffer role) = headed 60 (codes "PortsDiffer") (role ∷ [])
+kit_words (kit.PinMissing role pin) = headed 54 (codes "PinMissing") (role ∷ pin ∷ [])
+kit_words (kit.PinLayer role pin) = headed 55 (codes "PinLayer") (role ∷ pin ∷ [])
+kit_words (kit.EdgePin role pin) = headed 59 (codes "EdgePin") (role ∷ pin ∷ [])
+kit_words (kit.HeightDiffers role) = headed 57 (codes "HeightDiffers") (role ∷ [])
+kit_words (kit.WidthDiffers role) = headed 58 (codes "WidthDiffers") (role ∷ [])
+kit_words kit.Memory = headed 94 (codes "Memory") []
+
+abbrev pub part_words : PartFault → List (List ℕ)
+part_words (part.Close side first second) = headed 71 (codes "Close") (decimal side ∷ signed_decimal first ∷ signed_decimal second ∷ [])
+part_words (part.TapsClose first second) = headed 72 (codes "TapsClose") (signed_decimal first ∷ signed_decimal second ∷ [])
+part_words (part.SliceTooNarrow role) = headed 73 (codes "SliceTooNarrow") (role ∷ [])
+part_words (part.NameTaken name) = headed 74 (codes "NameTaken") (name ∷ [])
+part_words part.Memory = headed 94 (codes "Memory") []
+
+-- of a file that couldn't be written
+abbrev pub unwritten_words : List ℕ → List (List ℕ)
+unwritten_words name = headed 92 (codes "WriteFailed") (name ∷ [])
+
 abbrev pub refusal_words : Refusal → List (List ℕ)
 refusal_words Usage = headed 90 (codes "Usage") []
 refusal_words (NoFile name) = headed 67 (codes "NoFile") (name ∷ [])
@@ -72,4 +124,10 @@ refusal_words (Gds fault) = gds_words fault
 refusal_words (Spice fault) = spice_words fault
 refusal_words (Flatten fault) = flatten_words fault
 refusal_words (Rows fault) = rows_words fault
+refusal_words (Config fault) = config_words fault
+refusal_words (Plan fault) = headed 66 (codes "Shape") []
+refusal_words (Kit fault) = kit_words fault
+refusal_words (Part fault) = part_words fault
+refusal_words (RuleBroken layers violation) = headed 81 (codes "RuleBroken") (violation_words layers violation)
+refusal_words (NetsDiffer difference) = headed 82 (codes "NetsDiffer") (kind_and_pins difference)
 refusal_words Memory = headed 94 (codes "Memory") []

@@ -5,8 +5,12 @@ use Rattle.tech_rules.specs.declared.fault.TechFault.TheVariants as tech
 use Rattle.spice_text.specs.declared.fault.SpiceFault.TheVariants as spice
 use Rattle.spice_netlist.specs.declared.fault.FlatFault.TheVariants as rows
 use Rattle.cell_hierarchy.specs.declared.fault.FlattenFault.TheVariants as flatten
+use Rattle.sram_plan.specs.declared.fault.ConfigFault.TheVariants as config
+use Rattle.role_tables.specs.declared.fault.TableFault.TheVariants as table
+use Rattle.leaf_tables.specs.declared.fault.KitFault.TheVariants as kit
+use Rattle.leaf_tables.specs.declared.part.PartFault.TheVariants as part
 use Rattle.reply_lines.specs.declared.refusal.Refusal.{Refusal}
-use Rattle.reply_lines.specs.declared.refusal.Refusal.TheVariants.{Usage, ReadFailed, Tech, Gds, Spice, Flatten, Rows, Memory}
+use Rattle.reply_lines.specs.declared.refusal.Refusal.TheVariants.{Usage, ReadFailed, Tech, Gds, Spice, Flatten, Rows, Config, Kit, Part, Memory}
 
 -- out of memory, here or in a layer below
 abbrev pub is_memory : Refusal → Bool
@@ -16,6 +20,13 @@ is_memory (Gds gds.Memory) = true
 is_memory (Spice spice.Memory) = true
 is_memory (Flatten flatten.Memory) = true
 is_memory (Rows rows.Memory) = true
+is_memory (Config config.Memory) = true
+is_memory (Kit (kit.Gds gds.Memory)) = true
+is_memory (Kit (kit.Spice spice.Memory)) = true
+is_memory (Kit (kit.Table table.Memory)) = true
+is_memory (Kit (kit.Flatten flatten.Memory)) = true
+is_memory (Kit kit.Memory) = true
+is_memory (Part part.Memory) = true
 is_memory other = false
 
 -- a file couldn't be read

@@ -1,6 +1,7 @@
 ghost use Rattle.std.specs.Prelude.{◌≡◌, IfOk, ◌∷◌, []};
 ghost use Rattle.reply_lines.specs.Lines.{reply_line};
-ghost use Rattle.reply_lines.specs.Differences.{pin_word, difference_words, comparison_reply};
+ghost use Rattle.reply_lines.specs.Differences.{difference_words, comparison_reply};
+ghost use Rattle.reply_lines.specs.Pins.{pin_word};
 
 use crate::line::ReplyLine;
 use crate::reply::Reply;

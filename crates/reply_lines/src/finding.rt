@@ -1,6 +1,7 @@
 ghost use Rattle.std.specs.Prelude.{◌≡◌, ◌++◌, IfOk, OnOk};
 ghost use Rattle.reply_lines.specs.Lines.{spaced, reply_line};
-ghost use Rattle.reply_lines.specs.Reply.{layer_name, shape_words, violation_words, report_lines, report_reply};
+ghost use Rattle.reply_lines.specs.Reply.{report_lines, report_reply};
+ghost use Rattle.reply_lines.specs.Shapes.{layer_name, shape_words, violation_words};
 
 use crate::line::ReplyLine;
 use crate::reply::Reply;
@@ -20,7 +21,7 @@ pub fn name_of(layers: &[Layer], index: u16) -> &[u8]
 }
 
 /// Adds a shape: its layer's name and four numbers.
-fn add_shape(line: &mut ReplyLine, layers: &[Layer], shape: Shape) -> Result<(), Memory>
+pub fn add_shape(line: &mut ReplyLine, layers: &[Layer], shape: Shape) -> Result<(), Memory>
     ensures { OnOk result (line.new ≡ line.old ++ spaced (shape_words layers.now shape)) }
 {
     line.word(name_of(layers, shape.layer))?;

@@ -1,8 +1,10 @@
 //! What the program answers: an exit status and lines, for refusals, reports and nets.
 #![tactic(auto)]
 
+mod build_refusal;
 mod difference;
 mod finding;
+mod heading;
 mod line;
 mod net_lines;
 mod refusal;
@@ -10,6 +12,7 @@ mod reply;
 
 pub use difference::comparison_reply;
 pub use finding::report_of;
+pub use heading::unwritten_line;
 pub use line::ReplyLine;
 pub use net_lines::nets_reply;
 pub use refusal::Refusal;

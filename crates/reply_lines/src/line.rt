@@ -1,6 +1,6 @@
 ghost use Rattle.std.specs.Prelude.{◌≡◌, ◌++◌, ◌∷◌, [], IfOk, OnOk};
 ghost use Rattle.std.specs.Fmt.{decimal, signed_decimal};
-ghost use Rattle.reply_lines.specs.NetLines.{pin_text};
+ghost use Rattle.reply_lines.specs.Pins.{pin_text};
 
 use itoa::Buffer;
 use or_geom::Memory;

@@ -1,17 +1,22 @@
-ghost use Rattle.std.specs.Prelude.{◌≡◌, ◌∷◌, [], IfOk};
-ghost use Rattle.std.specs.Fmt.{decimal, signed_decimal};
-ghost use Rattle.reply_lines.specs.Lines.{sentence, reply_line};
-ghost use Rattle.reply_lines.specs.Refusals.{headed, refusal_words, gds_words, tech_words, spice_words, flatten_words, rows_words};
+ghost use Rattle.std.specs.Prelude.{◌≡◌, IfOk};
+ghost use Rattle.reply_lines.specs.Lines.{reply_line};
+ghost use Rattle.reply_lines.specs.Refusals.{refusal_words, gds_words, tech_words, spice_words, flatten_words, rows_words};
 ghost use Rattle.reply_lines.specs.Statuses.{is_memory, is_read_failure, refusal_status};
 
+use crate::build_refusal::{broken_line, config_line, differs_line, kit_line, part_line};
+use crate::heading::{counted, named, placed, plain, pointed};
 use crate::line::ReplyLine;
 use cell_hierarchy::FlattenFault;
 use gds_library::GdsFault;
-use or_geom::{Memory, Name, Point};
+use leaf_tables::{KitFault, PartFault, TableFault};
+use net_extractor::NetDiff;
+use or_geom::{Items, Memory, Name, Point};
 use spice_netlist::FlatFault;
 use spice_text::SpiceFault;
+use sram_plan::{ConfigFault, PlanFault};
 use std::alloc::Global;
-use tech_rules::TechFault;
+use tech_rules::{Layer, TechFault};
+use tile_checker::Violation;
 
 /// Why there is no answer. Each has a number and a name, with which it is printed, and a status.
 #[derive(Debug, Drop)]
@@ -19,11 +24,17 @@ pub enum Refusal {
     /// The words are no form of the program.
     Usage,
     /// A file isn't there.
-    NoFile { name: Name },
+    NoFile {
+        name: Name,
+    },
     /// A file is longer than 64 MiB.
-    TooLong { name: Name },
+    TooLong {
+        name: Name,
+    },
     /// The store failed to read a file.
-    ReadFailed { name: Name },
+    ReadFailed {
+        name: Name,
+    },
     /// The technology's file is no technology.
     Tech(TechFault),
     /// The GDSII file is no library.
@@ -34,72 +45,26 @@ pub enum Refusal {
     Flatten(FlattenFault),
     /// The subcircuit has no flat rows.
     Rows(FlatFault),
+    /// The configuration's file is no configuration.
+    Config(ConfigFault),
+    /// The configuration has no plan.
+    Plan(PlanFault),
+    /// The files are no kit of leaf cells.
+    Kit(KitFault),
+    /// A part can't be built from the leaf cells.
+    Part(PartFault),
+    /// The layout that was built breaks a rule: the first violation of its report, over these layers.
+    RuleBroken {
+        layers: Items<Layer>,
+        violation: Violation,
+    },
+    /// The nets of the layout that was built differ from its netlist: the first difference.
+    NetsDiffer(NetDiff),
     /// Out of memory, as each of the faults above may be too.
     Memory,
 }
 
-/// The beginning of the line of a refusal: its number and its name.
-fn heading(alloc: Global, number: u64, name: &[u8]) -> Result<ReplyLine, Memory>
-    ensures { IfOk result (λ line. line ≡ sentence (headed number name.now [])) }
-{
-    let mut line = ReplyLine::of(alloc, b"openram:")?;
-    line.number(number)?;
-    line.word(name)?;
-    Ok(line)
-}
-
-/// A line without fields.
-fn plain(alloc: Global, number: u64, name: &[u8]) -> Result<ReplyLine, Memory>
-    ensures { IfOk result (λ line. line ≡ reply_line (headed number name.now [])) }
-{
-    let mut line = heading(alloc, number, name)?;
-    line.end()?;
-    Ok(line)
-}
-
-/// A line with one name as its field.
-fn named(alloc: Global, number: u64, name: &[u8], field: &Name) -> Result<ReplyLine, Memory>
-    ensures { IfOk result (λ line. line ≡ reply_line (headed number name.now (field.now ∷ []))) }
-{
-    let mut line = heading(alloc, number, name)?;
-    line.word(field.as_bytes())?;
-    line.end()?;
-    Ok(line)
-}
-
-/// A line with one number as its field.
-fn placed(alloc: Global, number: u64, name: &[u8], at: u64) -> Result<ReplyLine, Memory>
-    ensures { IfOk result (λ line. line ≡ reply_line (headed number name.now (decimal at ∷ []))) }
-{
-    let mut line = heading(alloc, number, name)?;
-    line.number(at)?;
-    line.end()?;
-    Ok(line)
-}
-
-/// A line with two numbers as its fields.
-fn counted(alloc: Global, number: u64, name: &[u8], a: u64, b: u64) -> Result<ReplyLine, Memory>
-    ensures { IfOk result (λ line. line ≡ reply_line (headed number name.now (decimal a ∷ decimal b ∷ []))) }
-{
-    let mut line = heading(alloc, number, name)?;
-    line.number(a)?;
-    line.number(b)?;
-    line.end()?;
-    Ok(line)
-}
-
-/// A line with a point's coordinates as its fields.
-fn pointed(alloc: Global, number: u64, name: &[u8], p: Point) -> Result<ReplyLine, Memory>
-    ensures { IfOk result (λ line. line ≡ reply_line (headed number name.now (signed_decimal p.x ∷ signed_decimal p.y ∷ []))) }
-{
-    let mut line = heading(alloc, number, name)?;
-    line.signed(p.x)?;
-    line.signed(p.y)?;
-    line.end()?;
-    Ok(line)
-}
-
-fn tech_line(alloc: Global, fault: &TechFault) -> Result<ReplyLine, Memory>
+pub fn tech_line(alloc: Global, fault: &TechFault) -> Result<ReplyLine, Memory>
     ensures { IfOk result (λ line. line ≡ reply_line (tech_words fault.now)) }
 {
     match fault {
@@ -113,7 +78,7 @@ fn tech_line(alloc: Global, fault: &TechFault) -> Result<ReplyLine, Memory>
     }
 }
 
-fn flatten_line(alloc: Global, fault: &FlattenFault) -> Result<ReplyLine, Memory>
+pub fn flatten_line(alloc: Global, fault: &FlattenFault) -> Result<ReplyLine, Memory>
     ensures { IfOk result (λ line. line ≡ reply_line (flatten_words fault.now)) }
 {
     match fault {
@@ -128,7 +93,7 @@ fn flatten_line(alloc: Global, fault: &FlattenFault) -> Result<ReplyLine, Memory
     }
 }
 
-fn spice_line(alloc: Global, fault: SpiceFault) -> Result<ReplyLine, Memory>
+pub fn spice_line(alloc: Global, fault: SpiceFault) -> Result<ReplyLine, Memory>
     ensures { IfOk result (λ line. line ≡ reply_line (spice_words fault)) }
 {
     match fault {
@@ -154,7 +119,7 @@ fn rows_line(alloc: Global, fault: &FlatFault) -> Result<ReplyLine, Memory>
     }
 }
 
-fn gds_line(alloc: Global, fault: GdsFault) -> Result<ReplyLine, Memory>
+pub fn gds_line(alloc: Global, fault: GdsFault) -> Result<ReplyLine, Memory>
     ensures { IfOk result (λ line. line ≡ reply_line (gds_words fault)) }
 {
     match fault {
@@ -232,6 +197,36 @@ impl From<FlatFault> for Refusal {
     }
 }
 
+impl From<ConfigFault> for Refusal {
+    ghost use Rattle.reply_lines.specs.declared.refusal.Refusal.TheVariants as refusal_of;
+
+    ghost from_gives = { λ fault r. r ≡ refusal_of.Config fault };
+
+    fn from(fault: ConfigFault) -> Self {
+        Refusal::Config(fault)
+    }
+}
+
+impl From<PlanFault> for Refusal {
+    ghost use Rattle.reply_lines.specs.declared.refusal.Refusal.TheVariants as refusal_of;
+
+    ghost from_gives = { λ fault r. r ≡ refusal_of.Plan fault };
+
+    fn from(fault: PlanFault) -> Self {
+        Refusal::Plan(fault)
+    }
+}
+
+impl From<KitFault> for Refusal {
+    ghost use Rattle.reply_lines.specs.declared.refusal.Refusal.TheVariants as refusal_of;
+
+    ghost from_gives = { λ fault r. r ≡ refusal_of.Kit fault };
+
+    fn from(fault: KitFault) -> Self {
+        Refusal::Kit(fault)
+    }
+}
+
 impl Refusal {
     /// Whether memory ran out, here or in a layer below.
     pub fn is_memory(&self) -> bool
@@ -245,6 +240,13 @@ impl Refusal {
                 | Refusal::Spice(SpiceFault::Memory)
                 | Refusal::Flatten(FlattenFault::Memory)
                 | Refusal::Rows(FlatFault::Memory)
+                | Refusal::Config(ConfigFault::Memory)
+                | Refusal::Kit(KitFault::Gds(GdsFault::Memory))
+                | Refusal::Kit(KitFault::Spice(SpiceFault::Memory))
+                | Refusal::Kit(KitFault::Table(TableFault::Memory))
+                | Refusal::Kit(KitFault::Flatten(FlattenFault::Memory))
+                | Refusal::Kit(KitFault::Memory)
+                | Refusal::Part(PartFault::Memory)
         )
     }
 
@@ -283,6 +285,14 @@ impl Refusal {
             Refusal::Spice(fault) => spice_line(alloc, *fault),
             Refusal::Flatten(fault) => flatten_line(alloc, fault),
             Refusal::Rows(fault) => rows_line(alloc, fault),
+            Refusal::Config(fault) => config_line(alloc, fault),
+            Refusal::Plan(PlanFault::Shape) => plain(alloc, 66, b"Shape"),
+            Refusal::Kit(fault) => kit_line(alloc, fault),
+            Refusal::Part(fault) => part_line(alloc, fault),
+            Refusal::RuleBroken { layers, violation } => {
+                broken_line(alloc, layers.as_slice(), *violation)
+            }
+            Refusal::NetsDiffer(difference) => differs_line(alloc, difference),
             Refusal::Memory => plain(alloc, 94, b"Memory"),
         }
     }

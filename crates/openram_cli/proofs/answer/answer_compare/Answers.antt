@@ -1,12 +1,15 @@
-use Rattle.std.proofs.Common.{◌≡◌, List, Option, Some, None, refl}
+use Rattle.std.proofs.Common.{◌≡◌, List, Option, Some, None, Err, refl}
 use Rattle.std.specs.Prelude.{◌↔◌, IfSome}
+use Rattle.std.proofs.lemmas.Result.{err_from_is_err_and}
 use Rattle.netlist.specs.declared.rows.RowPin.{RowPin}
 use Rattle.cell_hierarchy.specs.Plain.{lists_of}
 use Rattle.net_extractor.specs.declared.difference.NetDiff.{NetDiff}
 use Rattle.net_extractor.specs.declared.label.NetLabel.{NetLabel}
 use Rattle.net_extractor.specs.Difference.{AreAlike}
 use Rattle.net_extractor.specs.FirstDifference.{IsFirstDifference}
-use Rattle.openram_cli.specs.Answer.{IsDifference}
+use Rattle.command_steps.proofs.OutcomeLaws.{then_on, then_ends}
+use Rattle.command_steps.specs.Outcome.{WithoutRefusal, Then}
+use Rattle.openram_cli.specs.Answer.{AreFlat, AreLeafRows, IsCompared, IsDifference}
 use Rattle.openram_cli.proofs.answer.answer_compare.Goals as goal
 
 is_difference : (labels : List NetLabel) (rows : List RowPin) (found : Option NetDiff) → (found ≡ None) ↔ AreAlike labels rows → IfSome found (IsFirstDifference labels rows) → IsDifference labels rows found
@@ -27,3 +30,14 @@ returns-clause-answer g c =
         (labels, c.in_ok-nets.ensures, (found, is_difference labels rows.pins found c.in_ok-difference.ensures.none c.in_ok-difference.ensures.first, c.in_ok-comparison_reply.ensures)),
       ),
     )
+
+pub returns-in_err-rows-clause-answer : goal.returns-in_err-rows-clause-answer
+returns-in_err-rows-clause-answer g c =
+    let p = err_from_is_err_and c.from_residual-in_err-rows.result c.from_residual-in_err-rows.ensures.1 in
+    let layout = c.args.layout.now in
+    let deck = c.args.deck.now in
+    let lists = lists_of c.in_ok-flat.flat in
+    let refusal = c.in_err-rows.field-0.0 in
+    rw (p.1, p.2)
+    (then_on (AreFlat layout) (λ lists. Then (AreLeafRows layout deck) (λ rows. WithoutRefusal (IsCompared layout.tech lists rows))) lists (Err refusal) c.in_ok-flat.ensures.flat
+    (then_ends (AreLeafRows layout deck) (λ rows. WithoutRefusal (IsCompared layout.tech lists rows)) refusal c.in_err-rows.ensures.rows))

@@ -1,7 +1,8 @@
 use Rattle.std.proofs.lemmas.Result.{err_from_is_err_and}
-use Rattle.openram_cli.specs.Inputs.{IsFile, IsDeck}
-use Rattle.openram_cli.specs.Outside.{store_state}
-use Rattle.openram_cli.proofs.OutcomeLaws.{read_ends}
+use Rattle.command_steps.specs.File.{IsFile}
+use Rattle.openram_cli.specs.Inputs.{IsDeck}
+use Rattle.command_steps.specs.Outside.{store_state}
+use Rattle.command_steps.proofs.OutcomeLaws.{read_ends}
 use Rattle.openram_cli.proofs.inputs.read_deck.Goals as goal
 
 pub returns-in_err-bytes-clause-read : goal.returns-in_err-bytes-clause-read

@@ -2,11 +2,11 @@ use Rattle.std.proofs.Common.{◌≡◌, Err}
 use Rattle.std.proofs.lemmas.Result.{err_from_is_err_and}
 use Rattle.openram_cli.specs.CommandWords.{told_layout}
 use Rattle.openram_cli.specs.Inputs.{IsDeckFile, IsLayout, AreCompared}
-use Rattle.openram_cli.specs.Outcome.{WithoutRefusal}
-use Rattle.openram_cli.specs.Outside.{store_state}
+use Rattle.command_steps.specs.Outcome.{WithoutRefusal}
+use Rattle.command_steps.specs.Outside.{store_state}
 use Rattle.openram_cli.specs.declared.inputs.Inputs.{Inputs}
 use Rattle.openram_cli.specs.declared.inputs.Inputs.TheVariants as inputs
-use Rattle.openram_cli.proofs.OutcomeLaws.{read_on, read_ends}
+use Rattle.command_steps.proofs.OutcomeLaws.{read_on, read_ends}
 use Rattle.openram_cli.proofs.inputs.read_inputs.Goals as goal
 
 pub returns-in_err-read_layout-in-Check-clause-read : goal.returns-in_err-read_layout-in-Check-clause-read

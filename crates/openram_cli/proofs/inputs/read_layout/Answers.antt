@@ -1,10 +1,11 @@
 use Rattle.std.proofs.Common.{◌≡◌, Err}
 use Rattle.std.proofs.lemmas.Result.{err_from_is_err_and}
 use Rattle.openram_cli.specs.CommandWords.{told_layout}
-use Rattle.openram_cli.specs.Inputs.{IsTechnologyFile, IsLibraryFile, IsLayoutWith}
-use Rattle.openram_cli.specs.Outcome.{WithoutRefusal}
-use Rattle.openram_cli.specs.Outside.{store_state}
-use Rattle.openram_cli.proofs.OutcomeLaws.{read_on, read_ends}
+use Rattle.command_steps.specs.File.{IsTechnologyFile}
+use Rattle.openram_cli.specs.Inputs.{IsLibraryFile, IsLayoutWith}
+use Rattle.command_steps.specs.Outcome.{WithoutRefusal}
+use Rattle.command_steps.specs.Outside.{store_state}
+use Rattle.command_steps.proofs.OutcomeLaws.{read_on, read_ends}
 use Rattle.openram_cli.specs.declared.inputs.Layout.{Layout}
 use Rattle.openram_cli.proofs.inputs.read_layout.Goals as goal
 

@@ -1,9 +1,10 @@
 use Rattle.std.proofs.Common.{Err, refl}
 use Rattle.std.proofs.lemmas.Result.{err_from_is_err_and}
 use Rattle.reply_lines.specs.declared.refusal.Refusal.TheVariants.{Gds}
-use Rattle.openram_cli.specs.Inputs.{IsFile, IsLibrary}
-use Rattle.openram_cli.specs.Outside.{store_state}
-use Rattle.openram_cli.proofs.OutcomeLaws.{read_ends, read_then}
+use Rattle.command_steps.specs.File.{IsFile}
+use Rattle.openram_cli.specs.Inputs.{IsLibrary}
+use Rattle.command_steps.specs.Outside.{store_state}
+use Rattle.command_steps.proofs.OutcomeLaws.{read_ends, read_then}
 use Rattle.openram_cli.proofs.inputs.read_library.Goals as goal
 
 pub returns-in_err-read_gds-clause-read : goal.returns-in_err-read_gds-clause-read

@@ -1,19 +1,14 @@
-use Rattle.std.proofs.Common.{map}
+use Rattle.std.proofs.Common.{inl, inr, map}
 use Rattle.std.specs.Prelude.{string_bytes}
+use Rattle.build_command.specs.Words.{told_making}
 use Rattle.openram_cli.proofs.OneAnswer.{one_answer}
-use Rattle.openram_cli.proofs.RunLaws.{answer_run, refusal_run}
 use Rattle.openram_cli.proofs.run.run_gated.Goals as goal
 
-pub returns-in-Ok-clause-run : goal.returns-in-Ok-clause-run
-returns-in-Ok-clause-run g c =
-    answer_run (map string_bytes c.args.words.now) c.in-Ok.reply c.finish.result _ _ c.in-Ok.ensures.read c.in-Ok.ensures.small c.in-Ok.ensures.usage c.finish.ensures
+pub returns-in-Some-clause-run : goal.returns-in-Some-clause-run
+returns-in-Some-clause-run g c = inl (told_making c.in-Some.making, c.in-Some.ensures.some, c.make.ensures)
 
-pub returns-in-Err-clause-run : goal.returns-in-Err-clause-run
-returns-in-Err-clause-run g c =
-    refusal_run (map string_bytes c.args.words.now) c.in-Err.refusal c.refuse.result _ _ c.in-Err.ensures.read c.in-Err.ensures.usage c.refuse.ensures
+pub returns-in-Some-clause-one : goal.returns-in-Some-clause-one
+returns-in-Some-clause-one g c = one_answer (map string_bytes c.args.words.now)
 
-pub returns-in-Ok-clause-one : goal.returns-in-Ok-clause-one
-returns-in-Ok-clause-one g c = one_answer (map string_bytes c.args.words.now)
-
-pub returns-in-Err-clause-one : goal.returns-in-Err-clause-one
-returns-in-Err-clause-one g c = one_answer (map string_bytes c.args.words.now)
+pub returns-in-None-clause-run : goal.returns-in-None-clause-run
+returns-in-None-clause-run g c = inr (c.in-None.ensures.none, c.answer_words.ensures.run)

@@ -1,0 +1,4 @@
+mod StepLaws
+mod WriteLaws
+mod RunLaws
+mod NameLaws

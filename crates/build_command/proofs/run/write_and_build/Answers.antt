@@ -1,0 +1,10 @@
+use Rattle.std.proofs.Common.{refl, inl, inr}
+use Rattle.command_steps.specs.Outside.{store_state}
+use Rattle.build_command.proofs.run.write_and_build.Goals as goal
+
+pub returns-in-Ok : goal.returns-in-Ok
+returns-in-Ok g c =
+    inl (record { mid = store_state (g.S.Store.files c.write_files.new.store) (g.S.Store.faults c.write_files.new.store); written = rw c.deref.ensures.value at c.in-Ok.ensures.written; kept = c.in-Ok.ensures.cause.kept refl; built = c.build_demo.ensures })
+
+pub returns-in-Err : goal.returns-in-Err
+returns-in-Err g c = inr (record { file = c.in-Err.unwritten.file.now; fail = c.in-Err.unwritten.fail; files = rw c.deref.ensures.value at c.in-Err.ensures.written; cause = c.in-Err.ensures.cause; told = c.finish_unwritten.ensures })

@@ -1,0 +1,5 @@
+pub mod Words
+pub mod Demonstration
+pub mod Design
+pub mod Made
+pub mod Run

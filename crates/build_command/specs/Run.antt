@@ -1,0 +1,164 @@
+-- How a build and a demonstration end: the status, and the outside before and after.
+use Rattle.std.specs.Prelude.{◌≡◌, ◌⊎◌, ℕ, ◌<◌, List, [], ◌++◌, false, Result, Ok, Err, codes}
+use Rattle.or_host.specs.Fault.{Rose, HasCause}
+use Rattle.or_host.specs.FileList.{files_of}
+use Rattle.or_host.specs.Files.{Files, Told}
+use Rattle.or_host.specs.Text.{Grows}
+use Rattle.or_host.specs.declared.file.MemFile.{MemFile}
+use Rattle.or_host.specs.declared.store.WriteFail.{WriteFail}
+use Rattle.reply_lines.specs.Lines.{reply_line, lines_text}
+use Rattle.reply_lines.specs.Refusals.{refusal_words}
+use Rattle.reply_lines.specs.Statuses.{is_read_failure, is_usage}
+use Rattle.reply_lines.specs.declared.refusal.Refusal.{Refusal}
+use Rattle.sram_macro.specs.declared.assembly.Macro.{Macro}
+use Rattle.macro_build.specs.Built.{IsSoundMacro}
+use Rattle.command_steps.specs.Finished.{IsFinished, IsOutOfMemory, IsUnwrittenTold, IsRefusalTold}
+use Rattle.command_steps.specs.Outcome.{UnlessMemory}
+use Rattle.command_steps.specs.Outside.{Outside, StoreState, IfTold, outside_at}
+use Rattle.command_steps.specs.Printed.{IsWholeText}
+use Rattle.command_steps.specs.Writing.{AreWritten, EndsAt, is_write_failure}
+use Rattle.build_command.specs.declared.design.Design.{Design}
+use Rattle.build_command.specs.declared.made.Made.{Made}
+use Rattle.build_command.specs.Demonstration.{demo_files}
+use Rattle.build_command.specs.Design.{IsDesign}
+use Rattle.build_command.specs.Made.{IsWork}
+use Rattle.build_command.specs.Words.{Making}
+use Rattle.build_command.specs.Words.Making.{build, demo}
+
+-- the files that are written before the work: those of a demonstration
+abbrev pub first_files : Making → List MemFile
+first_files (build config) = []
+first_files (demo n) = demo_files n
+
+-- the files that the work looks at: the store's, or those of the demonstration themselves
+abbrev pub files_seen : Making → Files → Files
+files_seen (build config) files = files
+files_seen (demo n) files = files_of (demo_files n)
+
+-- the file of the configuration
+abbrev pub config_name : Making → List ℕ
+config_name (build config) = config
+config_name (demo n) = codes "demo.toml"
+
+-- what the work ends with, over the store's files
+abbrev pub IsMakingWork : Making → Files → Result Made Refusal → Type 0
+IsMakingWork m files = IsWork (files_seen m files) (config_name m)
+
+-- Writing these files ended at one of them: those before it are whole, and it holds what it held or a prefix of its bytes. The
+-- line that is printed names it, or says that memory ran out.
+pub record IsWriteCut (list : List MemFile) (status : ℕ) (before now : Outside) : Type 0 where
+  pub file : MemFile
+  pub fail : WriteFail
+  pub files : Told (EndsAt list file fail) before.store.files now.store.files
+  pub cause : HasCause before.store.faults now.store.faults (is_write_failure fail)
+  pub told : IsUnwrittenTold file.name fail status before.sink now.sink
+
+-- all views are written, and the line is printed, or part of it
+pub record IsAllWritten (made : Made) (status : ℕ) (before now : Outside) : Type 0 where
+  pub files : Told (AreWritten made.views) before.store.files now.store.files
+  pub kept : now.store.faults ≡ before.store.faults
+  pub told : IsFinished made.reply status before.sink now.sink
+
+-- the views are written one after another, and then the line is printed
+abbrev pub IsPutOut : Made → ℕ → Outside → Outside → Type 0
+IsPutOut made status before now = IsWriteCut made.views status before now ⊎ IsAllWritten made status before now
+
+-- the memory that these files ask for is made, and put out
+pub record IsMadeOut (files : List MemFile) (status : ℕ) (before now : Outside) : Type 0 where
+  pub made : Made
+  pub success : made.reply.status ≡ 0
+  pub work : IsWork (files_of files) (codes "demo.toml") (Ok made)
+  pub out : IsPutOut made status before now
+
+-- or it is refused, and nothing more is written
+pub record IsDemoRefused (files : List MemFile) (status : ℕ) (before now : Outside) : Type 0 where
+  pub refusal : Refusal
+  pub no_usage : is_usage refusal ≡ false
+  pub no_read : is_read_failure refusal ≡ false
+  pub work : UnlessMemory (IsWork (files_of files) (codes "demo.toml")) (Err refusal)
+  pub same : now.store ≡ before.store
+  pub told : IsRefusalTold refusal status before.sink now.sink
+
+abbrev pub IsDemoBuilt : List MemFile → ℕ → Outside → Outside → Type 0
+IsDemoBuilt files status before now = IsMadeOut files status before now ⊎ IsDemoRefused files status before now
+
+-- these files are written first, or one of them couldn't be
+pub record IsDemoAfter (list : List MemFile) (status : ℕ) (before now : Outside) : Type 0 where
+  pub mid : StoreState
+  pub written : Told (AreWritten list) before.store.files mid.files
+  pub kept : mid.faults ≡ before.store.faults
+  pub built : IsDemoBuilt list status (outside_at mid before.sink) now
+
+abbrev pub IsDemoWritten : List MemFile → ℕ → Outside → Outside → Type 0
+IsDemoWritten list status before now = IsDemoAfter list status before now ⊎ IsWriteCut list status before now
+
+-- memory ran out before anything was written
+pub record IsUnstarted (status : ℕ) (before now : Outside) : Type 0 where
+  pub same : now.store ≡ before.store
+  pub told : IsOutOfMemory status before.sink now.sink
+
+-- An input is refused, a read failed, or memory ran out on the way: no view is written.
+pub record IsWorkRefused (m : Making) (status : ℕ) (before now : Outside) : Type 0 where
+  pub refusal : Refusal
+  pub no_usage : is_usage refusal ≡ false
+  pub work : IfTold before.store.files (λ files. UnlessMemory (IsMakingWork m files) (Err refusal))
+  pub files : Told (AreWritten (first_files m)) before.store.files now.store.files
+  pub cause : HasCause before.store.faults now.store.faults (is_read_failure refusal)
+  pub told : IsRefusalTold refusal status before.sink now.sink
+
+-- A view couldn't be written.
+pub record IsViewCut (m : Making) (status : ℕ) (before now : Outside) : Type 0 where
+  pub made : Made
+  pub work : IfTold before.store.files (λ files. IsMakingWork m files (Ok made))
+  pub cut : IsWriteCut (first_files m ++ made.views) status before now
+
+-- All is written, and the line is printed, or part of it.
+pub record IsPut (m : Making) (status : ℕ) (before now : Outside) : Type 0 where
+  pub made : Made
+  pub success : made.reply.status ≡ 0
+  pub work : IfTold before.store.files (λ files. IsMakingWork m files (Ok made))
+  pub files : Told (AreWritten (first_files m ++ made.views)) before.store.files now.store.files
+  pub kept : now.store.faults ≡ before.store.faults
+  pub told : IsFinished made.reply status before.sink now.sink
+
+-- the ends that there are
+abbrev pub IsMakingEnd : Making → ℕ → Outside → Outside → Type 0
+IsMakingEnd m status before now =
+    IsUnstarted status before now
+    ⊎ (IsWriteCut (first_files m) status before now ⊎ (IsWorkRefused m status before now ⊎ (IsViewCut m status before now ⊎ IsPut m status before now)))
+
+-- status 0: the files are those at the start with the views put under their names, and the line is printed
+pub record IsMakingDone (m : Making) (before now : Outside) : Type 0 where
+  pub made : Made
+  pub work : IfTold before.store.files (λ files. IsMakingWork m files (Ok made))
+  pub files : Told (AreWritten (first_files m ++ made.views)) before.store.files now.store.files
+  pub printed : Grows (IsWholeText (lines_text made.reply.lines)) before.sink.text now.sink.text
+
+-- status 3: no view is written, and the line of the refusal is printed
+pub record IsMakingRefused (m : Making) (before now : Outside) : Type 0 where
+  pub refusal : Refusal
+  pub work : IfTold before.store.files (λ files. IsMakingWork m files (Err refusal))
+  pub files : Told (AreWritten (first_files m)) before.store.files now.store.files
+  pub printed : Grows (IsWholeText (reply_line (refusal_words refusal))) before.sink.text now.sink.text
+
+-- the memory that the files ask for: its layout breaks no rule, and its labels are joined exactly as its netlist says
+pub record IsSoundMemory (m : Making) (files : Files) : Type 0 where
+  pub design : Design
+  pub is_design : IsDesign (files_seen m files) (config_name m) (Ok design)
+  pub macro : Macro
+  pub sound : IsSoundMacro design.kit design.plan design.config.output_name macro
+
+-- What a build or a demonstration does.
+pub record IsMakingRun (m : Making) (status : ℕ) (before now : Outside) : Type 0 where
+  pub range : status < 6
+  -- below 4 it is done, or an input is refused, and no fault rose
+  pub kinds : status < 4 → (status ≡ 0) ⊎ (status ≡ 3)
+  pub clean : status < 4 → (now.store.faults ≡ before.store.faults) × (now.sink.faults ≡ before.sink.faults)
+  pub done : status ≡ 0 → IsMakingDone m before now
+  pub sound : status ≡ 0 → IfTold before.store.files (IsSoundMemory m)
+  pub refused : status ≡ 3 → IsMakingRefused m before now
+  -- 4 comes only where a fault rose, and at 5 the sink didn't fail
+  pub fault : status ≡ 4 → Rose before.store.faults now.store.faults ⊎ Rose before.sink.faults now.sink.faults
+  pub memory_clean : status ≡ 5 → now.sink.faults ≡ before.sink.faults
+  -- what is written and printed at each end, at 4 and 5 too
+  pub end : IsMakingEnd m status before now

@@ -1,0 +1,49 @@
+-- The words of a build and of a demonstration.
+use Rattle.std.specs.Prelude.{◌≡◌, ℕ, ◌<◌, ◌≤◌, List, [], ◌∷◌, ◌&&◌, Option, Some, None, if◌then◌else◌, codes}
+use Rattle.std.specs.Fmt.{decimal}
+use Rattle.std.specs.Str.{bytes_eq}
+use Rattle.command_steps.specs.Workers.{is_workers}
+use Rattle.build_command.specs.declared.words.Asked.{Asked}
+use Rattle.build_command.specs.declared.words.Asked.TheVariants as asked
+use Rattle.build_command.specs.declared.words.FormWords.{FormWords}
+use Rattle.build_command.specs.declared.words.Making as declared
+
+-- the memory of the configuration in the file of this name, or the demonstration with this number
+pub data Making : Type 0 where
+  build : List ℕ → Making
+  demo : ℕ → Making
+
+-- build CONFIG WORKERS
+abbrev pub build_form : List (List ℕ) → Option (List ℕ)
+build_form (command ∷ config ∷ workers ∷ []) = if bytes_eq command (codes "build") && is_workers workers then Some config else None
+build_form words = None
+
+-- demo N WORKERS
+abbrev pub demo_form : List (List ℕ) → Option (List ℕ)
+demo_form (command ∷ number ∷ workers ∷ []) = if bytes_eq command (codes "demo") && is_workers workers then Some number else None
+demo_form words = None
+
+-- the words are this build, or this demonstration: its number is 0 to 65535 in decimal digits, without a leading zero
+abbrev pub IsMakingForm : List (List ℕ) → Making → Type 0
+IsMakingForm words (build config) = build_form words ≡ Some config
+IsMakingForm words (demo n) = (n ≤ 65535) × (demo_form words ≡ Some (decimal n))
+
+-- the words are neither a build nor a demonstration
+abbrev pub AreNoMaking : List (List ℕ) → Type 0
+AreNoMaking words = (m : Making) → ¬ IsMakingForm words m
+
+-- what the program's words say
+abbrev pub told_form : FormWords → List ℕ
+told_form form = form.object.now
+
+abbrev pub told_request : Asked → Making
+told_request (asked.Build config) = build config.now
+told_request (asked.Demo number) = demo number
+
+-- how many workers may do it is no part of what is asked
+abbrev pub told_making : declared.Making → Making
+told_making making = told_request making.asked
+
+-- 1 to 64 workers
+abbrev pub HasMakingWorkers : declared.Making → Type 0
+HasMakingWorkers making = (0 < making.workers) × (making.workers ≤ 64)

@@ -1,0 +1,15 @@
+//! The commands `build` and `demo`: a configuration and a kit of leaf cells are read, a memory is built of them, and its
+//! views are written.
+#![tactic(auto)]
+
+mod demo_files;
+mod design;
+mod made;
+mod run;
+mod success;
+#[cfg(test)]
+mod tests;
+mod words;
+
+pub use run::make;
+pub use words::{Asked, Making, making_in};

@@ -1,0 +1,4 @@
+pub mod OutcomeLaws
+pub mod EndLaws
+pub mod PrintLaws
+pub mod WriteLaws

@@ -1,0 +1,58 @@
+-- One step of the work after another.
+use Rattle.std.proofs.Common.{◌≡◌, ℕ, Bool, false, List, Option, Some, None, Result, Ok, Err, refl, sym, inr, inl, subst, ◌∙◌}
+use Rattle.or_host.specs.Fault.{HasCause}
+use Rattle.or_host.specs.Files.{Files}
+use Rattle.reply_lines.specs.declared.refusal.Refusal.{Refusal}
+use Rattle.command_steps.specs.Outcome.{Then, UnlessMemory, is_read_failed}
+use Rattle.command_steps.specs.Outside.{StoreState, IfTold}
+use Rattle.command_steps.specs.Reading.{HasRead}
+
+-- what holds of any files holds of those that are told
+pub told_all : (told : Option Files) (P : Files → Type 0) → ((files : Files) → P files) → IfTold told P
+told_all None P all = tt
+told_all (Some files) P all = all files
+
+-- one thing leads to another
+pub told_map : (told : Option Files) (P Q : Files → Type 0) → ((files : Files) → P files → Q files) → IfTold told P → IfTold told Q
+told_map None P Q f p = tt
+told_map (Some files) P Q f p = f files p
+
+told_both : (told : Option Files) (P Q R : Files → Type 0) → ((files : Files) → P files → Q files → R files) → IfTold told P → IfTold told Q → IfTold told R
+told_both None P Q R f p q = tt
+told_both (Some files) P Q R f p q = f files p q
+
+pub then_on : {X Y : Type 0} (P : Result X Refusal → Type 0) (Q : X → Result Y Refusal → Type 0) (x : X) (result : Result Y Refusal) → P (Ok x) → UnlessMemory (Q x) result → UnlessMemory (Then P Q) result
+then_on P Q x (Ok y) p q = (x, p, q)
+then_on P Q x (Err refusal) p q = λ lasts. inr (x, p, q lasts)
+
+pub then_ends : {X Y : Type 0} (P : Result X Refusal → Type 0) (Q : X → Result Y Refusal → Type 0) (refusal : Refusal) → UnlessMemory P (Err refusal) → UnlessMemory (Then P Q) (Err refusal)
+then_ends P Q refusal p = λ lasts. inl (p lasts)
+
+-- reads, one after another
+pub read_on : {X Y : Type 0} (P : Files → Result X Refusal → Type 0) (Q : Files → X → Result Y Refusal → Type 0) (x : X) (result : Result Y Refusal) (before mid now : StoreState)
+    → HasRead P (Ok x) before mid → HasRead (λ files. Q files x) result mid now → HasRead (λ files. Then (P files) (Q files)) result before now
+read_on {X} {Y} P Q x result before mid now p q = record {
+  told =
+      told_both before.files (λ files. P files (Ok x)) (λ files. UnlessMemory (Q files x) result) (λ files. UnlessMemory (Then (P files) (Q files)) result) (λ files. then_on (P files) (Q files) x result) p.told
+      (subst (λ (told : Option Files). IfTold told (λ files. UnlessMemory (Q files x) result)) p.same q.told);
+  same = q.same ∙ p.same;
+  cause = subst (λ (n : ℕ). HasCause n now.faults (is_read_failed result)) (p.cause.kept refl) q.cause;
+}
+
+-- a read, and then a step that reads nothing
+pub read_then : {X Y : Type 0} (P : Files → Result X Refusal → Type 0) (Q : X → Result Y Refusal → Type 0) (x : X) (result : Result Y Refusal) (before now : StoreState)
+    → HasRead P (Ok x) before now → UnlessMemory (Q x) result → is_read_failed result ≡ false → HasRead (λ files. Then (P files) Q) result before now
+read_then {X} {Y} P Q x result before now p q pure = record {
+  told = told_map before.files (λ files. P files (Ok x)) (λ files. UnlessMemory (Then (P files) Q) result) (λ files at. then_on (P files) Q x result at q) p.told;
+  same = p.same;
+  cause = subst (λ (failed : Bool). HasCause before.faults now.faults failed) (sym pure) p.cause;
+}
+
+-- a read that ends the work
+pub read_ends : {X Y : Type 0} (P : Files → Result X Refusal → Type 0) (Q : Files → X → Result Y Refusal → Type 0) (refusal : Refusal) (before now : StoreState)
+    → HasRead P (Err refusal) before now → HasRead (λ files. Then (P files) (Q files)) (Err refusal) before now
+read_ends {X} {Y} P Q refusal before now p = record {
+  told = told_map before.files (λ files. UnlessMemory (P files) (Err refusal)) (λ files. UnlessMemory (Then (P files) (Q files)) (Err refusal)) (λ files. then_ends (P files) (Q files) refusal) p.told;
+  same = p.same;
+  cause = p.cause;
+}

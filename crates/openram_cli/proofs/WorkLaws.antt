@@ -1,0 +1,16 @@
+-- The work on words that are a command.
+use Rattle.std.specs.Prelude.{MatchOption}
+use Rattle.std.proofs.Common.{◌≡◌, ℕ, List, Option, Some, Result, subst}
+use Rattle.reply_lines.specs.declared.refusal.Refusal.{Refusal}
+use Rattle.reply_lines.specs.declared.reply.Reply.{Reply}
+use Rattle.openram_cli.specs.Answer.{IsUsage, IsCommandWork, IsWork}
+use Rattle.openram_cli.specs.Command.{Command, command_of}
+use Rattle.command_steps.specs.Outside.{StoreState}
+use Rattle.command_steps.specs.Reading.{HasRead}
+
+-- the work on words that are a command
+pub work_of : (words : List (List ℕ)) (c : Command) (result : Result Reply Refusal) (before now : StoreState) → Some c ≡ command_of words
+    → HasRead (λ files. IsCommandWork files c) result before now → HasRead (IsWork words) result before now
+work_of words c result before now is read =
+    let on : Option Command → Type 0 = λ o. HasRead (λ files result. MatchOption o (IsUsage result) (λ c. IsCommandWork files c result)) result before now in
+    subst on is read
