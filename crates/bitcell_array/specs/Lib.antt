@@ -1,0 +1,2 @@
+pub mod ArrayPart
+pub mod Columns

@@ -1,0 +1,136 @@
+ghost use Rattle.std.specs.Prelude.{◌≡◌, ◌++◌, ◌<◌, ◌≤◌, ◌+◌, ◌*◌, ◌^◌, length, pos, IfOk, IfErr, OnOk};
+ghost use Rattle.leaf_tables.specs.Kits.{IsKit};
+ghost use Rattle.leaf_tables.specs.declared.part.PartFault.TheVariants as part_fault;
+ghost use Rattle.sram_netlist.specs.Numbers.{ArePlanNumbers};
+ghost use Rattle.sram_plan.specs.PlanNumbers.{numbers_of, organization};
+ghost use Rattle.sram_netlist.specs.Organization.{Organization};
+ghost use Rattle.cell_builder.specs.CellList.{CellList};
+ghost use Rattle.port_lists.specs.Cells.{cell_in};
+ghost use Rattle.macro_layout.specs.LayoutKit.{LayoutKit};
+ghost use Rattle.macro_wires.specs.Sides.{AreLeafSides, AreSidesOf};
+ghost use Rattle.macro_cells.specs.LayoutOfKit.{layout_kit};
+ghost use Rattle.bitcell_array.specs.ArrayPart.{with_array_cells, array_subckts, with_array_subckts, array_width, array_height, array_pins};
+ghost use Rattle.part_edges.specs.PartPins.{AreEdgesOf};
+
+use crate::columns::column_edges;
+use cell_builder::Cells;
+use cell_roles::Role;
+use leaf_tables::{Edges, Kit, PartFault};
+use macro_cells::{array_cell, pre_cell, row_cell, sides_of};
+use macro_wires::LeafSides;
+use netlist::Deck;
+use or_geom::{Memory, Name};
+use sram_plan::Plan;
+use sram_subckts::{array_subckt, precharge_subckt, row_subckt};
+use std::alloc::Global;
+
+/// Adds the cells of a memory's rows: a row, the array of rows, and the precharge cells; and their subcircuits. Answers
+/// where nets come to the array's edges, in nanometres from the lower left corner of row 0. `name` is the macro's. After a
+/// refusal, which is for want of memory, a part of it may be added.
+pub fn build(
+    alloc: Global,
+    kit: &Kit,
+    plan: &Plan,
+    name: &Name,
+    cells: &mut Cells,
+    deck: &mut Deck,
+) -> Result<Edges, PartFault>
+    requires kit { IsKit kit.now }
+    requires plan { ArePlanNumbers (numbers_of plan.now) }
+    requires few { length cells.old.cells < 2 ^ 31 }
+    ensures cells { OnOk result (cells.new ≡ with_array_cells (organization plan.now) (layout_kit kit.now) name.now cells.old) }
+    ensures deck { OnOk result (deck.new ≡ with_array_subckts (organization plan.now) (cell_in kit.now.tech.roles) name.now deck.old) }
+    ensures edges { IfOk result (AreEdgesOf (array_pins kit.now (organization plan.now))) }
+    ensures width { IfOk result (λ edges. edges.width ≡ pos (array_width (organization plan.now) (layout_kit kit.now))) }
+    ensures height { IfOk result (λ edges. edges.height ≡ pos (array_height (organization plan.now) (layout_kit kit.now))) }
+    ensures memory { IfErr result (λ fault. fault ≡ part_fault.Memory) }
+{
+    add_cells(alloc, kit, plan, name, cells)?;
+    add_subckts(alloc, kit, plan, name, deck)?;
+    Ok(edges_of(alloc, kit, plan, name)?)
+}
+
+/// Adds the cells.
+fn add_cells(
+    alloc: Global,
+    kit: &Kit,
+    plan: &Plan,
+    name: &Name,
+    cells: &mut Cells,
+) -> Result<(), Memory>
+    requires kit { IsKit kit.now }
+    requires plan { ArePlanNumbers (numbers_of plan.now) }
+    requires few { length cells.old.cells < 2 ^ 31 }
+    ensures { OnOk result (cells.new ≡ with_array_cells (organization plan.now) (layout_kit kit.now) name.now cells.old) }
+{
+    cells.draw(row_cell(alloc, kit, plan, name)?)?;
+    cells.draw(array_cell(alloc, kit, plan, name)?)?;
+    cells.draw(pre_cell(alloc, kit, plan, name)?)?;
+    Ok(())
+}
+
+/// Adds the subcircuits.
+fn add_subckts(
+    alloc: Global,
+    kit: &Kit,
+    plan: &Plan,
+    name: &Name,
+    deck: &mut Deck,
+) -> Result<(), Memory>
+    requires plan { ArePlanNumbers (numbers_of plan.now) }
+    ensures { OnOk result (deck.new ≡ with_array_subckts (organization plan.now) (cell_in kit.now.tech.roles) name.now deck.old) }
+{
+    let roles = kit.tech.roles.as_slice();
+    deck.subckts.push(row_subckt(alloc, plan, roles, name)?)?;
+    deck.subckts.push(array_subckt(alloc, plan, name)?)?;
+    deck.subckts
+        .push(precharge_subckt(alloc, plan, roles, name)?)?;
+    Ok(())
+}
+
+/// The edges of the array: the bit lines of its columns, at both sides.
+fn edges_of(alloc: Global, kit: &Kit, plan: &Plan, name: &Name) -> Result<Edges, Memory>
+    requires kit { IsKit kit.now }
+    requires plan { ArePlanNumbers (numbers_of plan.now) }
+    ensures edges { IfOk result (AreEdgesOf (array_pins kit.now (organization plan.now))) }
+    ensures width { IfOk result (λ edges. edges.width ≡ pos (array_width (organization plan.now) (layout_kit kit.now))) }
+    ensures height { IfOk result (λ edges. edges.height ≡ pos (array_height (organization plan.now) (layout_kit kit.now))) }
+{
+    let sides = sides_of(alloc, kit, plan, name)?;
+    Ok(Edges {
+        top: column_edges(alloc, kit, plan, &sides)?,
+        bottom: column_edges(alloc, kit, plan, &sides)?,
+        width: i64::from(width_of(plan, &sides)),
+        height: i64::from(height_of(plan, &sides)),
+    })
+}
+
+/// The width of the array.
+fn width_of(plan: &Plan, sides: &LeafSides) -> u32
+    requires plan { ArePlanNumbers (numbers_of plan.now) }
+    requires sides { AreLeafSides sides.now }
+    ensures is { (kit : LayoutKit) → AreSidesOf (organization plan.now) kit sides.now → result ≡ array_width (organization plan.now) kit }
+    ensures few { result ≤ 16908288 }
+{
+    sides.gate_width + sides.driver_width + product(plan.columns, sides.bit_width)
+}
+
+/// The height of the array.
+fn height_of(plan: &Plan, sides: &LeafSides) -> u32
+    requires plan { ArePlanNumbers (numbers_of plan.now) }
+    requires sides { AreLeafSides sides.now }
+    ensures is { (kit : LayoutKit) → AreSidesOf (organization plan.now) kit sides.now → result ≡ array_height (organization plan.now) kit }
+    ensures few { result ≤ 16777216 }
+{
+    product(plan.rows, sides.bit_height)
+}
+
+/// So many times the side.
+fn product(count: u32, side: u32) -> u32
+    requires count { count ≤ 256 }
+    requires side { side ≤ 65536 }
+    ensures is { result ≡ count * side }
+    ensures few { result ≤ 16777216 }
+{
+    count * side
+}

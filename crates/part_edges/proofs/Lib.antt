@@ -1,0 +1,2 @@
+mod OrderLaws
+pub mod PinLaws
