@@ -1,3 +1,4 @@
+mod HeldLaws
 mod StepLaws
 mod WriteLaws
 mod RunLaws

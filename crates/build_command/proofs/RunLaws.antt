@@ -23,9 +23,11 @@ use Rattle.command_steps.specs.Writing.{AreWritten, EndsAt, is_write_failure}
 use Rattle.build_command.specs.declared.made.Made.{Made}
 use Rattle.build_command.specs.Demonstration.{demo_files}
 use Rattle.build_command.specs.Made.{IsWork}
-use Rattle.build_command.specs.Run.{first_files, IsMakingWork, IsWriteCut, IsPutOut, IsDemoBuilt, IsDemoWritten, IsWorkRefused, IsViewCut, IsPut, IsMakingEnd, IsSoundMemory, IsMakingRun}
+use Rattle.build_command.specs.Held.{first_files}
+use Rattle.build_command.specs.Run.{IsMakingWork, IsWriteCut, IsPutOut, IsDemoBuilt, IsDemoWritten, IsWorkRefused, IsViewCut, IsPut, IsMakingEnd, IsMakingRun}
 use Rattle.build_command.specs.Words.{Making}
 use Rattle.build_command.specs.Words.Making.{build, demo}
+use Rattle.build_command.proofs.HeldLaws.{told_held}
 use Rattle.build_command.proofs.StepLaws.{kept_cause}
 use Rattle.build_command.proofs.WriteLaws.{told_same, told_then, told_cut}
 
@@ -68,7 +70,7 @@ high_run m status before now h end =
       kinds = λ below. absurd (omega (arith, high, below));
       clean = λ below. absurd (omega (arith, high, below));
       done = λ zero. absurd (omega (arith, high, zero));
-      sound = λ zero. absurd (omega (arith, high, zero));
+      held = λ zero. absurd (omega (arith, high, zero));
       refused = λ three. absurd (omega (arith, high, three));
       fault = h.fault;
       memory_clean = h.memory_clean;
@@ -92,7 +94,7 @@ refused_end m status before now r (inr (inr (some, read, inl whole))) =
       kinds = λ below. inr is;
       clean = λ below. (r.cause.kept read, whole.kept);
       done = λ zero. absurd (omega (arith, is, zero));
-      sound = λ zero. absurd (omega (arith, is, zero));
+      held = λ zero. absurd (omega (arith, is, zero));
       refused = λ three. record {
         refusal = r.refusal;
         work = told_map before.store.files (λ files. UnlessMemory (IsMakingWork m files) (Err r.refusal)) (λ files. IsMakingWork m files (Err r.refusal)) (λ files work. work some) r.work;
@@ -109,9 +111,6 @@ refused_end m status before now r (inr (inr (some, read, inr (inr stopped)))) = 
 refused_run : (m : Making) (status : ℕ) (before now : Outside) → IsWorkRefused m status before now → IsMakingRun m status before now
 refused_run m status before now r = refused_end m status before now r r.told
 
-sound_of : (m : Making) (made : Made) (files : Files) → IsMakingWork m files (Ok made) → IsSoundMemory m files
-sound_of m made files work = record { design = work.0; is_design = work.1; macro = work.2.is_built.macro; sound = work.2.is_built.sound }
-
 put_end : (m : Making) (status : ℕ) (before now : Outside) (p : IsPut m status before now) → IsFinished p.made.reply status before.sink now.sink → IsMakingRun m status before now
 put_end m status before now p (inl whole) =
     let is : status ≡ 0 = whole.is ∙ p.success in
@@ -120,7 +119,7 @@ put_end m status before now p (inl whole) =
       kinds = λ below. inl is;
       clean = λ below. (p.kept, whole.kept);
       done = λ zero. record { made = p.made; work = p.work; files = p.files; printed = whole.text };
-      sound = λ zero. told_map before.store.files (λ files. IsMakingWork m files (Ok p.made)) (IsSoundMemory m) (sound_of m p.made) p.work;
+      held = λ zero. told_held m p.made before.store.files now.store.files p.work p.files;
       refused = λ three. absurd (omega (arith, is, three));
       fault = λ four. absurd (omega (arith, is, four));
       memory_clean = λ five. whole.kept;

@@ -2,4 +2,5 @@ pub mod Words
 pub mod Demonstration
 pub mod Design
 pub mod Made
+pub mod Held
 pub mod Run

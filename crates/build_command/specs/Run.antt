@@ -10,35 +10,15 @@ use Rattle.reply_lines.specs.Lines.{reply_line, lines_text}
 use Rattle.reply_lines.specs.Refusals.{refusal_words}
 use Rattle.reply_lines.specs.Statuses.{is_read_failure, is_usage}
 use Rattle.reply_lines.specs.declared.refusal.Refusal.{Refusal}
-use Rattle.sram_macro.specs.declared.assembly.Macro.{Macro}
-use Rattle.macro_build.specs.Built.{IsSoundMacro}
 use Rattle.command_steps.specs.Finished.{IsFinished, IsOutOfMemory, IsUnwrittenTold, IsRefusalTold}
 use Rattle.command_steps.specs.Outcome.{UnlessMemory}
 use Rattle.command_steps.specs.Outside.{Outside, StoreState, IfTold, outside_at}
 use Rattle.command_steps.specs.Printed.{IsWholeText}
 use Rattle.command_steps.specs.Writing.{AreWritten, EndsAt, is_write_failure}
-use Rattle.build_command.specs.declared.design.Design.{Design}
 use Rattle.build_command.specs.declared.made.Made.{Made}
-use Rattle.build_command.specs.Demonstration.{demo_files}
-use Rattle.build_command.specs.Design.{IsDesign}
+use Rattle.build_command.specs.Held.{files_seen, config_name, first_files, IsMemoryHeld}
 use Rattle.build_command.specs.Made.{IsWork}
 use Rattle.build_command.specs.Words.{Making}
-use Rattle.build_command.specs.Words.Making.{build, demo}
-
--- the files that are written before the work: those of a demonstration
-abbrev pub first_files : Making → List MemFile
-first_files (build config) = []
-first_files (demo n) = demo_files n
-
--- the files that the work looks at: the store's, or those of the demonstration themselves
-abbrev pub files_seen : Making → Files → Files
-files_seen (build config) files = files
-files_seen (demo n) files = files_of (demo_files n)
-
--- the file of the configuration
-abbrev pub config_name : Making → List ℕ
-config_name (build config) = config
-config_name (demo n) = codes "demo.toml"
 
 -- what the work ends with, over the store's files
 abbrev pub IsMakingWork : Making → Files → Result Made Refusal → Type 0
@@ -141,13 +121,6 @@ pub record IsMakingRefused (m : Making) (before now : Outside) : Type 0 where
   pub files : Told (AreWritten (first_files m)) before.store.files now.store.files
   pub printed : Grows (IsWholeText (reply_line (refusal_words refusal))) before.sink.text now.sink.text
 
--- the memory that the files ask for: its layout breaks no rule, and its labels are joined exactly as its netlist says
-pub record IsSoundMemory (m : Making) (files : Files) : Type 0 where
-  pub design : Design
-  pub is_design : IsDesign (files_seen m files) (config_name m) (Ok design)
-  pub macro : Macro
-  pub sound : IsSoundMacro design.kit design.plan design.config.output_name macro
-
 -- What a build or a demonstration does.
 pub record IsMakingRun (m : Making) (status : ℕ) (before now : Outside) : Type 0 where
   pub range : status < 6
@@ -155,7 +128,7 @@ pub record IsMakingRun (m : Making) (status : ℕ) (before now : Outside) : Type
   pub kinds : status < 4 → (status ≡ 0) ⊎ (status ≡ 3)
   pub clean : status < 4 → (now.store.faults ≡ before.store.faults) × (now.sink.faults ≡ before.sink.faults)
   pub done : status ≡ 0 → IsMakingDone m before now
-  pub sound : status ≡ 0 → IfTold before.store.files (IsSoundMemory m)
+  pub held : status ≡ 0 → Told (IsMemoryHeld m) before.store.files now.store.files
   pub refused : status ≡ 3 → IsMakingRefused m before now
   -- 4 comes only where a fault rose, and at 5 the sink didn't fail
   pub fault : status ≡ 4 → Rose before.store.faults now.store.faults ⊎ Rose before.sink.faults now.sink.faults

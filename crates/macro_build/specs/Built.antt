@@ -25,6 +25,8 @@ use Rattle.leaf_tables.specs.declared.kit.Kit.{Kit}
 use Rattle.leaf_tables.specs.declared.part.PartFault.TheVariants as part_fault
 use Rattle.macro_views.specs.Lef.{lef_text}
 use Rattle.macro_views.specs.Verilog.{verilog_text}
+use Rattle.macro_build.specs.Memory.{IsMemory}
+use Rattle.macro_build.specs.Written.{IsReadInLowerCase, IsReferenceNetlist, SpellSoundLayout}
 use Rattle.sram_macro.specs.declared.assembly.Macro.{Macro}
 use Rattle.sram_macro.specs.Macro.{IsMacro, IsMacroFault}
 use Rattle.macro_build.specs.declared.built.Built.{Built}
@@ -59,7 +61,7 @@ pub record IsSoundMacro (kit : Kit) (plan : Plan) (name : List ℕ) (m : Macro) 
   pub are : AreNetsAndRows kit name m lists labels rows
   pub alike : AreAlike labels rows
 
--- The four views of a sound macro, and what the line of success tells.
+-- The four views of a sound macro, what they say to whoever reads them, and what the line of success tells.
 pub record IsBuilt (kit : Kit) (plan : Plan) (name : List ℕ) (built : Built) : Type 0 where
   pub macro : Macro
   pub sound : IsSoundMacro kit plan name macro
@@ -67,6 +69,12 @@ pub record IsBuilt (kit : Kit) (plan : Plan) (name : List ℕ) (built : Built) :
   pub gds : built.gds.items ≡ canonical macro.lib
   pub lef : built.lef.items ≡ lef_text macro.view
   pub verilog : built.verilog.items ≡ verilog_text plan name
+  -- the netlist is read as the subcircuits of the kit and the macro, its rows are those of the reference netlist, and that is a memory
+  pub read : IsReadInLowerCase kit plan name built.spice.items
+  pub netlist : IsReferenceNetlist kit plan name built.spice.items
+  pub memory : IsMemory (organization plan)
+  -- the layout that the bytes spell breaks no rule, and its labels are joined as the reference netlist says
+  pub spelled : SpellSoundLayout kit plan name built.gds.items
   pub tracks : built.tracks ≡ macro.tracks
   pub leaves : built.leaves ≡ length (leaf_instances (organization plan))
   pub width : built.width ≡ macro.view.width

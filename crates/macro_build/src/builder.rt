@@ -2,16 +2,13 @@ ghost use Rattle.std.specs.Prelude.{◌<◌, ◌≤◌, IfOk, IfErr, IsTrue};
 ghost use Rattle.leaf_tables.specs.Kits.{IsKit};
 ghost use Rattle.sram_netlist.specs.Numbers.{ArePlanNumbers};
 ghost use Rattle.sram_plan.specs.Config.{is_output_name};
-ghost use Rattle.sram_plan.specs.PlanNumbers.{numbers_of, organization};
+ghost use Rattle.sram_plan.specs.PlanNumbers.{numbers_of};
 ghost use Rattle.macro_build.specs.Built.{IsBuilt, IsBuildFault};
-ghost use Rattle.macro_build.specs.Memory.{IsMemory};
-ghost use Rattle.macro_build.specs.Written.{IsReadInLowerCase, IsReferenceNetlist, SpellSoundLayout};
 
 use crate::built::{BuildFault, Built};
 use crate::sound::check_sound;
 use crate::views::views;
 use leaf_tables::Kit;
-use memory_laws::{runs_answer_numbers, runs_exist};
 use or_geom::Name;
 use sram_macro::assemble;
 use sram_plan::Plan;
@@ -21,7 +18,9 @@ use tile_checker::Gate;
 
 /// Builds the macro of this name from leaf cells, checks it by as many workers, and writes its views. What is refused is
 /// refused in this order: a part that can't be built; a macro without flat layout; a broken rule; labels that are joined
-/// otherwise than the netlist says. `Memory` may come in place of each.
+/// otherwise than the netlist says. `Memory` may come in place of each. What the views say to whoever reads them is part of
+/// `IsBuilt`: the netlist has the rows of the reference netlist, which answers as an array of words, and the layout breaks no
+/// rule and is joined as that netlist says.
 pub fn build<R: Threads + Sync, G: Gate + Sync>(
     rt: &R,
     alloc: Global,
@@ -37,19 +36,8 @@ pub fn build<R: Threads + Sync, G: Gate + Sync>(
     requires some { 0 < workers }
     requires at_most { workers ≤ 64 }
     ensures built { IfOk result (IsBuilt kit.now plan.now name.now) }
-    // The netlist is read as the kit's subcircuits and the macro's in lower case.
-    ensures read { IfOk result (λ built. IsReadInLowerCase kit.now plan.now name.now built.spice.items) }
-    // What is read of it is the reference netlist.
-    ensures netlist { IfOk result (λ built. IsReferenceNetlist kit.now plan.now name.now built.spice.items) }
-    // What the layout's bytes spell breaks no rule, and its labels are joined as the reference netlist says.
-    ensures layout { IfOk result (λ built. SpellSoundLayout kit.now plan.now name.now built.gds.items) }
-    // The reference netlist answers as an array of words.
-    ensures memory { IfOk result (λ _. IsMemory (organization plan.now)) }
     ensures fault { IfErr result (IsBuildFault kit.now plan.now name.now) }
 {
-    // These calls do nothing when the program runs: their contracts are the laws of runs.
-    runs_exist();
-    runs_answer_numbers();
     let made = assemble(alloc, kit, plan, name)?;
     check_sound(rt, alloc, gate, kit, plan, name, &made, workers)?;
     Ok(views(alloc, kit, plan, name, &made)?)

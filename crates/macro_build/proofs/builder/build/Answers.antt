@@ -1,17 +1,8 @@
-use Rattle.sram_plan.specs.PlanNumbers.{organization}
 use Rattle.std.proofs.Common.{sym, subst}
 use Rattle.std.proofs.lemmas.Result.{err_from_is_err_and}
 use Rattle.macro_build.specs.Built.{IsBuildFault}
 use Rattle.macro_build.proofs.CheckLaws.{part_cause}
 use Rattle.macro_build.proofs.builder.build.Goals as goal
-
-pub returns-clause-memory : goal.returns-clause-memory
-returns-clause-memory g c =
-    let plan = organization c.args.plan.now in
-    record {
-      runs = λ s cs. c.runs_exist.ensures plan s cs c.requires.plan.plan;
-      answers = λ s cs vs end. c.runs_answer_numbers.ensures plan s cs vs end c.requires.plan.plan;
-    }
 
 pub returns-in_err-made-clause-fault : goal.returns-in_err-made-clause-fault
 returns-in_err-made-clause-fault g c =
