@@ -1,0 +1,2 @@
+mod RoleLaws
+mod RowLaws

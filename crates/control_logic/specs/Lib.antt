@@ -1,1 +1,2 @@
 pub mod LogicPart
+pub mod LogicRoles

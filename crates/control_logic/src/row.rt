@@ -7,13 +7,17 @@ ghost use Rattle.cell_builder.specs.CellList.{with_drawn};
 ghost use Rattle.port_lists.specs.Cells.{cell_in};
 ghost use Rattle.macro_layout.specs.Cells.{logic_row_cell};
 ghost use Rattle.macro_cells.specs.LayoutOfKit.{layout_kit};
-ghost use Rattle.control_logic.specs.LogicPart.{with_logic_subckt, logic_width, logic_height};
+ghost use Rattle.part_edges.specs.Additions.{with_subckt};
+ghost use Rattle.part_edges.specs.PartPins.{AreEdgesOf};
+ghost use Rattle.control_logic.specs.LogicPart.{logic_row_subckt, logic_pins, logic_width, logic_height};
 
-use cell_builder::Cells;
+use crate::roles::logic_roles;
+use cell_builder::{Cells, DrawnCell};
 use leaf_tables::{Edges, Kit, PartFault};
 use macro_cells::{logic_row_cell, sides_of};
-use netlist::Deck;
-use or_geom::{Items, Memory, Name};
+use netlist::{Deck, Subckt};
+use or_geom::{Memory, Name};
+use part_edges::{add_part, edges_of};
 use sram_plan::Plan;
 use sram_subckts::logic_subckt;
 use std::alloc::Global;
@@ -33,61 +37,47 @@ pub fn build(
     requires plan { ArePlanNumbers (numbers_of plan.now) }
     requires few { length cells.old.cells < 2 ^ 31 }
     ensures cells { OnOk result (cells.new ≡ with_drawn (logic_row_cell (organization plan.now) (layout_kit kit.now) name.now) cells.old) }
-    ensures deck { OnOk result (deck.new ≡ with_logic_subckt (organization plan.now) (cell_in kit.now.tech.roles) name.now deck.old) }
+    ensures deck { OnOk result (deck.new ≡ with_subckt (logic_row_subckt (organization plan.now) (cell_in kit.now.tech.roles) name.now) deck.old) }
+    ensures edges { IfOk result (AreEdgesOf (logic_pins kit.now (organization plan.now))) }
     ensures width { IfOk result (λ edges. edges.width ≡ pos (logic_width (organization plan.now) (layout_kit kit.now))) }
     ensures height { IfOk result (λ edges. edges.height ≡ pos (logic_height (layout_kit kit.now))) }
     ensures memory { IfErr result (λ fault. fault ≡ part_fault.Memory) }
 {
-    add_cell(alloc, kit, plan, name, cells)?;
-    add_subckt(alloc, kit, plan, name, deck)?;
-    Ok(edges_of(alloc, kit, plan, name)?)
+    let cell = logic_row_cell(alloc, kit, plan, name)?;
+    let subckt = logic_subckt(alloc, plan, kit.tech.roles.as_slice(), name)?;
+    let edges = row_edges(alloc, kit, plan, name, &subckt, &cell)?;
+    add_part(cell, subckt, cells, deck)?;
+    Ok(edges)
 }
 
-/// Adds the cell.
-fn add_cell(
+/// The edges of the logic row, which is this cell and this subcircuit.
+fn row_edges(
     alloc: Global,
     kit: &Kit,
     plan: &Plan,
     name: &Name,
-    cells: &mut Cells,
-) -> Result<(), Memory>
+    subckt: &Subckt,
+    cell: &DrawnCell,
+) -> Result<Edges, Memory>
     requires kit { IsKit kit.now }
     requires plan { ArePlanNumbers (numbers_of plan.now) }
-    requires few { length cells.old.cells < 2 ^ 31 }
-    ensures { OnOk result (cells.new ≡ with_drawn (logic_row_cell (organization plan.now) (layout_kit kit.now) name.now) cells.old) }
-{
-    cells.draw(logic_row_cell(alloc, kit, plan, name)?)?;
-    Ok(())
-}
-
-/// Adds the subcircuit.
-fn add_subckt(
-    alloc: Global,
-    kit: &Kit,
-    plan: &Plan,
-    name: &Name,
-    deck: &mut Deck,
-) -> Result<(), Memory>
-    requires plan { ArePlanNumbers (numbers_of plan.now) }
-    ensures { OnOk result (deck.new ≡ with_logic_subckt (organization plan.now) (cell_in kit.now.tech.roles) name.now deck.old) }
-{
-    let roles = kit.tech.roles.as_slice();
-    deck.subckts.push(logic_subckt(alloc, plan, roles, name)?)?;
-    Ok(())
-}
-
-/// The edges of the logic row.
-fn edges_of(alloc: Global, kit: &Kit, plan: &Plan, name: &Name) -> Result<Edges, Memory>
-    requires kit { IsKit kit.now }
-    requires plan { ArePlanNumbers (numbers_of plan.now) }
+    requires subckt { subckt.now ≡ logic_row_subckt (organization plan.now) (cell_in kit.now.tech.roles) name.now }
+    requires cell { cell.now ≡ logic_row_cell (organization plan.now) (layout_kit kit.now) name.now }
+    ensures edges { IfOk result (AreEdgesOf (logic_pins kit.now (organization plan.now))) }
     ensures width { IfOk result (λ edges. edges.width ≡ pos (logic_width (organization plan.now) (layout_kit kit.now))) }
     ensures height { IfOk result (λ edges. edges.height ≡ pos (logic_height (layout_kit kit.now))) }
 {
     let sides = sides_of(alloc, kit, plan, name)?;
-    Ok(Edges {
-        top: Items::new(alloc),
-        bottom: Items::new(alloc),
-        width: i64::from(sides.logic_width),
-        height: i64::from(sides.inv_height),
-    })
+    let roles = logic_roles(alloc, plan)?;
+    let width = i64::from(sides.logic_width);
+    let height = i64::from(sides.inv_height);
+    edges_of(
+        alloc,
+        kit,
+        &roles,
+        subckt.instances.as_slice(),
+        cell.instances.as_slice(),
+        width,
+        height,
+    )
 }

@@ -1,2 +1,4 @@
 mod OrderLaws
+mod PlaceLaws
+mod SideLaws
 pub mod PinLaws

@@ -1,6 +1,6 @@
 -- The edges of a part of a memory: where the nets of its leaf cells come to its upper and to its lower side.
-use Rattle.std.specs.Prelude.{ℕ, ℤ, pos, List, [], ◌∷◌, Bool, true, false, cond, map, Option, Some, None, IsPermutation, IsSorted}
-use Rattle.std.specs.List.{filter}
+use Rattle.std.specs.Prelude.{ℕ, ℤ, pos, List, [], ◌∷◌, ◌++◌, Bool, true, false, cond, map, Option, Some, None, IsPermutation, IsSorted, slice_index_or}
+use Rattle.std.specs.List.{filter, position_or_len}
 use Rattle.std.specs.Int.{int_max, int_min}
 use Rattle.std.specs.Str.{bytes_eq}
 use Rattle.std.specs.Ordering.{ordering_then, int_cmp, int_eq, nat_cmp}
@@ -9,6 +9,8 @@ use Rattle.std.specs.declared.cmp.Ordering.{Ordering}
 use Rattle.or_geom.specs.declared.shape.Rect.{Rect}
 use Rattle.or_geom.specs.declared.place.Place.{Place}
 use Rattle.or_geom.specs.Place.{placed, low_corner, high_corner}
+use Rattle.netlist.specs.declared.deck.Instance.{Instance}
+use Rattle.cell_builder.specs.declared.cell.PlacedInstance.{PlacedInstance}
 use Rattle.cell_roles.specs.declared.role.Role.{Role}
 use Rattle.cell_roles.specs.Roles.{role_ports}
 use Rattle.leaf_shapes.specs.declared.fit.Fit.{Fit}
@@ -19,6 +21,8 @@ use Rattle.leaf_tables.specs.declared.kit.Leaf.{Leaf}
 use Rattle.leaf_tables.specs.declared.part.Edge.{Edge}
 use Rattle.leaf_tables.specs.declared.part.Edges.{Edges}
 use Rattle.leaf_tables.specs.Alignment.{leaf_in}
+use Rattle.part_edges.specs.declared.side.Side.{Side}
+use Rattle.part_edges.specs.declared.side.Side.TheVariants.{Lower, Upper}
 
 -- a pin of a part: its net, and where its shape begins from the left, begins from below, and ends above
 pub record PartPin : Type 0 where
@@ -48,11 +52,12 @@ is_at_side Anywhere = false
 is_at_side LowerRail = false
 is_at_side UpperRail = false
 
--- the net of the port of this name, where the ports are on these nets
+-- the first port of this name, counted from 0; and the net that is on it, where the ports are on these nets
+abbrev pub port_place : List (List ℕ) → List ℕ → ℕ
+port_place ports pin = position_or_len (λ (port : List ℕ). bytes_eq port pin) ports
+
 abbrev pub net_of : List (List ℕ) → List (List ℕ) → List ℕ → List ℕ
-net_of [] nets pin = []
-net_of (p ∷ ps) [] pin = []
-net_of (p ∷ ps) (n ∷ ns) pin = cond (bytes_eq p pin) n (net_of ps ns pin)
+net_of ports nets pin = slice_index_or nets (port_place ports pin) []
 
 -- of the pins' shapes, one for each demand, those that reach the upper or the lower side
 abbrev pub side_pins : Role → List (List ℕ) → Place → List PinDemand → List LeafPin → List PartPin
@@ -67,6 +72,14 @@ edge_pins_of (Some leaf) = leaf.pins
 -- those of the role's leaf cell as it stands at the place, with its ports on these nets
 abbrev pub leaf_pins : List Leaf → Role → List (List ℕ) → Place → List PartPin
 leaf_pins leaves role nets place = side_pins role nets place (role_demands role) (edge_pins_of (leaf_in leaves role))
+
+-- Those of the leaf cells of a part, in turn: each of its role, on the nets of its instance in the part's subcircuit, and as it
+-- stands in the part's cell. (The three lists of a part are equally long.)
+abbrev pub part_pins : List Leaf → List Role → List Instance → List PlacedInstance → List PartPin
+part_pins leaves [] instances placed = []
+part_pins leaves (r ∷ rs) [] placed = []
+part_pins leaves (r ∷ rs) (i ∷ is) [] = []
+part_pins leaves (r ∷ rs) (i ∷ is) (p ∷ ps) = leaf_pins leaves r i.nodes p.place ++ part_pins leaves rs is ps
 
 -- where a net comes to an edge
 abbrev pub edge_at : List ℕ → ℤ → Edge
@@ -90,6 +103,18 @@ ends_at y pin = int_eq pin.high y
 
 abbrev pub begins_at : ℤ → PartPin → Bool
 begins_at y pin = int_eq pin.low y
+
+-- what lies between these heights reaches this side
+abbrev pub reaches : Side → ℤ → ℤ → Bool
+reaches Lower low high = int_eq low (pos 0)
+reaches (Upper height) low high = int_eq high height
+
+abbrev pub meets : Side → PartPin → Bool
+meets side pin = reaches side pin.low pin.high
+
+-- the edges at this side, in the order of the pins
+abbrev pub edges_at : Side → List PartPin → List Edge
+edges_at side pins = map edge_of (filter (meets side) pins)
 
 -- The edges of a part that has these pins: at the top those of the pins that end at its upper side, at the bottom those of the
 -- pins that begin at its lower side, each once and in order.

@@ -1,8 +1,14 @@
-//! The edges of a part of a memory: what they are, and their order.
+//! What the parts of a memory have in common: how one is added, and what its edges are.
 #![tactic(auto)]
 
 mod edge;
 mod leaf;
+mod part;
+mod pins;
+mod side;
 
 pub use edge::{edge_at, sorted_edges};
 pub use leaf::leaf_of;
+pub use part::add_part;
+pub use pins::{edges_of, side_edges};
+pub use side::Side;

@@ -13,3 +13,4 @@ mod TopLaws
 mod ExitLaws
 mod ColumnLaws
 mod RoutedLaws
+mod DataLaws

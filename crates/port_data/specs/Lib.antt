@@ -1,3 +1,4 @@
 pub mod Column
 pub mod Pins
 pub mod Demanded
+pub mod DataPart

@@ -3,6 +3,7 @@
 
 mod bottom;
 mod columns;
+mod data;
 mod exits;
 mod leaves;
 mod lines;
@@ -10,5 +11,6 @@ mod routing;
 mod slices;
 mod top;
 
+pub use data::build;
 pub use routing::channel;
 pub use slices::refuse_narrow_slices;

@@ -1,0 +1,13 @@
+-- The data on the channel's tracks.
+use Rattle.port_data.proofs.data.build.Goals as goal
+
+pub returns-clause-built : goal.returns-clause-built
+returns-clause-built c =
+    let is = c.requires.kit in
+    record {
+      wire = is.wire;
+      wired = is.wired;
+      routed = c.in_ok-routed.routed;
+      column = λ floorplan bank. c.in_ok-routed.ensures.stated is.wire floorplan is.wired bank;
+      drawn = λ main floorplan on. c.in_ok-add_data.ensures.drawn is.wire main floorplan is.wired on;
+    }
