@@ -1,4 +1,4 @@
-use Rattle.std.proofs.Common.{◌≡◌, ◌<◌, map, ℕ, Some}
+use Rattle.std.proofs.Common.{◌<◌, map, ℕ, Some}
 use Rattle.std.specs.Prelude.{◌≢◌, slice_get}
 use Rattle.part_edges.proofs.pins.port_place.Given as goal
 
