@@ -1,0 +1,6 @@
+mod EachLaws
+mod OneCellLaws
+mod StageLaws
+mod OneLeafLaws
+mod OneAlignmentLaws
+pub mod OneKitLaws
