@@ -3,3 +3,5 @@ mod StepLaws
 mod WriteLaws
 mod RunLaws
 mod NameLaws
+pub mod OneDesignLaws
+pub mod ToldRefusalLaws

@@ -77,7 +77,7 @@ high_run m status before now h end =
       end = end;
     }
 
-three : (a b c : Bool) → a ≡ false → b ≡ false → c ≡ false → ◌≡◌ {A = ℕ} (if a then 5 else (if b then 4 else (if c then 2 else 3))) 3
+pub three : (a b c : Bool) → a ≡ false → b ≡ false → c ≡ false → ◌≡◌ {A = ℕ} (if a then 5 else (if b then 4 else (if c then 2 else 3))) 3
 three true b c e f g = absurd cc
 three false true c e f g = absurd cc
 three false false true e f g = absurd cc

@@ -4,3 +4,4 @@ pub mod Design
 pub mod Made
 pub mod Held
 pub mod Run
+pub mod OneDesign

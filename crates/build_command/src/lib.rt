@@ -4,6 +4,7 @@
 
 mod demo_files;
 mod design;
+mod laws;
 mod made;
 mod run;
 mod success;
@@ -11,5 +12,6 @@ mod success;
 mod tests;
 mod words;
 
+pub use laws::{designs_are_one, refusals_are_told, refused_designs_are_not_made};
 pub use run::make;
 pub use words::{Asked, Making, making_in};

@@ -3,7 +3,7 @@ use Rattle.std.proofs.Common.{◌≡◌, ℕ, List, [], ◌++◌, Option, Some, 
 use Rattle.or_host.specs.Fault.{Rose}
 use Rattle.or_host.specs.Text.{Grows}
 use Rattle.reply_lines.specs.declared.reply.Reply.{Reply}
-use Rattle.command_steps.specs.Finished.{AreSomeLines, IsCut, IsStopped, IsMemorySaid, EndsClean, EndsCut, IsFinished, IsOutOfMemory, memory_line}
+use Rattle.command_steps.specs.Finished.{AreSomeLines, IsCut, IsStopped, IsMemorySaid, IsFinished, IsOutOfMemory, memory_line}
 use Rattle.command_steps.specs.Outside.{SinkState}
 use Rattle.command_steps.specs.Printed.{IsPrefixOf, AreFirstLines, IsFollowedBy}
 

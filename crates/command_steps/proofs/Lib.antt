@@ -2,3 +2,4 @@ pub mod OutcomeLaws
 pub mod EndLaws
 pub mod PrintLaws
 pub mod WriteLaws
+pub mod OnceLaws

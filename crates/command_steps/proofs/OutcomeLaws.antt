@@ -1,5 +1,5 @@
 -- One step of the work after another.
-use Rattle.std.proofs.Common.{◌≡◌, ℕ, Bool, false, List, Option, Some, None, Result, Ok, Err, refl, sym, inr, inl, subst, ◌∙◌}
+use Rattle.std.proofs.Common.{◌≡◌, ℕ, Bool, false, Option, Some, None, Result, Ok, Err, refl, sym, inr, inl, subst, ◌∙◌}
 use Rattle.or_host.specs.Fault.{HasCause}
 use Rattle.or_host.specs.Files.{Files}
 use Rattle.reply_lines.specs.declared.refusal.Refusal.{Refusal}

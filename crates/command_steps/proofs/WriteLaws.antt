@@ -1,12 +1,12 @@
 -- Files written one after another.
-use Rattle.std.proofs.Common.{◌≡◌, ℕ, ◌+◌, ◌<◌, List, [], ◌∷◌, ◌++◌, length, get_or, drop, take, Option, Some, None, Ok, Err, refl, sym, ap, subst, ◌∙◌, append_assoc, take-append-drop}
+use Rattle.std.proofs.Common.{◌≡◌, ℕ, ◌+◌, ◌<◌, List, [], ◌∷◌, ◌++◌, length, get_or, drop, take, Option, Some, None, Ok, Err, refl, sym, ap, subst, ◌∙◌, take-append-drop}
 use Rattle.or_geom.proofs.ListLaws.{rest_at}
 use Rattle.spice_netlist.proofs.ListLaws.{front_at}
 use Rattle.or_host.specs.Files.{Files, Holds, HoldsPart, Told, Writes}
 use Rattle.or_host.specs.declared.file.MemFile.{MemFile}
 use Rattle.or_host.specs.declared.store.WriteFail.{WriteFail}
 use Rattle.or_host.specs.declared.store.WriteFail.TheVariants as write
-use Rattle.command_steps.specs.Writing.{AreWritten, AreCutAt, AreWrittenBefore, EndsAt}
+use Rattle.command_steps.specs.Writing.{AreWritten, AreWrittenBefore, EndsAt}
 
 -- one file more
 pub written_on : (files : List MemFile) (file : MemFile) (before mid now : Files) → AreWritten files before mid → Holds mid now file.name file.bytes → AreWritten (files ++ file ∷ []) before now

@@ -6,3 +6,4 @@ pub mod Reading
 pub mod Printed
 pub mod Finished
 pub mod Writing
+pub mod Once

@@ -1,5 +1,5 @@
 -- The outside of the program at one moment.
-use Rattle.std.specs.Prelude.{◌≡◌, ℕ, List, Option, Some, None}
+use Rattle.std.specs.Prelude.{ℕ, List, Option, Some, None}
 use Rattle.or_host.specs.Files.{Files}
 
 -- the files, where the store tells them, and its count of faults

@@ -1,4 +1,4 @@
-use Rattle.std.proofs.Common.{◌≡◌, false, inr, sym, ◌∙◌}
+use Rattle.std.proofs.Common.{inr, sym, ◌∙◌}
 use Rattle.reply_lines.specs.Reply.{refusal_reply}
 use Rattle.command_steps.specs.Outside.{sink_state}
 use Rattle.command_steps.proofs.EndLaws.{not_made}

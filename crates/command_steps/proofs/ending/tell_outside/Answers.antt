@@ -1,4 +1,4 @@
-use Rattle.std.proofs.Common.{inl, inr, refl, ◌∙◌}
+use Rattle.std.proofs.Common.{inl, inr, refl}
 use Rattle.command_steps.proofs.PrintLaws.{put_cut}
 use Rattle.command_steps.proofs.ending.tell_outside.Goals as goal
 
