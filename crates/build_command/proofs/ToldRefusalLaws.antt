@@ -19,7 +19,8 @@ use Rattle.command_steps.specs.Printed.{IsWholeText}
 use Rattle.build_command.specs.declared.made.Made.{Made}
 use Rattle.build_command.specs.Design.{IsDesign}
 use Rattle.build_command.specs.OneDesign.{EndsRefused, HoldBytes, RefusalsAreTold}
-use Rattle.build_command.specs.Run.{IsMakingEnd, IsMakingWork, IsWorkRefused, config_name, files_seen}
+use Rattle.build_command.specs.Held.{config_name, files_seen}
+use Rattle.build_command.specs.Run.{IsMakingEnd, IsMakingWork, IsWorkRefused}
 use Rattle.build_command.specs.Words.{Making}
 use Rattle.build_command.proofs.OneDesignLaws.{refused_designs_are_not_made}
 use Rattle.build_command.proofs.RunLaws.{three}

@@ -12,7 +12,8 @@ use Rattle.command_steps.specs.Printed.{IsWholeText}
 use Rattle.build_command.specs.declared.made.Made.{Made}
 use Rattle.build_command.specs.Design.{IsDesign}
 use Rattle.build_command.specs.Made.{IsWork}
-use Rattle.build_command.specs.Run.{IsMakingRun, config_name, files_seen}
+use Rattle.build_command.specs.Held.{config_name, files_seen}
+use Rattle.build_command.specs.Run.{IsMakingRun}
 use Rattle.build_command.specs.Words.{Making}
 
 -- what stands in the files is bytes
