@@ -1,6 +1,5 @@
 -- How many cells and ports there are.
-use Rattle.std.proofs.Common.{◌≡◌, ◌⊎◌, inl, inr, ℕ, zero, suc, ◌+◌, ◌*◌, ◌≤◌, List, [], ◌∷◌, ◌++◌, length, flat_map, refl, ap, sym, subst, le_trans, ◌∙◌, length-append, arith}
-use Rattle.std.proofs.lemmas.List.{length-map}
+use Rattle.std.proofs.Common.{◌≡◌, ◌⊎◌, inl, inr, ℕ, zero, suc, ◌+◌, ◌*◌, ◌≤◌, List, [], ◌∷◌, ◌++◌, length, flat_map, sym, subst, le_trans, length-append, arith}
 use Rattle.std.proofs.lemmas.Nat.{mul-le}
 use Rattle.std.specs.List.{AllByRecursion}
 use Rattle.sram_netlist.specs.Organization.{Organization, IsBuildable, IsGroupSize, power_of_two, total_bits, addr_bits, bank_bit}
@@ -12,13 +11,7 @@ use Rattle.std.specs.Prelude.{codes}
 use Rattle.sram_netlist.specs.Names.{with_number, with_numbers}
 use Rattle.sram_deck.specs.Deck.{predecode_lines, predecode_lines_from, column_choices, wlen_name, sen_name}
 use Rattle.main_channel.specs.Names.{port_count, rail_names}
-
-count_numbers : (k n : ℕ) → length (numbers_from k n) ≡ n
-count_numbers k zero = refl
-count_numbers k (suc n) = ap suc (count_numbers (suc k) n)
-
-pub count_tabulated : {A : Type 0} (n : ℕ) (f : ℕ → A) → length (tabulate n f) ≡ n
-count_tabulated n f = length-map (numbers_from 0 n) f ∙ count_numbers 0 n
+use Rattle.main_channel.proofs.TableLaws.{count_numbers, count_tabulated}
 
 count_lists : {A : Type 0} (xs : List ℕ) (f : ℕ → List A) (m : ℕ) → ((x : ℕ) → length (f x) ≤ m) → length (flat_map f xs) ≤ length xs * m
 count_lists [] f m few = omega arith

@@ -6,7 +6,7 @@ use Rattle.cell_roles.specs.declared.role.Role.TheVariants.{Inv, Nand2}
 use Rattle.sram_netlist.specs.Organization.{Organization, power_of_two, bank_bit}
 use Rattle.sram_netlist.specs.Netlist.{gate_of, logic_role, enable_inputs, bank_input, mask_input}
 use Rattle.sram_netlist.specs.Nets.{Control, Wen}
-use Rattle.sram_netlist.specs.InstanceList.{numbers_from, tabulate, tabulate_lists, gates, line_gates, choice_gates, groups_gates, bank_cells, banks_cells, enable_gates}
+use Rattle.sram_netlist.specs.InstanceList.{numbers_from, tabulate_lists, gates, line_gates, choice_gates, groups_gates, bank_cells, banks_cells, enable_gates}
 use Rattle.port_lists.proofs.TabulateLaws.{map_append}
 use Rattle.main_channel.specs.Roles.{group_roles}
 
@@ -16,13 +16,6 @@ map_flat {B = B} g f (n ∷ ns) = map_append g (f n) (flat_map f ns) ∙ ap (λ 
 
 pub map_lists : {A B : Type 0} (g : A → B) (n : ℕ) (f : ℕ → List A) → map g (tabulate_lists n f) ≡ tabulate_lists n (λ k. map g (f k))
 map_lists g n f = map_flat g f (numbers_from 0 n)
-
-map_map : {A B : Type 0} (g : A → B) (f : ℕ → A) (ns : List ℕ) → map g (map f ns) ≡ map (λ k. g (f k)) ns
-map_map g f [] = refl
-map_map {B = B} g f (n ∷ ns) = ap (λ (l : List B). g (f n) ∷ l) (map_map g f ns)
-
-pub map_tabulated : {A B : Type 0} (g : A → B) (n : ℕ) (f : ℕ → A) → map g (tabulate n f) ≡ tabulate n (λ k. g (f k))
-map_tabulated g n f = map_map g f (numbers_from 0 n)
 
 flat_same : {A : Type 0} (f g : ℕ → List A) (ns : List ℕ) → ((k : ℕ) → f k ≡ g k) → flat_map f ns ≡ flat_map g ns
 flat_same f g [] same = refl

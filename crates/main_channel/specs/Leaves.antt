@@ -1,12 +1,20 @@
 -- How far leaf cells and their pins reach.
-use Rattle.std.specs.Prelude.{◌≡◌, ℕ, ℤ, pos, ◌≤ℤ◌, List, Some, slice_get}
+use Rattle.std.specs.Prelude.{ℕ, ℤ, pos, ◌≤ℤ◌, Option, None, Some, slice_get, option_and_then}
+use Rattle.cell_roles.specs.declared.role.Role.{Role}
 use Rattle.leaf_shapes.specs.declared.pins.LeafPin.{LeafPin}
+use Rattle.leaf_tables.specs.declared.kit.Leaf.{Leaf}
+use Rattle.leaf_tables.specs.declared.kit.Kit.{Kit}
+use Rattle.leaf_tables.specs.Alignment.{leaf_in}
 
 -- a length in a leaf cell
 pub record IsInLeaf (z : ℤ) : Type 0 where
   pub above : pos 0 ≤ℤ z
   pub below : z ≤ℤ pos 65536
 
--- each pin begins in the cell
-abbrev pub ArePinsInLeaf : List LeafPin → Type 0
-ArePinsInLeaf pins = (k : ℕ) (pin : LeafPin) → slice_get pins k ≡ Some pin → IsInLeaf pin.rect.x1
+-- where the pin of this index begins in a role's cell
+abbrev pub begin_of : Option LeafPin → ℤ
+begin_of None = pos 0
+begin_of (Some pin) = pin.rect.x1
+
+abbrev pub pin_begin : Kit → Role → ℕ → ℤ
+pin_begin kit role k = begin_of (option_and_then (λ (leaf : Leaf). slice_get leaf.pins k) (leaf_in kit.leaves role))

@@ -4,4 +4,5 @@ pub mod Pins
 pub mod Names
 pub mod Roles
 pub mod Row
+pub mod Banks
 pub mod Main

@@ -1,5 +1,5 @@
 -- Lists of a channel's pins.
-use Rattle.std.specs.Prelude.{◌≡◌, ℕ, ◌<◌, ◌^◌, ℤ, pos, ◌≤ℤ◌, List, [], ◌∷◌, ◌++◌, Option, None, Some, All}
+use Rattle.std.specs.Prelude.{◌≡◌, ◌⊎◌, ◌↔◌, ℕ, ◌<◌, ◌^◌, ℤ, pos, ◌≤ℤ◌, List, [], ◌∷◌, Option, None, Some, All}
 use Rattle.channel_router.specs.declared.channel.ChannelPin.{ChannelPin}
 use Rattle.channel_router.specs.Channel.{IsPinOf}
 
@@ -24,9 +24,14 @@ pin_of (Some net) x = record { x = x; net = net } ∷ []
 abbrev pub numbered_net : (List ℕ → Option ℕ) → List ℕ → ℤ → List ChannelPin
 numbered_net look name x = pin_of (look name) x
 
--- pins were added at the end
-abbrev pub GrowsByPins : List ChannelPin → List ChannelPin → Type 0
-GrowsByPins old new = (more : List ChannelPin) × (new ≡ old ++ more)
+-- the pins are those of the old list and those that are meant, and no others
+abbrev pub AddsPins : List ChannelPin → List ChannelPin → (ℕ → ℤ → Type 0) → Type 0
+AddsPins old new IsMeant = (net : ℕ) (x : ℤ) → IsPinOf new net x ↔ (IsPinOf old net x ⊎ IsMeant net x)
+
+-- the net of this name, here
+pub record IsPinNamed (look : List ℕ → Option ℕ) (name : List ℕ) (at : ℤ) (net : ℕ) (x : ℤ) : Type 0 where
+  pub number : look name ≡ Some net
+  pub here : x ≡ at
 
 -- the net has a pin
 abbrev pub HasPinOfNet : List ChannelPin → ℕ → Type 0

@@ -1,17 +1,19 @@
 ghost use Rattle.std.specs.Prelude.{◌≡◌, ◌+◌, ◌-◌, ◌<◌, ◌≤◌, ◌^◌, ℕ, length, OnOk};
+ghost use Rattle.leaf_shapes.specs.Demands.{role_demands};
 ghost use Rattle.leaf_tables.specs.Kits.{IsKit};
+ghost use Rattle.macro_cells.specs.LeafSides.{leaf_width};
 ghost use Rattle.macro_wires.specs.FloorplanNumbers.{IsUpTo};
-ghost use Rattle.main_channel.specs.Leaves.{ArePinsInLeaf};
+ghost use Rattle.main_channel.specs.Leaves.{pin_begin};
 ghost use Rattle.main_channel.specs.Numbers.{found_number, IsNetNumbering};
-ghost use Rattle.main_channel.specs.Pins.{AreMainPins, GrowsByPins, HasPinOfNet};
-ghost use Rattle.main_channel.specs.Row.{FitRoles};
+ghost use Rattle.main_channel.specs.Pins.{AreMainPins, AddsPins, HasPinOfNet};
+ghost use Rattle.main_channel.specs.Row.{FitRoles, IsPortPin, IsCellPin, IsRowPin};
 
 use crate::leaves::{leaf_of, pin_left};
 use crate::names::NetNumbers;
 use crate::pins::add_leaf_pin;
 use cell_roles::Role;
 use channel_router::ChannelPin;
-use leaf_tables::{Kit, Leaf};
+use leaf_tables::Kit;
 use netlist::Instance;
 use or_geom::Memory;
 
@@ -31,39 +33,49 @@ pub fn add_row_pins(
     requires few { length gates.now ≤ 3000 }
     requires x { IsUpTo (2 ^ 17) logic_x }
     requires ports { ports ≤ 800 }
+    ensures adds { OnOk result (AddsPins pins.old.items pins.new.items (IsRowPin (pin_begin kit.now) (leaf_width kit.now) (found_number numbers.now) gates.now roles.now logic_x ports (length gates.now))) }
     ensures has { OnOk result ((k : ℕ) → k < length gates.now → HasPinOfNet pins.new.items (ports + k)) }
     ensures main { OnOk result ((nets : ℕ) → IsNetNumbering nets (found_number numbers.now) → ports + length gates.now ≤ nets → AreMainPins nets pins.old.items → AreMainPins nets pins.new.items) }
 {
     let mut x = logic_x;
     for cell in 0..gates.len() {
-        let leaf = leaf_of(kit, roles[cell]);
-        add_cell_pins(numbers, &gates[cell], leaf, x, ports + cell as u32, pins)?;
-        x += leaf.width;
+        let role = roles[cell];
+        add_cell_pins(
+            kit,
+            numbers,
+            &gates[cell],
+            role,
+            x,
+            ports + cell as u32,
+            pins,
+        )?;
+        x += leaf_of(kit, role).width;
     }
     Ok(())
 }
 
 /// Adds the pins of a cell that begins at x: those of its inputs, and that of its output, which is on the net of this number.
 fn add_cell_pins(
+    kit: &Kit,
     numbers: &NetNumbers,
     gate: &Instance,
-    leaf: &Leaf,
+    role: Role,
     x: i64,
     output: u32,
     pins: &mut Vec<ChannelPin>,
 ) -> Result<(), Memory>
-    requires leaf { ArePinsInLeaf leaf.now.pins }
-    requires ports { 3 ≤ length leaf.now.pins }
-    requires nodes { length gate.now.nodes ≡ length leaf.now.pins }
+    requires kit { IsKit kit.now }
+    requires ports { 3 ≤ length gate.now.nodes }
+    requires nodes { length gate.now.nodes ≡ length (role_demands role) }
     requires x { IsUpTo (2 ^ 28 - 65536) x }
-    ensures grown { OnOk result (GrowsByPins pins.old.items pins.new.items) }
+    ensures adds { OnOk result (AddsPins pins.old.items pins.new.items (IsCellPin (pin_begin kit.now) (found_number numbers.now) role gate.now x output)) }
     ensures has { OnOk result (HasPinOfNet pins.new.items output) }
     ensures main { OnOk result ((nets : ℕ) → IsNetNumbering nets (found_number numbers.now) → output < nets → AreMainPins nets pins.old.items → AreMainPins nets pins.new.items) }
 {
-    let last = leaf.pins.as_slice().len() - 3;
-    add_input_pins(numbers, gate, leaf, x, pins)?;
+    let last = gate.nodes.as_slice().len() - 3;
+    add_input_pins(kit, numbers, gate, role, x, pins)?;
     pins.push(ChannelPin {
-        x: x + pin_left(leaf, last),
+        x: x + pin_left(kit, role, last),
         net: output,
     })?;
     Ok(())
@@ -71,22 +83,23 @@ fn add_cell_pins(
 
 /// Adds the pins of the cell's inputs: of its ports before its output and the supplies.
 fn add_input_pins(
+    kit: &Kit,
     numbers: &NetNumbers,
     gate: &Instance,
-    leaf: &Leaf,
+    role: Role,
     x: i64,
     pins: &mut Vec<ChannelPin>,
 ) -> Result<(), Memory>
-    requires leaf { ArePinsInLeaf leaf.now.pins }
-    requires ports { 3 ≤ length leaf.now.pins }
-    requires nodes { length gate.now.nodes ≡ length leaf.now.pins }
+    requires kit { IsKit kit.now }
+    requires ports { 3 ≤ length gate.now.nodes }
+    requires nodes { length gate.now.nodes ≡ length (role_demands role) }
     requires x { IsUpTo (2 ^ 28 - 65536) x }
-    ensures grown { OnOk result (GrowsByPins pins.old.items pins.new.items) }
+    ensures adds { OnOk result (AddsPins pins.old.items pins.new.items (IsPortPin (pin_begin kit.now) (found_number numbers.now) role gate.now x (length gate.now.nodes - 3))) }
     ensures main { OnOk result ((nets : ℕ) → IsNetNumbering nets (found_number numbers.now) → AreMainPins nets pins.old.items → AreMainPins nets pins.new.items) }
 {
-    for port in 0..leaf.pins.as_slice().len() - 3 {
+    for port in 0..gate.nodes.as_slice().len() - 3 {
         let node = gate.nodes.as_slice()[port].as_bytes();
-        add_leaf_pin(numbers, node, leaf, port, x, pins)?;
+        add_leaf_pin(kit, numbers, node, role, port, x, pins)?;
     }
     Ok(())
 }

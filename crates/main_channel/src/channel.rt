@@ -8,7 +8,7 @@ ghost use Rattle.macro_layout.specs.Channels.{ArePins, LeavesLeft};
 ghost use Rattle.macro_layout.specs.Pins.{main_nets};
 ghost use Rattle.macro_cells.specs.LayoutOfKit.{layout_kit};
 ghost use Rattle.macro_wires.specs.FloorplanNumbers.{IsNearFloorplan};
-ghost use Rattle.main_channel.specs.Main.{IsNearMainChannel};
+ghost use Rattle.main_channel.specs.Main.{IsNearMainChannel, IsMainChannelAcross};
 ghost use Rattle.main_channel.specs.Pins.{AreMainPins, HasPinOfNet};
 
 use crate::bottom::add_row_pins;
@@ -44,6 +44,7 @@ pub fn main_channel(
     ensures nets { IfOk result (λ ch. ch.nets ≡ length (main_nets (organization plan.now))) }
     ensures exits { IfOk result (λ ch. ArePins ch.exits (LeavesLeft (organization plan.now))) }
     ensures low { IfOk result (λ ch. ch.low ≡ pos ((layout_kit kit.now).height Inv)) }
+    ensures stated { IfOk result (IsMainChannelAcross kit.now (organization plan.now) floorplan.now) }
 {
     let gates = logic_gates(alloc, kit, plan)?;
     let roles = logic_roles(alloc, plan)?;

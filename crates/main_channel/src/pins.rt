@@ -1,13 +1,16 @@
-ghost use Rattle.std.specs.Prelude.{◌≡◌, ◌++◌, ◌-◌, ◌<◌, ◌^◌, ℕ, length, OnOk};
+ghost use Rattle.std.specs.Prelude.{◌≡◌, ◌++◌, ◌+ℤ◌, ◌-◌, ◌<◌, ◌^◌, ℕ, length, OnOk};
+ghost use Rattle.leaf_shapes.specs.Demands.{role_demands};
+ghost use Rattle.leaf_tables.specs.Kits.{IsKit};
 ghost use Rattle.macro_wires.specs.FloorplanNumbers.{IsUpTo};
-ghost use Rattle.main_channel.specs.Leaves.{ArePinsInLeaf};
+ghost use Rattle.main_channel.specs.Leaves.{pin_begin};
 ghost use Rattle.main_channel.specs.Numbers.{found_number, IsNetNumbering};
-ghost use Rattle.main_channel.specs.Pins.{IsMacroCoordinate, AreMainPins, GrowsByPins, numbered_net};
+ghost use Rattle.main_channel.specs.Pins.{IsMacroCoordinate, AreMainPins, AddsPins, IsPinNamed, numbered_net};
 
 use crate::leaves::pin_left;
 use crate::names::NetNumbers;
+use cell_roles::Role;
 use channel_router::ChannelPin;
-use leaf_tables::Leaf;
+use leaf_tables::Kit;
 use or_geom::Memory;
 
 /// Adds a pin at x of the net of this name, if it is one of the channel's.
@@ -27,21 +30,22 @@ pub fn add_pin(
     Ok(())
 }
 
-/// The same for a pin of a leaf whose cell begins at x.
+/// The same for a pin of a role's cell that begins at x.
 pub fn add_leaf_pin(
+    kit: &Kit,
     numbers: &NetNumbers,
     name: &[u8],
-    leaf: &Leaf,
+    role: Role,
     pin: usize,
     x: i64,
     pins: &mut Vec<ChannelPin>,
 ) -> Result<(), Memory>
-    requires there { pin < length leaf.now.pins }
-    requires leaf { ArePinsInLeaf leaf.now.pins }
+    requires kit { IsKit kit.now }
+    requires there { pin < length (role_demands role) }
     requires x { IsUpTo (2 ^ 28 - 65536) x }
-    ensures grown { OnOk result (GrowsByPins pins.old.items pins.new.items) }
+    ensures adds { OnOk result (AddsPins pins.old.items pins.new.items (IsPinNamed (found_number numbers.now) name.now (x +ℤ pin_begin kit.now role pin))) }
     ensures main { OnOk result ((nets : ℕ) → IsNetNumbering nets (found_number numbers.now) → AreMainPins nets pins.old.items → AreMainPins nets pins.new.items) }
 {
-    add_pin(numbers, name, x + pin_left(leaf, pin), pins)?;
+    add_pin(numbers, name, x + pin_left(kit, role, pin), pins)?;
     Ok(())
 }

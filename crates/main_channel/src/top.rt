@@ -1,13 +1,17 @@
-ghost use Rattle.std.specs.Prelude.{◌≡◌, ◌-◌, ◌≤◌, ◌^◌, ℕ, pos, ◌≤ℤ◌, length, IfOk, OnOk};
+ghost use Rattle.std.specs.Prelude.{◌≡◌, ◌-◌, ◌≤◌, ◌^◌, ℕ, ℤ, pos, ◌*ℤ◌, ◌≤ℤ◌, Some, length, IfOk, OnOk};
+ghost use Rattle.tech_rules.specs.declared.tech.Wire.{Wire};
+ghost use Rattle.tech_rules.specs.Drawing.{pitch};
 ghost use Rattle.leaf_tables.specs.Kits.{IsKit};
 ghost use Rattle.sram_netlist.specs.Numbers.{ArePlanNumbers};
 ghost use Rattle.sram_plan.specs.PlanNumbers.{numbers_of, organization};
 ghost use Rattle.port_lists.specs.Spelled.{spelled};
+ghost use Rattle.macro_cells.specs.LeafSides.{leaf_width};
 ghost use Rattle.macro_wires.specs.FloorplanNumbers.{IsUpTo, IsNearFloorplan};
-ghost use Rattle.main_channel.specs.Leaves.{IsInLeaf};
+ghost use Rattle.main_channel.specs.Banks.{IsRailPin, IsWritePin, IsSensePin, IsSlicePin, IsBankPin, columns_begin};
+ghost use Rattle.main_channel.specs.Leaves.{IsInLeaf, pin_begin};
 ghost use Rattle.main_channel.specs.Names.{rail_names, enable_name};
 ghost use Rattle.main_channel.specs.Numbers.{found_number, IsNetNumbering};
-ghost use Rattle.main_channel.specs.Pins.{AreMainPins};
+ghost use Rattle.main_channel.specs.Pins.{AreMainPins, AddsPins};
 
 use crate::leaves::leaf_of;
 use crate::names::NetNumbers;
@@ -34,7 +38,8 @@ pub fn add_bank_pins(
     requires kit { IsKit kit.now }
     requires plan { ArePlanNumbers (numbers_of plan.now) }
     requires near { IsNearFloorplan floorplan.now }
-    ensures { OnOk result ((nets : ℕ) → IsNetNumbering nets (found_number numbers.now) → AreMainPins nets pins.old.items → AreMainPins nets pins.new.items) }
+    ensures adds { OnOk result ((wire : Wire) → kit.now.tech.wire ≡ Some wire → AddsPins pins.old.items pins.new.items (IsBankPin (pin_begin kit.now) (leaf_width kit.now) (found_number numbers.now) (organization plan.now) (pitch wire) floorplan.now.row_x floorplan.now.bank_width plan.now.banks)) }
+    ensures main { OnOk result ((nets : ℕ) → IsNetNumbering nets (found_number numbers.now) → AreMainPins nets pins.old.items → AreMainPins nets pins.new.items) }
 {
     let pitch = pitch_of(kit);
     let columns_x = columns_of(alloc, kit, plan, floorplan)?;
@@ -51,6 +56,7 @@ pub fn add_bank_pins(
 fn bank_x(bank: u32, width: i64) -> i64
     requires bank { bank ≤ 3 }
     requires width { IsUpTo (2 ^ 25) width }
+    ensures is { result ≡ pos bank *ℤ width }
     ensures above { pos 0 ≤ℤ result }
     ensures below { result ≤ℤ pos 100663296 }
 {
@@ -60,7 +66,8 @@ fn bank_x(bank: u32, width: i64) -> i64
 /// The distance from a wire's edge to the same edge of the next wire.
 fn pitch_of(kit: &Kit) -> i64
     requires { IsKit kit.now }
-    ensures { IsUpTo (2 ^ 17) result }
+    ensures is { (wire : Wire) → kit.now.tech.wire ≡ Some wire → result ≡ pitch wire }
+    ensures near { IsUpTo (2 ^ 17) result }
 {
     let Some(wire) = kit.tech.wire else {
         unreachable!()
@@ -78,7 +85,8 @@ fn columns_of(
     requires kit { IsKit kit.now }
     requires plan { ArePlanNumbers (numbers_of plan.now) }
     requires near { IsNearFloorplan floorplan.now }
-    ensures { IfOk result (IsUpTo (2 ^ 24)) }
+    ensures is { IfOk result (λ x. x ≡ columns_begin (leaf_width kit.now) (organization plan.now) floorplan.now.row_x) }
+    ensures near { IfOk result (IsUpTo (2 ^ 24)) }
 {
     let groups = groups_of(alloc, plan)?;
     let gate = leaf_of(kit, row_gate_role(&groups));
@@ -114,7 +122,8 @@ fn add_rail_pins(
     requires few { length names.now ≤ 64 }
     requires x { IsUpTo (2 ^ 27) x }
     requires pitch { IsUpTo (2 ^ 17) pitch }
-    ensures { OnOk result ((nets : ℕ) → IsNetNumbering nets (found_number numbers.now) → AreMainPins nets pins.old.items → AreMainPins nets pins.new.items) }
+    ensures adds { OnOk result (AddsPins pins.old.items pins.new.items (IsRailPin (found_number numbers.now) names.now x pitch (length names.now))) }
+    ensures main { OnOk result ((nets : ℕ) → IsNetNumbering nets (found_number numbers.now) → AreMainPins nets pins.old.items → AreMainPins nets pins.new.items) }
 {
     for rail in 0..names.len() {
         let left = x + pitches(rail as u32 + 1, pitch);
@@ -127,6 +136,7 @@ fn add_rail_pins(
 fn pitches(count: u32, pitch: i64) -> i64
     requires count { count ≤ 64 }
     requires pitch { IsUpTo (2 ^ 17) pitch }
+    ensures is { result ≡ pos count *ℤ pitch }
     ensures above { pos 0 ≤ℤ result }
     ensures below { result ≤ℤ pos 8388608 }
 {
@@ -146,7 +156,8 @@ fn add_slice_pins(
     requires kit { IsKit kit.now }
     requires plan { ArePlanNumbers (numbers_of plan.now) }
     requires x { IsUpTo (2 ^ 27) x }
-    ensures { OnOk result ((nets : ℕ) → IsNetNumbering nets (found_number numbers.now) → AreMainPins nets pins.old.items → AreMainPins nets pins.new.items) }
+    ensures adds { OnOk result (AddsPins pins.old.items pins.new.items (IsSlicePin (pin_begin kit.now) (leaf_width kit.now) (found_number numbers.now) (organization plan.now) bank x plan.now.word_size)) }
+    ensures main { OnOk result ((nets : ℕ) → IsNetNumbering nets (found_number numbers.now) → AreMainPins nets pins.old.items → AreMainPins nets pins.new.items) }
 {
     let width = leaf_of(kit, Role::Bitcell).width;
     for bit in 0..plan.word_size {
@@ -161,6 +172,7 @@ fn add_slice_pins(
 fn columns_width(columns: u32, width: i64) -> i64
     requires columns { columns ≤ 256 }
     requires width { IsInLeaf width }
+    ensures is { result ≡ pos columns *ℤ width }
     ensures above { pos 0 ≤ℤ result }
     ensures below { result ≤ℤ pos 16777216 }
 {
@@ -181,13 +193,13 @@ fn add_write_pins(
     requires kit { IsKit kit.now }
     requires plan { ArePlanNumbers (numbers_of plan.now) }
     requires x { IsUpTo (2 ^ 28 - 65536) x }
-    ensures { OnOk result ((nets : ℕ) → IsNetNumbering nets (found_number numbers.now) → AreMainPins nets pins.old.items → AreMainPins nets pins.new.items) }
+    ensures adds { OnOk result (AddsPins pins.old.items pins.new.items (IsWritePin (pin_begin kit.now) (found_number numbers.now) (organization plan.now) bank bit x)) }
+    ensures main { OnOk result ((nets : ℕ) → IsNetNumbering nets (found_number numbers.now) → AreMainPins nets pins.old.items → AreMainPins nets pins.new.items) }
 {
-    let leaf = leaf_of(kit, Role::Write);
     let data = spell(alloc, Spelling::Numbered(b"d", bit))?;
-    add_leaf_pin(numbers, data.as_bytes(), leaf, 0, x, pins)?;
+    add_leaf_pin(kit, numbers, data.as_bytes(), Role::Write, 0, x, pins)?;
     let enable = spell(alloc, write_enable(plan, bank, bit))?;
-    add_leaf_pin(numbers, enable.as_bytes(), leaf, 3, x, pins)?;
+    add_leaf_pin(kit, numbers, enable.as_bytes(), Role::Write, 3, x, pins)?;
     Ok(())
 }
 
@@ -202,11 +214,11 @@ fn add_sense_pin(
 ) -> Result<(), Memory>
     requires kit { IsKit kit.now }
     requires x { IsUpTo (2 ^ 28 - 65536) x }
-    ensures { OnOk result ((nets : ℕ) → IsNetNumbering nets (found_number numbers.now) → AreMainPins nets pins.old.items → AreMainPins nets pins.new.items) }
+    ensures adds { OnOk result (AddsPins pins.old.items pins.new.items (IsSensePin (pin_begin kit.now) (found_number numbers.now) bit x)) }
+    ensures main { OnOk result ((nets : ℕ) → IsNetNumbering nets (found_number numbers.now) → AreMainPins nets pins.old.items → AreMainPins nets pins.new.items) }
 {
-    let leaf = leaf_of(kit, Role::Sense);
     let output = spell(alloc, Spelling::Indexed(b"dout0", bit))?;
-    add_leaf_pin(numbers, output.as_bytes(), leaf, 2, x, pins)?;
+    add_leaf_pin(kit, numbers, output.as_bytes(), Role::Sense, 2, x, pins)?;
     Ok(())
 }
 

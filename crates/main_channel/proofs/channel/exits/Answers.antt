@@ -4,12 +4,12 @@ use Rattle.std.specs.Prelude.{All}
 use Rattle.std.proofs.lemmas.Int.{ints}
 use Rattle.channel_router.specs.declared.channel.ChannelPin.{ChannelPin}
 use Rattle.main_channel.specs.Pins.{HasPinOfNet}
-use Rattle.main_channel.proofs.PinLaws.{pin_there, net_kept, pushed_main, pushed_zero, each_more}
+use Rattle.main_channel.proofs.PinLaws.{pin_there, net_kept, pushed_adds, pushed_main, pushed_zero, each_more}
 use Rattle.main_channel.proofs.channel.exits.Goals as goal
 
 pub loop-net-preserved : goal.loop-net-preserved
 loop-net-preserved c = record {
-  has = each_more (HasPinOfNet c.loop-net.exits.items) (HasPinOfNet c.push.new.self.items) c.loop-net.net c.loop-net.invariant.has (λ k. net_kept _ _ k (_, c.in_ok-push.ensures.items)) (pin_there _ _ _ c.in_ok-push.ensures.items);
+  has = each_more (HasPinOfNet c.loop-net.exits.items) (HasPinOfNet c.push.new.self.items) c.loop-net.net c.loop-net.invariant.has (λ k. net_kept _ _ _ k (pushed_adds _ _ _ c.in_ok-push.ensures.items)) (pin_there _ _ _ c.in_ok-push.ensures.items);
   zero = pushed_zero _ _ _ c.loop-net.invariant.zero c.in_ok-push.ensures.items (omega (arith, ints));
   main = λ nets fits.
       let less = c.loop-net-test.true in

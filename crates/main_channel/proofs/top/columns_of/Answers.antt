@@ -1,10 +1,13 @@
 -- The rows' left end, a gate and a driver.
-use Rattle.std.proofs.Common.{arith}
+use Rattle.std.proofs.Common.{pos, ap, ◌∙◌, arith}
+use Rattle.cell_roles.specs.declared.role.Role.{Role}
+use Rattle.sram_netlist.specs.Netlist.{row_gate}
+use Rattle.macro_cells.specs.LeafSides.{leaf_width}
 use Rattle.std.proofs.lemmas.Int.{ints}
 use Rattle.main_channel.proofs.top.columns_of.Goals as goal
 
-pub returns : goal.returns
-returns c =
+pub returns-clause-near : goal.returns-clause-near
+returns-clause-near c =
     let a = c.requires.near.row_x.above in
     let b = c.requires.near.row_x.below in
     let d = c.leaf_of-gate.ensures.width.above in
@@ -12,3 +15,15 @@ returns c =
     let f = c.leaf_of-driver.ensures.width.above in
     let g = c.leaf_of-driver.ensures.width.below in
     record { above = omega (arith, ints, a, b, d, e, f, g); below = omega (arith, ints, a, b, d, e, f, g) }
+
+pub returns-clause-is : goal.returns-clause-is
+returns-clause-is c =
+    let a = c.requires.near.row_x.above in
+    let b = c.requires.near.row_x.below in
+    let d = c.leaf_of-gate.ensures.width.above in
+    let e = c.leaf_of-gate.ensures.width.below in
+    let f = c.leaf_of-driver.ensures.width.above in
+    let g = c.leaf_of-driver.ensures.width.below in
+    let gate = c.leaf_of-gate.ensures.sized ∙ ap (λ (role : Role). pos (leaf_width c.args.kit.now role)) (c.row_gate_role.ensures ∙ ap row_gate (c.deref.ensures.value ∙ c.in_ok-groups.ensures)) in
+    let driver = c.leaf_of-driver.ensures.sized in
+    omega (arith, ints, a, b, d, e, f, g, gate, driver)
