@@ -3,7 +3,7 @@ ghost use Rattle.std.specs.Option.{is_none};
 ghost use Rattle.or_host.specs.Files.{Files};
 ghost use Rattle.openram_cli.specs.Answer.{IsWork};
 ghost use Rattle.openram_cli.specs.Command.{command_of};
-ghost use Rattle.openram_cli.specs.OneAnswer.{HaveOneAnswer};
+ghost use Rattle.openram_cli.specs.OneAnswer.{HaveOneAnswer, HaveToldRefusal};
 ghost use Rattle.command_steps.specs.Outcome.{is_usage_outcome};
 ghost use Rattle.command_steps.specs.Outside.{store_state, sink_state, outside_at};
 ghost use Rattle.command_steps.specs.Reading.{HasRead};
@@ -67,9 +67,10 @@ pub fn run_gated<R: Threads + Sync, G: Gate + Sync, S: Store, K: Sink>(
     out: &mut K,
 ) -> u8
     ensures run { IsProgramRun (map string_bytes words.now) result (outside_at (store_state (S.files store.old) (S.faults store.old)) (sink_state (K.written out.old) (K.faults out.old))) (outside_at (store_state (S.files store.new) (S.faults store.new)) (sink_state (K.written out.new) (K.faults out.new))) }
-    // Over files of bytes the words have one answer at most, so status and text are a function of them. Of a build and a
-    // demonstration this is not said.
+    // Over files of bytes the words have one answer at most, so status and text are a function of them.
     ensures one { (files : Files) → HaveOneAnswer (map string_bytes words.now) files }
+    // So they are of a build and a demonstration whose configuration, plan or kit is refused.
+    ensures refusal { HaveToldRefusal (map string_bytes words.now) result (outside_at (store_state (S.files store.old) (S.faults store.old)) (sink_state (K.written out.old) (K.faults out.old))) (outside_at (store_state (S.files store.new) (S.faults store.new)) (sink_state (K.written out.new) (K.faults out.new))) }
 {
     match making_in(words) {
         Some(making) => make(rt, alloc, gate, making, store, out),
@@ -88,9 +89,10 @@ pub fn run<R: Threads + Sync, S: Store, K: Sink>(
     out: &mut K,
 ) -> u8
     ensures run { IsProgramRun (map string_bytes words.now) result (outside_at (store_state (S.files store.old) (S.faults store.old)) (sink_state (K.written out.old) (K.faults out.old))) (outside_at (store_state (S.files store.new) (S.faults store.new)) (sink_state (K.written out.new) (K.faults out.new))) }
-    // Over files of bytes the words have one answer at most, so status and text are a function of them. Of a build and a
-    // demonstration this is not said.
+    // Over files of bytes the words have one answer at most, so status and text are a function of them.
     ensures one { (files : Files) → HaveOneAnswer (map string_bytes words.now) files }
+    // So they are of a build and a demonstration whose configuration, plan or kit is refused.
+    ensures refusal { HaveToldRefusal (map string_bytes words.now) result (outside_at (store_state (S.files store.old) (S.faults store.old)) (sink_state (K.written out.old) (K.faults out.old))) (outside_at (store_state (S.files store.new) (S.faults store.new)) (sink_state (K.written out.new) (K.faults out.new))) }
 {
     run_gated(rt, alloc, &OpenGate, words, store, out)
 }
