@@ -2,16 +2,24 @@
 #![tactic(auto)]
 
 mod answer;
+#[cfg(test)]
+mod builds;
 mod command;
+#[cfg(test)]
+mod failing;
 #[cfg(test)]
 mod hostile;
 mod inputs;
 #[cfg(test)]
 mod inverters;
 #[cfg(test)]
+mod large;
+#[cfg(test)]
 mod layouts;
 #[cfg(test)]
 mod meeting;
+#[cfg(test)]
+mod refused_builds;
 mod run;
 #[cfg(test)]
 mod tests;

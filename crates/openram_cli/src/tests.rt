@@ -142,7 +142,38 @@ pub fn answer_on<R: Threads + Sync>(
     answer_of(alloc, words, files, rt, failing)
 }
 
+/// How a run ended: its status, the files, and the text.
+#[derive(Drop)]
+pub struct Ended {
+    pub status: u8,
+    pub store: MemStore,
+    pub out: MemSink,
+}
+
+pub fn list_of(alloc: Global, words: &[&str]) -> Result<Vec<String>, Fail> {
+    let mut list = Vec::new(alloc);
+    for word in words {
+        list.push(String::from_str(alloc, word)?)?;
+    }
+    Ok(list)
+}
+
 /// Runs the words on files.
+pub fn run_on<R: Threads + Sync>(
+    rt: &R,
+    alloc: Global,
+    words: &[&str],
+    files: Vec<MemFile>,
+    failing: Failing,
+) -> Result<Ended, Fail> {
+    let list = list_of(alloc, words)?;
+    let mut store = MemStore::with(alloc, files, vec![in alloc; failing.store]?);
+    let mut out = MemSink::with(alloc, vec![in alloc; failing.sink]?);
+    let status = run(rt, alloc, &list, &mut store, &mut out);
+    Ok(Ended { status, store, out })
+}
+
+/// Runs the words on files that are only read.
 pub fn answer_of<R: Threads + Sync>(
     alloc: Global,
     words: &[&str],
@@ -150,14 +181,8 @@ pub fn answer_of<R: Threads + Sync>(
     rt: &R,
     failing: Failing,
 ) -> Result<(u8, MemSink), Fail> {
-    let mut list = Vec::new(alloc);
-    for word in words {
-        list.push(String::from_str(alloc, word)?)?;
-    }
-    let mut store = MemStore::with(alloc, files, vec![in alloc; failing.store]?);
-    let mut out = MemSink::with(alloc, vec![in alloc; failing.sink]?);
-    let status = run(rt, alloc, &list, &mut store, &mut out);
-    Ok((status, out))
+    let ended = run_on(rt, alloc, words, files, failing)?;
+    Ok((ended.status, ended.out))
 }
 
 pub const CHECK: [&str; 5] = ["check", "t.toml", "a.gds", "t", "1"];
@@ -198,7 +223,7 @@ fn an_empty_structure(rt: HostRuntime) -> Result<(), Fail> {
 /// Words, the status, and what is printed.
 type Words = (&'static [&'static str], u8, &'static [u8]);
 
-const WORDS: [Words; 8] = [
+const WORDS: [Words; 14] = [
     (
         &["check", "t.toml", "a.gds", "z", "1"],
         3,
@@ -235,6 +260,12 @@ const WORDS: [Words; 8] = [
         b"openram: 90 Usage\n",
     ),
     (&[], 2, b"openram: 90 Usage\n"),
+    (&["build", "t.toml", "0"], 2, b"openram: 90 Usage\n"),
+    (&["build", "t.toml", "65"], 2, b"openram: 90 Usage\n"),
+    (&["build", "t.toml", "08"], 2, b"openram: 90 Usage\n"),
+    (&["build", "t.toml"], 2, b"openram: 90 Usage\n"),
+    (&["demo", "65536", "1"], 2, b"openram: 90 Usage\n"),
+    (&["demo", "00", "1"], 2, b"openram: 90 Usage\n"),
 ];
 
 #[test]
