@@ -18,9 +18,13 @@ use Rattle.channel_router.specs.Intervals.{AreIntervals}
 use Rattle.channel_router.specs.Density.{IsDensity}
 use Rattle.tech_rules.specs.Drawing.{pitch}
 use Rattle.channel_router.specs.Routed.{IsRouted, IsRouteFault}
-use Rattle.sram_netlist.specs.Organization.{Organization}
+use Rattle.sram_netlist.specs.Organization.{Organization, columns_of}
 use Rattle.macro_layout.specs.LayoutKit.{LayoutKit}
-use Rattle.macro_layout.specs.Floorplan.{choice_count}
+use Rattle.macro_layout.specs.Places.{Floorplan, bit_width, drive_width}
+use Rattle.macro_layout.specs.Floorplan.{Tracks, IsFloorplan, choice_count}
+use Rattle.macro_wires.specs.declared.numbers.FloorplanNumbers.{FloorplanNumbers}
+use Rattle.macro_wires.specs.FloorplanNumbers.{floorplan_of}
+use Rattle.main_channel.specs.Main.{StandsAcross}
 use Rattle.macro_bounds.specs.Near.{IsCoordinate, IsChannelWithin, IsSevenLayerWire, IsWireShape, AreWireShapes, RoutedShapesAreNear, TracksAreFew}
 use Rattle.bank_layout.specs.Near.{IsWireWithin, HasTracks, IsNearRouted}
 use Rattle.port_data.specs.Column as column
@@ -76,10 +80,21 @@ column_near law layers plan wire routed is near few each = record {
   tracks = record { each = omega (arith, each); few = λ number t at. let below = near.is.count.below number t at in omega (arith, below, few) };
 }
 
-pub main_fault : (plan : Organization) (kit : LayoutKit) (wire : Wire) (ch : Channel) (fault : RouteFault) → IsMainOf plan kit ch → IsRouteFault ch wire fault → IsMainFault plan kit wire fault
+pub main_fault : (plan : Organization) (kit : LayoutKit) (wire : Wire) (ch : Channel) (fault : RouteFault) → IsMainOf plan kit wire ch → IsRouteFault ch wire fault → IsMainFault plan kit wire fault
 main_fault plan kit wire ch (Close side first second) is close = (ch, is, close)
 main_fault plan kit wire ch (TapsClose first second) is none = none
 main_fault plan kit wire ch Memory is any = tt
+
+-- floorplans of one macro stand at the same places from left to right
+pub stands_across : (plan : Organization) (kit : LayoutKit) (wire : Wire) (first second : Tracks) (numbers : FloorplanNumbers) (floorplan : Floorplan) → IsFloorplan plan kit wire first (floorplan_of numbers) → IsFloorplan plan kit wire second floorplan
+    → StandsAcross numbers floorplan
+stands_across plan kit wire first second numbers floorplan a b =
+    let rows : floorplan.row_x ≡ numbers.row_x = b.row_x ∙ sym a.row_x in
+    record {
+      logic_x = b.logic_x ∙ sym a.logic_x;
+      row_x = rows;
+      bank_width = b.bank_width ∙ (ap (λ (x : ℤ). (x +ℤ pos (drive_width plan kit)) +ℤ pos (columns_of plan * bit_width kit)) rows ∙ sym a.bank_width);
+    }
 
 pub err_as : {X E : Type 0} (r : Result X E) (P Q : E → Type 0) → ((e : E) → P e → Q e) → IfErr r P → IfErr r Q
 err_as (Ok x) P Q to is = tt
@@ -90,7 +105,7 @@ ok_as (Ok x) P Q to is = to x is
 ok_as (Err e) P Q to is = tt
 
 -- the channel that is routed, with few tracks
-pub main_routed : (plan : Organization) (kit : LayoutKit) (wire : Wire) (ch : Channel) (r : Result Routed RouteFault) → TracksAreFew → IsMainOf plan kit ch → ch.nets ≤ 4096 → IfOk r (λ (x : Routed). (intervals : List Interval) × IsRouted ch wire intervals x)
+pub main_routed : (plan : Organization) (kit : LayoutKit) (wire : Wire) (ch : Channel) (r : Result Routed RouteFault) → TracksAreFew → IsMainOf plan kit wire ch → ch.nets ≤ 4096 → IfOk r (λ (x : Routed). (intervals : List Interval) × IsRouted ch wire intervals x)
     → IfOk r (λ (x : Routed). (intervals : List Interval) → AreIntervals ch intervals → IsDensity (pitch wire) intervals x.tracks) → IfOk r (IsMainRouted plan kit wire)
 main_routed plan kit wire ch (Err e) law is few routed dense = tt
 main_routed plan kit wire ch (Ok x) law is few routed dense =

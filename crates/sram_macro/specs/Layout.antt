@@ -15,9 +15,9 @@ use Rattle.leaf_tables.specs.declared.part.PartFault.{PartFault}
 use Rattle.leaf_tables.specs.Parts.{of_route}
 use Rattle.macro_layout.specs.LayoutKit.{LayoutKit}
 use Rattle.macro_layout.specs.Places.{Floorplan}
-use Rattle.macro_layout.specs.Floorplan.{IsFloorplan, choice_count}
+use Rattle.macro_layout.specs.Floorplan.{Tracks, IsFloorplan, choice_count}
 use Rattle.macro_layout.specs.Pins.{main_nets}
-use Rattle.macro_layout.specs.Channels.{ArePins, LeavesLeft}
+use Rattle.macro_layout.specs.Channels.{ArePins, LeavesLeft, IsMainChannel}
 use Rattle.macro_cells.specs.LayoutOfKit.{layout_kit}
 use Rattle.macro_wires.specs.Sides.{AreLeafSides, AreSidesOf}
 use Rattle.macro_wires.specs.FloorplanNumbers.{floorplan_of, IsNearFloorplan}
@@ -37,8 +37,9 @@ pub record IsColumnOf (kit : Kit) (plan : Organization) (routed : Routed) : Type
   pub near : (wire : Wire) → kit.tech.wire ≡ Some wire → IsNearColumnRouted wire routed
   pub stated : (wire : Wire) (floorplan : Floorplan) → kit.tech.wire ≡ Some wire → IsBankFloorplan plan (layout_kit kit) wire floorplan → IsColumnRouted plan (layout_kit kit) wire floorplan routed
 
--- the main channel, as far as its nets, its lower end and its exits say
-pub record IsMainOf (plan : Organization) (kit : LayoutKit) (ch : Channel) : Type 0 where
+-- the main channel: that of each floorplan of the macro, whatever tracks the floorplan leaves room for
+pub record IsMainOf (plan : Organization) (kit : LayoutKit) (wire : Wire) (ch : Channel) : Type 0 where
+  pub stated : (tracks : Tracks) (floorplan : Floorplan) → IsFloorplan plan kit wire tracks floorplan → IsMainChannel plan kit wire floorplan ch
   pub near : IsNearMainChannel ch
   pub nets : ch.nets ≡ length (main_nets plan)
   pub exits : ArePins ch.exits (LeavesLeft plan)
@@ -47,7 +48,7 @@ pub record IsMainOf (plan : Organization) (kit : LayoutKit) (ch : Channel) : Typ
 -- it is routed
 pub record IsMainRouted (plan : Organization) (kit : LayoutKit) (wire : Wire) (routed : Routed) : Type 0 where
   pub channel : Channel
-  pub is : IsMainOf plan kit channel
+  pub is : IsMainOf plan kit wire channel
   pub intervals : List Interval
   pub routed_as : IsRouted channel wire intervals routed
   pub few : routed.tracks ≤ 4096
@@ -56,7 +57,7 @@ pub record IsMainRouted (plan : Organization) (kit : LayoutKit) (wire : Wire) (r
 abbrev pub IsMainFault : Organization → LayoutKit → Wire → RouteFault → Type 0
 IsMainFault plan kit wire route_fault.Memory = Unit {0}
 IsMainFault plan kit wire (route_fault.TapsClose first second) = ⊥
-IsMainFault plan kit wire (route_fault.Close side first second) = (ch : Channel) × IsMainOf plan kit ch × AreFirstClosePins ch wire side first second
+IsMainFault plan kit wire (route_fault.Close side first second) = (ch : Channel) × IsMainOf plan kit wire ch × AreFirstClosePins ch wire side first second
 
 -- The macro stands on a floorplan with the tracks of both channels, its ends are behind it, the wires of a bank can be drawn, and
 -- the main channel is routed.

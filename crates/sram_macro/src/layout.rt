@@ -6,6 +6,7 @@ ghost use Rattle.leaf_tables.specs.Kits.{IsKit};
 ghost use Rattle.sram_netlist.specs.Numbers.{ArePlanNumbers};
 ghost use Rattle.sram_plan.specs.PlanNumbers.{numbers_of, organization};
 ghost use Rattle.macro_layout.specs.LayoutKit.{LayoutKit};
+ghost use Rattle.macro_layout.specs.Floorplan.{Tracks, IsFloorplan};
 ghost use Rattle.macro_layout.specs.Wires.{IsPowerWire, IsGroundWire};
 ghost use Rattle.macro_cells.specs.LayoutOfKit.{layout_kit};
 ghost use Rattle.macro_wires.specs.Sides.{AreLeafSides, AreSidesOf};
@@ -62,7 +63,9 @@ fn route_main(
     requires kit { IsKit kit.now }
     requires plan { ArePlanNumbers (numbers_of plan.now) }
     requires wire { IsWire kit.now.tech.layers wire.now }
+    requires wired { kit.now.tech.wire ≡ Some wire.now }
     requires near { IsNearFloorplan floorplan.now }
+    requires stands { (tracks : Tracks) × IsFloorplan (organization plan.now) (layout_kit kit.now) wire.now tracks (floorplan_of floorplan.now) }
     ensures routed { IfOk result (IsMainRouted (organization plan.now) (layout_kit kit.now) wire.now) }
     ensures fault { IfErr result (IsMainFault (organization plan.now) (layout_kit kit.now) wire.now) }
 {

@@ -24,6 +24,9 @@ bank_wires-requires-clause-given c = λ wire wired.
     let near = column_near c.routed_shapes_are_near.ensures c.args.kit.now.tech.layers plan here c.args.column.now c.wire_of-wire.ensures.wire (c.requires.column.near here c.wire_of-wire.ensures.is) c.requires.column.few c.requires.column.each in
     subst (λ (w : Wire). IsBankGiven plan kit w (floorplan_of c.floorplan-stands.result) c.args.column.now) same (record { stands = (c.tracks_of.result, stands); near = near })
 
+pub route_main-main-requires-clause-stands : goal.route_main-main-requires-clause-stands
+route_main-main-requires-clause-stands c = (_, c.floorplan-begun.ensures.stated (layout_kit c.args.kit.now) c.in_ok-sides.ensures.of)
+
 pub returns-in_err-main-clause-fault : goal.returns-in_err-main-clause-fault
 returns-in_err-main-clause-fault c =
     let plan = organization c.args.plan.now in
