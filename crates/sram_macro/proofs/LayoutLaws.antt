@@ -17,7 +17,7 @@ use Rattle.channel_router.specs.declared.channel.Routed.{Routed}
 use Rattle.channel_router.specs.Intervals.{AreIntervals}
 use Rattle.channel_router.specs.Density.{IsDensity}
 use Rattle.tech_rules.specs.Drawing.{pitch}
-use Rattle.channel_router.specs.Routed.{IsRouted, IsRouteFault}
+use Rattle.channel_router.specs.Routed.{HasClosePins, IsRouted, IsRouteFault}
 use Rattle.sram_netlist.specs.Organization.{Organization, columns_of}
 use Rattle.macro_layout.specs.LayoutKit.{LayoutKit}
 use Rattle.macro_layout.specs.Places.{Floorplan, bit_width, drive_width}
@@ -106,8 +106,8 @@ ok_as (Err e) P Q to is = tt
 
 -- the channel that is routed, with few tracks
 pub main_routed : (plan : Organization) (kit : LayoutKit) (wire : Wire) (ch : Channel) (r : Result Routed RouteFault) → TracksAreFew → IsMainOf plan kit wire ch → ch.nets ≤ 4096 → IfOk r (λ (x : Routed). (intervals : List Interval) × IsRouted ch wire intervals x)
-    → IfOk r (λ (x : Routed). (intervals : List Interval) → AreIntervals ch intervals → IsDensity (pitch wire) intervals x.tracks) → IfOk r (IsMainRouted plan kit wire)
-main_routed plan kit wire ch (Err e) law is few routed dense = tt
-main_routed plan kit wire ch (Ok x) law is few routed dense =
+    → IfOk r (λ (x : Routed). (intervals : List Interval) → AreIntervals ch intervals → IsDensity (pitch wire) intervals x.tracks) → IfOk r (λ (x : Routed). HasClosePins ch wire → ⊥) → IfOk r (IsMainRouted plan kit wire)
+main_routed plan kit wire ch (Err e) law is few routed dense apart = tt
+main_routed plan kit wire ch (Ok x) law is few routed dense apart =
     let tracks = law ch wire routed.0 x.tracks routed.1.nets (dense routed.0 routed.1.nets) in
-    record { channel = ch; is = is; intervals = routed.0; routed_as = routed.1; few = omega (arith, tracks, few) }
+    record { channel = ch; is = is; intervals = routed.0; routed_as = routed.1; apart = apart; few = omega (arith, tracks, few) }

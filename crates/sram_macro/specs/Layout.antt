@@ -7,7 +7,7 @@ use Rattle.tech_rules.specs.declared.route.RouteFault.TheVariants as route_fault
 use Rattle.channel_router.specs.declared.channel.Channel.{Channel}
 use Rattle.channel_router.specs.declared.channel.Interval.{Interval}
 use Rattle.channel_router.specs.declared.channel.Routed.{Routed}
-use Rattle.channel_router.specs.Routed.{IsRouted, AreFirstClosePins}
+use Rattle.channel_router.specs.Routed.{HasClosePins, IsRouted, AreFirstClosePins}
 use Rattle.cell_roles.specs.declared.role.Role.TheVariants.{Inv}
 use Rattle.sram_netlist.specs.Organization.{Organization}
 use Rattle.leaf_tables.specs.declared.kit.Kit.{Kit}
@@ -45,12 +45,13 @@ pub record IsMainOf (plan : Organization) (kit : LayoutKit) (wire : Wire) (ch : 
   pub exits : ArePins ch.exits (LeavesLeft plan)
   pub low : ch.low ≡ pos (kit.height Inv)
 
--- it is routed
+-- it is routed, and none of its pins were too close
 pub record IsMainRouted (plan : Organization) (kit : LayoutKit) (wire : Wire) (routed : Routed) : Type 0 where
   pub channel : Channel
   pub is : IsMainOf plan kit wire channel
   pub intervals : List Interval
   pub routed_as : IsRouted channel wire intervals routed
+  pub apart : HasClosePins channel wire → ⊥
   pub few : routed.tracks ≤ 4096
 
 -- its pins are too close, or memory ran out

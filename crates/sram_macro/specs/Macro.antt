@@ -55,13 +55,17 @@ pub record IsDrawnFrom (kit : Kit) (plan : Organization) (name : List ℕ) (layo
   pub view : m.view ≡ macro_view kit.tech.layers name wire layout.ends (layout_pins plan wire layout)
   pub tracks : m.tracks ≡ layout.main.tracks
 
--- the macro is laid out around some column channel
+-- the macro is laid out around its column channel
 pub record IsLaidOut (kit : Kit) (plan : Organization) (layout : Layout) : Type 0 where
   pub column : Routed
+  pub of : IsColumnOf kit plan column
   pub few : column.tracks ≤ 1024
   pub is : IsMacroLayout kit plan column layout
 
 pub record IsMacro (kit : Kit) (plan : Plan) (name : List ℕ) (m : Macro) : Type 0 where
+  -- no name is taken, and no slice is too narrow
+  pub free : first_taken kit (macro_names name) ≡ None
+  pub wide : AreWideSlices (organization plan) (layout_kit kit)
   pub named : m.lib.name ≡ name
   pub writable : IsWritable m.lib
   pub deck : m.deck ≡ macro_deck kit plan name
@@ -80,7 +84,9 @@ IsDataFault kit plan fault =
 
 -- that, or else taps of a bank or pins of the main channel are too close
 abbrev pub IsPartsFault : Kit → Organization → PartFault → Type 0
-IsPartsFault kit plan fault = IsDataFault kit plan fault ⊎ ((column : Routed) × IsColumnOf kit plan column × IsMacroLayoutFault kit plan column fault)
+IsPartsFault kit plan fault =
+    IsDataFault kit plan fault
+    ⊎ (AreWideSlices plan (layout_kit kit) × ((column : Routed) × IsColumnOf kit plan column × IsMacroLayoutFault kit plan column fault))
 
 -- Why there is no macro: the first name that is taken, or else the first fault of its parts.
 abbrev pub IsMacroFault : Kit → Plan → List ℕ → PartFault → Type 0

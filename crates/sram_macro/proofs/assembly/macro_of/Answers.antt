@@ -37,6 +37,8 @@ returns c =
     let are = c.in_ok-signals.ensures.are in
     let shown = c.in_ok-macro_view.ensures ∙ (λ i. macro_view (c.as_slice-layers.ensures i) c.args.name.now wire c.args.layout.ends c.in_ok-signals.signals.items) in
     record {
+      free = c.requires.free;
+      wide = c.requires.wide;
       layout = c.args.layout;
       laid = c.requires.layout;
       drawn = record {

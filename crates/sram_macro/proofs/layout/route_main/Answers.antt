@@ -21,7 +21,7 @@ returns-clause-routed c =
       exits = c.in_ok-channel.ensures.exits;
       low = c.in_ok-channel.ensures.low;
     } in
-    main_routed plan kit wire c.in_ok-channel.channel c.route.result c.tracks_are_few.ensures is c.in_ok-channel.ensures.few c.route.ensures.routed c.route.ensures.dense
+    main_routed plan kit wire c.in_ok-channel.channel c.route.result c.tracks_are_few.ensures is c.in_ok-channel.ensures.few c.route.ensures.routed c.route.ensures.dense c.route.ensures.apart
 
 pub returns-clause-fault : goal.returns-clause-fault
 returns-clause-fault c =
