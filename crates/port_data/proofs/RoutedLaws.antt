@@ -159,6 +159,6 @@ column_routed plan kit wire floorplan intervals routed sizes bank r =
 -- faults
 
 pub column_fault : (plan : Organization) (kit : LayoutKit) (wire : Wire) (fault : RouteFault) → IsRouteFault (column_channel plan kit wire) wire fault → IsColumnFault plan kit wire (of_route fault)
-column_fault plan kit wire (Close side first second) is = (column_channel plan kit wire, is_data_channel plan kit wire, is)
+column_fault plan kit wire (Close side first second) is = (is_data_channel plan kit wire, is)
 column_fault plan kit wire (TapsClose first second) is = absurd is
 column_fault plan kit wire Memory is = tt

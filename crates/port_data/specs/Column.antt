@@ -19,6 +19,7 @@ use Rattle.macro_layout.specs.Floorplan.{rail_x, rail_count, column_channel_y}
 use Rattle.macro_layout.specs.Channels.{IsColumnChannel, IsChannelWire, IsTrunkAt}
 use Rattle.macro_layout.specs.Moved.{IsChannelMoved}
 use Rattle.macro_layout.specs.Stated.{IsShifted}
+use Rattle.port_data.specs.Pins.{column_channel}
 
 -- the rows begin behind the rails, and the sense cells stand on the write cells
 pub record IsBankFloorplan (plan : Organization) (kit : LayoutKit) (wire : Wire) (floorplan : Floorplan) : Type 0 where
@@ -81,8 +82,9 @@ pub record IsNearColumnRouted (wire : Wire) (routed : Routed) : Type 0 where
   pub intervals : List Interval
   pub is : IsRouted channel wire intervals routed
 
--- pins of the column channel are too close, or memory ran out
+-- pins of the column channel, listed by formula, are too close, or memory ran out
 abbrev pub IsColumnFault : Organization → LayoutKit → Wire → PartFault → Type 0
-IsColumnFault plan kit wire (part_fault.Close side first second) = (ch : Channel) × IsDataChannel plan kit wire ch × AreFirstClosePins ch wire side first second
+IsColumnFault plan kit wire (part_fault.Close side first second) =
+    IsDataChannel plan kit wire (column_channel plan kit wire) × AreFirstClosePins (column_channel plan kit wire) wire side first second
 IsColumnFault plan kit wire part_fault.Memory = Unit {0}
 IsColumnFault plan kit wire fault = ⊥

@@ -1,5 +1,5 @@
 -- What the data of a bank adds: its cell and its subcircuit; its pins; and why it can't be built.
-use Rattle.std.specs.Prelude.{◌≡◌, ◌⊎◌, ℕ, ◌*◌, pos, ◌-ℤ◌, List, ◌++◌, Some, codes}
+use Rattle.std.specs.Prelude.{◌≡◌, ◌⊎◌, ℕ, ◌+◌, ◌*◌, pos, ◌-ℤ◌, List, ◌++◌, length, Some, codes}
 use Rattle.cell_roles.specs.declared.role.Role.{Role}
 use Rattle.cell_roles.specs.declared.role.Role.TheVariants.{Sense, Write}
 use Rattle.tech_rules.specs.declared.tech.Wire.{Wire}
@@ -14,7 +14,7 @@ use Rattle.leaf_tables.specs.declared.part.Edges.{Edges}
 use Rattle.leaf_tables.specs.declared.part.PartFault.{PartFault}
 use Rattle.port_lists.specs.Cells.{cell_in}
 use Rattle.macro_layout.specs.Places.{Floorplan, bit_width}
-use Rattle.macro_layout.specs.Floorplan.{IsFloorplan, column_role}
+use Rattle.macro_layout.specs.Floorplan.{IsFloorplan, choice_count, column_role}
 use Rattle.macro_layout.specs.Cells.{data_cell}
 use Rattle.macro_cells.specs.LayoutOfKit.{layout_kit}
 use Rattle.part_edges.specs.PartPins.{PartPin, part_pins, AreEdgesOf}
@@ -49,6 +49,7 @@ pub record IsDataBuilt (kit : Kit) (plan : Organization) (n : List ℕ) (old new
   pub wire : Wire
   pub wired : kit.tech.wire ≡ Some wire
   pub routed : Routed
+  pub each : length routed.track ≡ choice_count plan.col_bits + 2 * plan.word_size
   pub column : IsRoutedColumn kit plan wire routed
   pub drawn : (main : ℕ) (floorplan : Floorplan) → IsFloorplan plan (layout_kit kit) wire (record { main = main; column = routed.tracks }) floorplan → IsDataDrawn kit plan n floorplan old new edges
 
