@@ -95,8 +95,9 @@ refused_end m status before now r (inr (inr (some, read, inl whole))) =
       clean = λ below. (r.cause.kept read, whole.kept);
       done = λ zero. absurd (omega (arith, is, zero));
       held = λ zero. absurd (omega (arith, is, zero));
-      refused = λ three. record {
+      refused = λ at. record {
         refusal = r.refusal;
+        is_input = three (is_memory r.refusal) (is_read_failure r.refusal) (is_usage r.refusal) some read r.no_usage;
         work = told_map before.store.files (λ files. UnlessMemory (IsMakingWork m files) (Err r.refusal)) (λ files. IsMakingWork m files (Err r.refusal)) (λ files work. work some) r.work;
         files = r.files;
         printed = grows (IsWholeText (lines_text (line ∷ []))) (IsWholeText line) before.sink.text now.sink.text (λ text same. same ∙ append-nil line) whole.text;
@@ -149,7 +150,7 @@ pub build_refused : (config : List ℕ) (refusal : Refusal) (status : ℕ) (befo
     → IsMakingRun (build config) status (outside_at before start) (outside_at now end)
 build_refused config refusal status before now start end read usage told =
     refused_run (build config) status (outside_at before start) (outside_at now end)
-    (record { refusal = refusal; no_usage = usage; work = read.told; files = told_same before.files now.files read.same; cause = read.cause; told = told })
+    (record { refusal = refusal; no_usage = usage; reads = tt; work = read.told; files = told_same before.files now.files read.same; cause = read.cause; told = told })
 
 -- a build whose work made views
 pub build_put : (config : List ℕ) (made : Made) (status : ℕ) (before mid : StoreState) (start : SinkState) (now : Outside)
@@ -213,6 +214,7 @@ demo_built n status before mid start now written kept (inr r) =
     refused_run (demo n) status (outside_at before start) now (record {
       refusal = r.refusal;
       no_usage = r.no_usage;
+      reads = r.no_read;
       work = told_all before.files (λ files. UnlessMemory (IsMakingWork (demo n) files) (Err r.refusal)) (λ files. r.work);
       files = subst (λ (s : StoreState). Told (AreWritten (demo_files n)) before.files s.files) (sym store) written;
       cause = subst (λ (s : StoreState). HasCause before.faults s.faults (is_read_failure r.refusal)) (sym store) (kept_cause before.faults mid.faults (is_read_failure r.refusal) kept r.no_read);

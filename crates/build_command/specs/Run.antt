@@ -8,7 +8,7 @@ use Rattle.or_host.specs.declared.file.MemFile.{MemFile}
 use Rattle.or_host.specs.declared.store.WriteFail.{WriteFail}
 use Rattle.reply_lines.specs.Lines.{reply_line, lines_text}
 use Rattle.reply_lines.specs.Refusals.{refusal_words}
-use Rattle.reply_lines.specs.Statuses.{is_read_failure, is_usage}
+use Rattle.reply_lines.specs.Statuses.{is_read_failure, is_usage, refusal_status}
 use Rattle.reply_lines.specs.declared.refusal.Refusal.{Refusal}
 use Rattle.command_steps.specs.Finished.{IsFinished, IsOutOfMemory, IsUnwrittenTold, IsRefusalTold}
 use Rattle.command_steps.specs.Outcome.{UnlessMemory}
@@ -19,6 +19,7 @@ use Rattle.build_command.specs.declared.made.Made.{Made}
 use Rattle.build_command.specs.Held.{files_seen, config_name, first_files, IsMemoryHeld}
 use Rattle.build_command.specs.Made.{IsWork}
 use Rattle.build_command.specs.Words.{Making}
+use Rattle.build_command.specs.Words.Making.{build, demo}
 
 -- what the work ends with, over the store's files
 abbrev pub IsMakingWork : Making → Files → Result Made Refusal → Type 0
@@ -77,10 +78,16 @@ pub record IsUnstarted (status : ℕ) (before now : Outside) : Type 0 where
   pub same : now.store ≡ before.store
   pub told : IsOutOfMemory status before.sink now.sink
 
+-- a demonstration reads no file: what it looks at are its own bytes
+abbrev pub ReadsFilesOnly : Making → Refusal → Type 0
+ReadsFilesOnly (build config) refusal = Unit {0}
+ReadsFilesOnly (demo n) refusal = is_read_failure refusal ≡ false
+
 -- An input is refused, a read failed, or memory ran out on the way: no view is written.
 pub record IsWorkRefused (m : Making) (status : ℕ) (before now : Outside) : Type 0 where
   pub refusal : Refusal
   pub no_usage : is_usage refusal ≡ false
+  pub reads : ReadsFilesOnly m refusal
   pub work : IfTold before.store.files (λ files. UnlessMemory (IsMakingWork m files) (Err refusal))
   pub files : Told (AreWritten (first_files m)) before.store.files now.store.files
   pub cause : HasCause before.store.faults now.store.faults (is_read_failure refusal)
@@ -117,6 +124,7 @@ pub record IsMakingDone (m : Making) (before now : Outside) : Type 0 where
 -- status 3: no view is written, and the line of the refusal is printed
 pub record IsMakingRefused (m : Making) (before now : Outside) : Type 0 where
   pub refusal : Refusal
+  pub is_input : refusal_status refusal ≡ 3
   pub work : IfTold before.store.files (λ files. IsMakingWork m files (Err refusal))
   pub files : Told (AreWritten (first_files m)) before.store.files now.store.files
   pub printed : Grows (IsWholeText (reply_line (refusal_words refusal))) before.sink.text now.sink.text

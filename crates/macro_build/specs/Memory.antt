@@ -4,7 +4,8 @@ use Rattle.sram_netlist.specs.Nets.{Net}
 use Rattle.sram_netlist.specs.Organization.{Organization}
 use Rattle.memory_laws.specs.NetlistCircuit.{circuit}
 use Rattle.memory_laws.specs.Phase.{State}
-use Rattle.memory_laws.specs.Run.{MemoryCommand, num_words, IsStartState, IsCommandRun}
+use Rattle.memory_laws.specs.Laws.{EachObeys}
+use Rattle.memory_laws.specs.Run.{MemoryCommand, num_words, IsStartState, IsCommandRun, AreInRange}
 use Rattle.memory_laws.specs.NumberArray.{NumberCommand, command_bits, HaveAddresses, run_answers, array_answers, numbers_after_all, word_at}
 
 -- from each state each list of commands has a run
@@ -18,7 +19,13 @@ AnswersAsArray plan = (s : State) (cs : List NumberCommand) (vs : List (Net → 
     → (run_answers plan cs vs ≡ array_answers plan cs (word_at plan s))
     × ((a : ℕ) → a < num_words plan → word_at plan end a ≡ numbers_after_all plan cs (word_at plan s) a)
 
+-- in each run from a start the nets say at each command, phase by phase, which column choice, word line and enable is on
+abbrev pub ObeysCommands : Organization → Type 0
+ObeysCommands plan = (s : State) (cs : List MemoryCommand) (vs : List (Net → Bool)) (end : State)
+    → IsStartState (circuit plan) s → AreInRange plan cs → (run : IsCommandRun (circuit plan) s cs vs end) → EachObeys plan s cs vs end run
+
 -- the reference netlist of the organisation is a memory
 pub record IsMemory (plan : Organization) : Type 0 where
   pub runs : HasRuns plan
   pub answers : AnswersAsArray plan
+  pub obeys : ObeysCommands plan

@@ -15,7 +15,7 @@ use crate::counts::leaf_count;
 use gds_stream::write_gds;
 use leaf_tables::Kit;
 use macro_views::{lef_text, verilog_text};
-use memory_laws::{runs_answer_numbers, runs_exist};
+use memory_laws::{runs_answer_numbers, runs_exist, runs_obey};
 use or_geom::{Memory, Name};
 use spice_text::write_spice;
 use sram_macro::Macro;
@@ -131,6 +131,7 @@ fn netlist_is_memory(_plan: &Plan)
 {
     runs_exist();
     runs_answer_numbers();
+    runs_obey();
 }
 
 /// The views of a sound macro, and what is told of it.

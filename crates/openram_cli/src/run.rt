@@ -57,7 +57,7 @@ fn answer_words<R: Threads + Sync, G: Gate + Sync, S: Store, K: Sink>(
     }
 }
 
-/// The same as `run`, for tests: each worker of a check enters the gate before all else.
+/// The same as `run`, for tests: each worker that looks for violations enters the gate before all else.
 pub fn run_gated<R: Threads + Sync, G: Gate + Sync, S: Store, K: Sink>(
     rt: &R,
     alloc: Global,
@@ -67,9 +67,10 @@ pub fn run_gated<R: Threads + Sync, G: Gate + Sync, S: Store, K: Sink>(
     out: &mut K,
 ) -> u8
     ensures run { IsProgramRun (map string_bytes words.now) result (outside_at (store_state (S.files store.old) (S.faults store.old)) (sink_state (K.written out.old) (K.faults out.old))) (outside_at (store_state (S.files store.new) (S.faults store.new)) (sink_state (K.written out.new) (K.faults out.new))) }
-    // Over files of bytes the words have one answer at most, so status and text are a function of them.
+    // Over files of bytes words that are no build and no demonstration have one answer at most, so status and text are a
+    // function of them.
     ensures one { (files : Files) → HaveOneAnswer (map string_bytes words.now) files }
-    // So they are of a build and a demonstration whose configuration, plan or kit is refused.
+    // So they are of a build and a demonstration whose configuration, plan or kit is refused; of others this is not said.
     ensures refusal { HaveToldRefusal (map string_bytes words.now) result (outside_at (store_state (S.files store.old) (S.faults store.old)) (sink_state (K.written out.old) (K.faults out.old))) (outside_at (store_state (S.files store.new) (S.faults store.new)) (sink_state (K.written out.new) (K.faults out.new))) }
 {
     match making_in(words) {
@@ -79,8 +80,9 @@ pub fn run_gated<R: Threads + Sync, G: Gate + Sync, S: Store, K: Sink>(
 }
 
 /// All that the program does: it reads the files that the words name, writes the views of a build, prints each line by one call
-/// of `put`, and answers the exit status. 0: done. 1: a check found violations. 2: the words are no form. 3: an input is
-/// refused. 4: the store or the sink failed, and its count of faults rose. 5: out of memory.
+/// of `put`, and answers the exit status. 0: done. 1: a check found violations, or a comparison a difference. 2: the words are no
+/// form. 3: an input is refused, or the memory that it asks for can't be built soundly. 4: the store or the sink failed, and its
+/// count of faults rose. 5: out of memory.
 pub fn run<R: Threads + Sync, S: Store, K: Sink>(
     rt: &R,
     alloc: Global,
@@ -89,9 +91,10 @@ pub fn run<R: Threads + Sync, S: Store, K: Sink>(
     out: &mut K,
 ) -> u8
     ensures run { IsProgramRun (map string_bytes words.now) result (outside_at (store_state (S.files store.old) (S.faults store.old)) (sink_state (K.written out.old) (K.faults out.old))) (outside_at (store_state (S.files store.new) (S.faults store.new)) (sink_state (K.written out.new) (K.faults out.new))) }
-    // Over files of bytes the words have one answer at most, so status and text are a function of them.
+    // Over files of bytes words that are no build and no demonstration have one answer at most, so status and text are a
+    // function of them.
     ensures one { (files : Files) → HaveOneAnswer (map string_bytes words.now) files }
-    // So they are of a build and a demonstration whose configuration, plan or kit is refused.
+    // So they are of a build and a demonstration whose configuration, plan or kit is refused; of others this is not said.
     ensures refusal { HaveToldRefusal (map string_bytes words.now) result (outside_at (store_state (S.files store.old) (S.faults store.old)) (sink_state (K.written out.old) (K.faults out.old))) (outside_at (store_state (S.files store.new) (S.faults store.new)) (sink_state (K.written out.new) (K.faults out.new))) }
 {
     run_gated(rt, alloc, &OpenGate, words, store, out)

@@ -7,4 +7,5 @@ returns c =
     record {
       runs = λ s cs. c.runs_exist.ensures plan s cs c.requires.plan;
       answers = λ s cs vs end. c.runs_answer_numbers.ensures plan s cs vs end c.requires.plan;
+      obeys = λ s cs vs end. c.runs_obey.ensures plan s cs vs end c.requires.plan;
     }
