@@ -1,9 +1,10 @@
 -- Steps that read nothing, before or after those that read.
-use Rattle.std.proofs.Common.{◌≡◌, ℕ, Bool, true, false, Result, Ok, Err, ◌<◌, refl, sym, inl, ◌∙◌, arith}
+use Rattle.std.proofs.Common.{◌≡◌, ℕ, Bool, true, false, Result, Ok, Err, ◌<◌, refl, sym, ap, inl, ◌∙◌, arith}
 use Rattle.or_host.specs.Fault.{HasCause}
 use Rattle.or_host.specs.Files.{Files}
-use Rattle.reply_lines.specs.Statuses.{is_read_failure}
+use Rattle.reply_lines.specs.Statuses.{is_memory, is_read_failure, is_usage}
 use Rattle.reply_lines.specs.declared.refusal.Refusal.{Refusal}
+use Rattle.reply_lines.specs.declared.refusal.Refusal.TheVariants.{Memory}
 use Rattle.command_steps.proofs.OutcomeLaws.{told_all, told_map, then_on}
 use Rattle.command_steps.specs.Outcome.{Then, UnlessMemory}
 use Rattle.command_steps.specs.Outside.{StoreState}
@@ -40,3 +41,13 @@ step_ends {X} {Y} P Q refusal store p none = record {
 pub no_failure : (failed : Bool) → HasCause 0 0 failed → failed ≡ false
 no_failure true cause = let none : 0 < 0 = cause.rose refl (omega arith) in absurd (omega (arith, none))
 no_failure false cause = refl
+
+-- want of memory may come in place of each outcome; it is no failed read, and the words are a form
+pub memory_instead : {X : Type 0} (P : Result X Refusal → Type 0) (refusal : Refusal) → refusal ≡ Memory → UnlessMemory P (Err refusal)
+memory_instead P refusal is lasts = let both : ◌≡◌ {A = Bool} true false = sym (ap is_memory is) ∙ lasts in absurd cc
+
+pub memory_reads : (refusal : Refusal) → refusal ≡ Memory → is_read_failure refusal ≡ false
+memory_reads refusal is = ap is_read_failure is
+
+pub memory_words : (refusal : Refusal) → refusal ≡ Memory → is_usage refusal ≡ false
+memory_words refusal is = ap is_usage is
