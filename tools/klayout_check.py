@@ -1,8 +1,8 @@
 """Runs KLayout's checks with the rules of a technology file and counts its markers.
 
-klayout -b -r tools/klayout_check.py -rd tech=TECH -rd gds="GDS..." -rd top=TOP
+klayout -b -r tools/klayout_check.py -rd tech=TECH -rd gds="GDS..." -rd top=TOP [-rd deep=1]
 
-One line is printed for each file: its name, and for each rule that has markers the rule's number and how many they are.
+With `deep` KLayout checks cell by cell, else all shapes as if there were no cells. One line is printed for each file: its name, and for each rule that has markers the rule's number and how many they are.
 
 A width rule is KLayout's width_check, a space rule on one layer its space_check, a space rule between two layers its
 separation_check, and an enclose rule its enclosed_check against the union of the rule's layers, with the parts of cuts that
@@ -14,10 +14,13 @@ import tomllib
 import pya
 
 
-def region(layout, top, layers, name):
+def region(layout, top, layers, name, store):
     number, datatype = layers[name]
     index = layout.find_layer(number, datatype)
-    return pya.Region() if index is None else pya.Region(top.begin_shapes_rec(index))
+    if index is None:
+        return pya.Region()
+    shapes = top.begin_shapes_rec(index)
+    return pya.Region(shapes, store) if store else pya.Region(shapes)
 
 
 def markers(rule, get):
@@ -41,8 +44,9 @@ def found(rules, name):
     layout = pya.Layout()
     layout.read(name)
     cell = layout.cell(top)
+    store = pya.DeepShapeStore() if "deep" in globals() else None
     for number, rule in enumerate(rules["rule"]):
-        count = markers(rule, lambda layer: region(layout, cell, layers, layer))
+        count = markers(rule, lambda layer: region(layout, cell, layers, layer, store))
         if count > 0:
             yield f"rule {number}: {count}"
 

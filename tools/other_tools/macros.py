@@ -1,0 +1,150 @@
+"""Memories that the program builds to be tried by other tools, and copies of their views with a fault."""
+import shutil
+import struct
+import tomllib
+from dataclasses import dataclass
+from pathlib import Path
+
+from programs import Differs, last_line, run
+
+BOUNDARY, ENDEL, BGNSTR, PROPATTR = 0x0800, 0x1100, 0x0502, 0x2B02
+
+# Beside the demonstration of 16 words of 2 bits: masks, and banks with masks and a column choice.
+CONFIGURATIONS = {
+    "masked": {"word_size": 6, "num_words": 32, "write_size": 2},
+    "banked": {"word_size": 4, "num_words": 128, "write_size": 2, "num_banks": 2, "words_per_row": 2},
+}
+
+
+@dataclass
+class Macro:
+    """A memory's folder, its name, its configuration, and the technology that it was built with."""
+
+    folder: Path
+    name: str
+    config: dict
+    technology: dict
+
+    def view(self, ending):
+        return self.folder / (self.name + ending)
+
+    def layers(self):
+        """The pair of GDSII numbers of each layer."""
+        return {layer["name"]: tuple(layer["gds"]) for layer in self.technology["layer"]}
+
+    def roles(self):
+        """The role of each leaf cell."""
+        return {cell.lower(): role for role, cell in self.technology["role"].items()}
+
+    def bits(self):
+        """How many bits each bus has: what the ports of the macro must be."""
+        word, write = self.config["word_size"], self.config.get("write_size", self.config["word_size"])
+        buses = {"wmask0": word // write} if write < word else {}
+        return {**buses, "addr0": self.config["num_words"].bit_length() - 1, "din0": word, "dout0": word}
+
+    def copy(self, folder):
+        """A copy of the folder, to put a fault into one of its views."""
+        shutil.copytree(self.folder, folder)
+        return Macro(folder, self.name, self.config, self.technology)
+
+
+def read_macro(folder, name, config):
+    return Macro(folder, name, config, tomllib.loads((folder / "demo_tech.toml").read_text()))
+
+
+def answer(program, words, folder):
+    status, text = run([program, *words], folder)
+    if status != 0:
+        raise SystemExit(f"{program} {' '.join(words)} ended with {status}: {last_line(text)}")
+    return text.strip()
+
+
+def build_demo(program, folder):
+    folder.mkdir(parents=True)
+    line = answer(program, ["demo", "0", "1"], folder)
+    return read_macro(folder, "demo", tomllib.loads((folder / "demo.toml").read_text())), line
+
+
+def build_config(program, folder, kit, name, config, spice=None):
+    """Builds a configuration over a kit; `spice` is the text of the kit's subcircuits, where it isn't the kit's own."""
+    folder.mkdir(parents=True)
+    for ending in (".toml", ".gds", ".sp"):
+        shutil.copy(kit / ("demo_tech" + ending), folder)
+    if spice is not None:
+        (folder / "demo_tech.sp").write_text(spice)
+    keys = {**config, "tech_name": "demo_tech", "output_name": name}
+    lines = [f'{key} = "{value}"' if isinstance(value, str) else f"{key} = {value}" for key, value in keys.items()]
+    (folder / "config.toml").write_text("\n".join(lines) + "\n")
+    line = answer(program, ["build", "config.toml", "1"], folder)
+    return read_macro(folder, name, config), line
+
+
+# ---------------------------------------------------------------------------------------------------------------------
+# GDSII by records.
+
+
+def records(data):
+    """Each record's code, and where it begins and ends."""
+    at = 0
+    while at + 4 <= len(data):
+        length, code = struct.unpack_from(">HH", data, at)
+        if length < 4:
+            return
+        yield code, at, at + length
+        at += length
+
+
+def without_shape(data):
+    """The layout without the first wire of its last structure, which is the macro."""
+    begin, ends = None, None
+    for code, at, end in records(data):
+        if code == BGNSTR:
+            begin, ends = None, None
+        elif code == BOUNDARY and begin is None:
+            begin = at
+        elif code == ENDEL and begin is not None and ends is None:
+            ends = end
+    if begin is None:
+        raise Differs("the last structure has no boundary")
+    return data[:begin] + data[ends:]
+
+
+def with_property(data, number):
+    """The layout with this number in place of property 1, in which instances have their names."""
+    parts = []
+    for code, at, end in records(data):
+        named = code == PROPATTR and data[at + 4 : end] == b"\0\1"
+        parts.append(data[at : at + 4] + struct.pack(">H", number) if named else data[at:end])
+    return b"".join(parts)
+
+
+# ---------------------------------------------------------------------------------------------------------------------
+# A fault in each view. Each answers the changed text, which isn't the old one.
+
+
+def exchanged_bitlines(text):
+    """In the netlist the first write cell with bl and br exchanged."""
+    lines = text.split("\n")
+    at = next(i for i, line in enumerate(lines) if line.startswith("xw0 "))
+    words = lines[at].split()
+    words[2], words[3] = words[3], words[2]
+    return "\n".join([*lines[:at], " ".join(words), *lines[at + 1 :]])
+
+
+def moved_pin(text):
+    """In the abstract view the first pin's box ends a nanometre higher."""
+    lines = text.split("\n")
+    at = next(i for i, line in enumerate(lines) if line.strip().startswith("RECT"))
+    words = lines[at].split()
+    words[4] = f"{float(words[4]) + 0.001:.3f}"
+    return "\n".join([*lines[:at], " ".join(words), *lines[at + 1 :]])
+
+
+def next_word(text):
+    """In the Verilog a read answers the word of the next address."""
+    return text.replace("dout0 <= mem[addr0_reg];", "dout0 <= mem[addr0_reg + 1'b1];")
+
+
+def renamed_port(text):
+    """In the Verilog din0 has another name."""
+    return text.replace("din0", "data0")
