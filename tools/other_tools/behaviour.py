@@ -22,9 +22,9 @@ module bench;
     while ($fscanf(file, "%b %b %b %b %b %b %b\\n", csb, web, mask, address, data, check, wanted) == 7) begin
       // Assigned here, since Verilator 5.006 doesn't see that $fscanf has changed an input.
       csb0 = csb; web0 = web; wmask0 = mask; addr0 = address; din0 = data;
-      #4 clk0 = 1;
+      #5 clk0 = 1;
       #5 clk0 = 0;
-      #1 commands = commands + 1;
+      #5 commands = commands + 1;
       if (check) begin
         reads = reads + 1;
         if (dout0 !== wanted) wrong = wrong + 1;
@@ -36,7 +36,9 @@ module bench;
 endmodule
 """
 
-USER = """module user(input clk, input csb, input web, {mask_port}input [{addr0}-1:0] address, input [{din0}-1:0] write, output [{din0}-1:0] read);
+USER = """module user(
+    input clk, input csb, input web, {mask_port}input [{addr0}-1:0] address, input [{din0}-1:0] write, output [{din0}-1:0] read
+  );
   {name} memory(.clk0(clk), .csb0(csb), .web0(web), {wmask0}.addr0(address), .din0(write), .dout0(read));
 endmodule
 """
@@ -50,7 +52,10 @@ def numbers(macro, mask_wire):
 
 
 def commands_of(macro):
-    """Each word is written once, and then come 3,000 random commands. Each is csb0 web0 wmask0 addr0 din0, whether it is a read, and its answer."""
+    """Each word is written once, and then come 3,000 random commands.
+
+    A line is csb0 web0 wmask0 addr0 din0, whether this is a read, and the word that is then at the address.
+    """
     bits, words = macro.bits(), macro.config["num_words"]
     masks = bits.get("wmask0", 1)
     size = bits["din0"] // masks
@@ -64,11 +69,13 @@ def commands_of(macro):
         if (csb, web) == (0, 0):
             kept = sum(((1 << size) - 1) << size * m for m in range(masks) if not mask >> m & 1)
             memory[address] = memory[address] & kept | data & ~kept
-        yield csb, web, f"{mask:0{masks}b}", f"{address:0{bits['addr0']}b}", f"{data:0{bits['din0']}b}", int((csb, web) == (0, 1)), f"{memory[address]:0{bits['din0']}b}"
+        wide = bits["din0"]
+        is_read = int((csb, web) == (0, 1))
+        yield f"{csb} {web} {mask:0{masks}b} {address:0{bits['addr0']}b} {data:0{wide}b} {is_read} {memory[address]:0{wide}b}"
 
 
 def prepare(macro):
-    lines = [" ".join(map(str, command)) for command in commands_of(macro)]
+    lines = list(commands_of(macro))
     (macro.folder / "commands.txt").write_text("\n".join(lines) + "\n")
     (macro.folder / "bench.v").write_text(BENCH.format(**numbers(macro, "wmask0")))
     return len(lines)

@@ -52,8 +52,23 @@ def read_macro(folder, name, config):
     return Macro(folder, name, config, tomllib.loads((folder / "demo_tech.toml").read_text()))
 
 
+def technology_text(technology):
+    """A technology file with these layers and rules."""
+    lines = ['outline = "{}"'.format(technology["outline"])]
+    for layer in technology["layer"]:
+        lines += ["[[layer]]", 'name = "{name}"\ngds = {gds}'.format(**layer)]
+    for rule in technology["rule"]:
+        lines += ["[[rule]]", 'kind = "{kind}"\nlayer = "{layer}"\nmin = {min}'.format(**rule)]
+        lines += [f'other = "{rule["other"]}"'] if "other" in rule else []
+        lines += ["by = [{}]".format(", ".join(f'"{name}"' for name in rule["by"]))] if "by" in rule else []
+    return "\n".join(lines) + "\n"
+
+
 def answer(program, words, folder):
-    status, text = run([program, *words], folder)
+    try:
+        status, text = run([program, *words], folder)
+    except Differs as differs:
+        raise SystemExit(f"{differs}") from None
     if status != 0:
         raise SystemExit(f"{program} {' '.join(words)} ended with {status}: {last_line(text)}")
     return text.strip()
@@ -122,7 +137,7 @@ def with_property(data, number):
 # A fault in each view. Each answers the changed text, which isn't the old one.
 
 
-def exchanged_bitlines(text):
+def exchanged_lines(text):
     """In the netlist the first write cell with bl and br exchanged."""
     lines = text.split("\n")
     at = next(i for i, line in enumerate(lines) if line.startswith("xw0 "))

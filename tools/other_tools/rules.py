@@ -7,6 +7,7 @@ import copy
 import re
 from pathlib import Path
 
+from macros import technology_text
 from magic_tech import magic_tech
 from programs import demand, output, run, same_sets
 
@@ -31,26 +32,15 @@ def stricter(technology):
     return rules
 
 
-def as_toml(technology):
-    lines = ['outline = "{}"'.format(technology["outline"])]
-    for layer in technology["layer"]:
-        lines += ["[[layer]]", 'name = "{name}"\ngds = {gds}'.format(**layer)]
-    for rule in technology["rule"]:
-        lines += ["[[rule]]", 'kind = "{kind}"\nlayer = "{layer}"\nmin = {min}'.format(**rule)]
-        lines += [f'other = "{rule["other"]}"'] if "other" in rule else []
-        lines += ["by = [{}]".format(", ".join(f'"{name}"' for name in rule["by"]))] if "by" in rule else []
-    return "\n".join(lines) + "\n"
-
-
 def of_program(macro, program):
-    (macro.folder / "stricter.toml").write_text(as_toml(stricter(macro.technology)))
+    (macro.folder / "stricter.toml").write_text(technology_text(stricter(macro.technology)))
     status, text = run([program, "check", "stricter.toml", macro.view(".gds").name, macro.name, "1"], macro.folder)
     demand(status in (0, 1), f"check ended with {status}: {text[:80]}")
     return {int(line.split()[0]) for line in text.splitlines()}
 
 
 def of_klayout(macro):
-    (macro.folder / "stricter.toml").write_text(as_toml(stricter(macro.technology)))
+    (macro.folder / "stricter.toml").write_text(technology_text(stricter(macro.technology)))
     words = {"tech": "stricter.toml", "gds": macro.view(".gds").name, "top": macro.name}
     defined = [word for name, value in words.items() for word in ("-rd", f"{name}={value}")]
     text = output(["klayout", "-b", "-r", str(TOOLS / "klayout_check.py"), *defined], macro.folder)

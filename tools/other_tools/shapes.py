@@ -2,6 +2,7 @@
 from collections import defaultdict
 from pathlib import Path
 
+from macros import technology_text
 from magic_tech import Stack, magic_tech
 from programs import Differs, demand, output, python_with, run, same_sets
 
@@ -23,19 +24,10 @@ quit -noprompt
 """
 
 
-def as_toml(technology, layers):
-    lines = ['outline = "{}"'.format(technology["outline"])]
-    for name, (number, datatype) in layers.items():
-        lines += ["[[layer]]", f'name = "{name}"', f"gds = [{number}, {datatype}]"]
-    for name in layers:
-        lines += ["[[rule]]", 'kind = "width"', f'layer = "{name}"', f"min = {WIDEST}"]
-    return "\n".join(lines) + "\n"
-
-
 def of_program(macro, program):
     """What `check` reports where every shape is too narrow: all shapes, each once."""
-    layers = macro.layers()
-    (macro.folder / "widest.toml").write_text(as_toml(macro.technology, layers))
+    widest = [{"kind": "width", "layer": name, "min": WIDEST} for name in macro.layers()]
+    (macro.folder / "widest.toml").write_text(technology_text({**macro.technology, "rule": widest}))
     status, text = run([program, "check", "widest.toml", macro.view(".gds").name, macro.name, "1"], macro.folder)
     demand(status == 1, f"check ended with {status}: {text[:80]}")
     shapes = defaultdict(set)
@@ -59,12 +51,13 @@ def of_lines(macro, text):
 
 
 def of_klayout(macro):
-    gds, top = macro.view(".gds").name, macro.name
-    return of_lines(macro, output(["klayout", "-b", "-r", str(HERE / "klayout_shapes.py"), "-rd", f"gds={gds}", "-rd", f"top={top}"], macro.folder))
+    words = ["-rd", f"gds={macro.view('.gds').name}", "-rd", f"top={macro.name}"]
+    return of_lines(macro, output(["klayout", "-b", "-r", str(HERE / "klayout_shapes.py"), *words], macro.folder))
 
 
 def of_gdspy(macro):
-    return of_lines(macro, output([python_with("gdspy"), str(HERE / "gdspy_shapes.py"), macro.view(".gds").name, macro.name], macro.folder))
+    words = [str(HERE / "gdspy_shapes.py"), macro.view(".gds").name, macro.name]
+    return of_lines(macro, output([python_with("gdspy"), *words], macro.folder))
 
 
 def magic_boxes(path):
