@@ -146,6 +146,16 @@ def exchanged_lines(text):
     return "\n".join([*lines[:at], " ".join(words), *lines[at + 1 :]])
 
 
+def exchanged_rows(text):
+    """In the netlist the first two rows of the array, each with the predecode line of the other."""
+    lines = text.split("\n")
+    one, other = (next(i for i, line in enumerate(lines) if line.startswith(name)) for name in ("xr0 ", "xr1 "))
+    words, more = lines[one].split(), lines[other].split()
+    words[1], more[1] = more[1], words[1]
+    lines[one], lines[other] = " ".join(words), " ".join(more)
+    return "\n".join(lines)
+
+
 def moved_pin(text):
     """In the abstract view the first pin's box ends a nanometre higher."""
     lines = text.split("\n")

@@ -195,3 +195,10 @@ def klayout_says_clean(macro):
     text = output(["klayout", "-b", "-r", str(script), *klayout_words(macro, ("sp", macro.view(".sp").name))], macro.folder)
     demand("netlists match" in text, text.strip().splitlines()[-1] if text.strip() else "nothing printed")
     return "its netlist of the layout matches the .sp"
+
+
+def program_says_alike(macro, program):
+    """The program's own comparison, by names."""
+    status, text = run([program, "compare", "demo_tech.toml", macro.view(".gds").name, macro.view(".sp").name, macro.name], macro.folder)
+    demand(status == 0, text.strip())
+    return "no difference of the layout from the .sp"
