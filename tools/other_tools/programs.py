@@ -1,6 +1,8 @@
 """Calls of other programs: whether they are there, and what they print."""
+import contextlib
 import os
 import shutil
+import signal
 import subprocess
 
 SECONDS = 600
@@ -31,15 +33,18 @@ def python_with(module):
 
 
 def run(words, folder, errors=subprocess.STDOUT):
-    """Status, and all that was printed. The program reads nothing, has no window, and ends after ten minutes."""
-    program = program_path(words[0])
+    """Status, and all that was printed. The program reads nothing, has no window, and is ended after ten minutes with all that it started."""
+    process = subprocess.Popen(
+        [program_path(words[0]), *words[1:]], cwd=folder, stdin=subprocess.DEVNULL, stdout=subprocess.PIPE, stderr=errors,
+        env={**os.environ, "QT_QPA_PLATFORM": "offscreen"}, text=True, errors="replace", start_new_session=True)
     try:
-        ended = subprocess.run(
-            [program, *words[1:]], cwd=folder, stdin=subprocess.DEVNULL, stdout=subprocess.PIPE, stderr=errors,
-            env={**os.environ, "QT_QPA_PLATFORM": "offscreen"}, text=True, errors="replace", timeout=SECONDS)
+        text, _ = process.communicate(timeout=SECONDS)
     except subprocess.TimeoutExpired:
         raise Differs(f"{words[0]} hadn't ended after {SECONDS} s") from None
-    return ended.returncode, ended.stdout
+    finally:
+        with contextlib.suppress(ProcessLookupError):
+            os.killpg(process.pid, signal.SIGKILL)
+    return process.returncode, text
 
 
 def output(words, folder):
