@@ -1,4 +1,4 @@
-"""Flattens a structure and merges each of its layers. Run by tools/merge_layers, in KLayout, with source, target and top."""
+"""Flattens structures and merges each of their layers. Run by tools/merge_layers, in KLayout, with source, target and tops."""
 import sys
 
 import pya
@@ -31,16 +31,17 @@ def main():
         fault = error
     if fault is not None:  # KLayout loses a status that is given while an exception is handled
         stop(f"KLayout can't read {source}: {fault}")
-    cell = layout.cell(top)
-    if cell is None:
-        stop(f"no structure is called {top}")
     made = pya.Layout()
     made.dbu = layout.dbu
-    flat = made.create_cell(top)
-    for index in layout.layer_indexes():
-        shapes = flat.shapes(made.layer(layout.get_info(index)))
-        for polygon in merged(cell, index):
-            shapes.insert(polygon)
+    for top in tops.split():
+        cell = layout.cell(top)
+        if cell is None:
+            stop(f"no structure is called {top}")
+        flat = made.create_cell(top)
+        for index in layout.layer_indexes():
+            shapes = flat.shapes(made.layer(layout.get_info(index)))
+            for polygon in merged(cell, index):
+                shapes.insert(polygon)
     options = pya.SaveLayoutOptions()
     options.format = "GDS2"
     options.gds2_write_timestamps = False
