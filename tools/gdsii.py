@@ -45,7 +45,9 @@ class Element(NamedTuple):
     def layer(self):
         """Layer and datatype, or texttype, or None."""
         layer, datatype = self.record(LAYER), self.record(*DATATYPES)
-        return None if layer is None or datatype is None else (layer.numbers()[0], datatype.numbers()[0])
+        if layer is None or datatype is None or not layer.numbers() or not datatype.numbers():
+            return None
+        return layer.numbers()[0], datatype.numbers()[0]
 
     def points(self):
         values = [value for it in self.records if it.code == XY for value in it.numbers()]
@@ -79,22 +81,27 @@ def records(data):
 
 
 def parts(found):
-    """The records of a file one by one, but those of an element together, as an Element. One that isn't ended is left out."""
+    """The records of a file one by one, but those of an element together, as an Element. The last one may not be ended."""
     structure, number, element = "", 0, []
     for it in found:
         if element or it.code in KINDS:
             element.append(it)
             if it.code == ENDEL:
-                kind = KINDS[element[0].code]
-                counts = kind not in UNNUMBERED
-                yield Element(structure, number if counts else None, kind, element)
-                number, element = number + counts, []
+                yield element_of(structure, number, element)
+                number, element = number + (KINDS[element[0].code] not in UNNUMBERED), []
             continue
         if it.code == BGNSTR:
             number = 0
         if it.code == STRNAME:
             structure = it.text()
         yield it
+    if element:
+        yield element_of(structure, number, element)
+
+
+def element_of(structure, number, found):
+    kind = KINDS[found[0].code]
+    return Element(structure, None if kind in UNNUMBERED else number, kind, found)
 
 
 def elements(data):
