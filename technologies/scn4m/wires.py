@@ -1,7 +1,8 @@
-"""Wires of a cell: a maze router on a grid of one lambda, for poly, metal 1 and metal 2, that keeps the rules of scmos.
+"""Wires of a cell: a maze router on a grid of one lambda, for poly and metal 1 to 3, that keeps scmos's rules of spacing.
 
 A net takes its cheapest way, if need be through wires of others, whose nets are then routed anew; what is in the way again and again
-becomes dearer.
+becomes dearer. All lengths are in lambda. A node is a layer, an x and a y; a way is a list of nodes. Shapes are boxes x1 y1 x2 y2, and
+those of a contact are its 4 x 4, not its cut.
 """
 import heapq
 
@@ -14,8 +15,8 @@ BOX = {"poly": (0, 2), "metal1": (0, 4), "metal2": (0, 4), "metal3": (-1, 5), "c
 MARGIN = {"poly": 1, "metal1": 2, "metal2": 2, "metal3": 2, "cpoly": 2, "via1": 2, "via2": 2}  # from the sides of the cell
 STEP = {POLY: 3, METAL1: 1, METAL2: 1, METAL3: 1}
 UP = {POLY: ("cpoly", 6), METAL1: ("via1", 8), METAL2: ("via2", 12)}  # the contact to the layer above, and its cost
-NEVER = 1 << 20
-TRIES = 24
+NEVER = 1 << 20  # the price of a place that is closed
+TRIES = 24  # of a way, before another net has to make room
 # How far a shape stays from shapes of other nets, and from all shapes.
 FROM_OTHERS = {
     "poly": [("poly", 2), ("cpoly", 3)], "metal1": [("metal1", 3)], "metal2": [("metal2", 4)], "metal3": [("metal3", 4)],
@@ -241,7 +242,7 @@ def bridges(net, shapes, fixed):
 
 
 def is_barred(layer, box, net, fixed, own):
-    """Whether a shape of a net would be too near to what doesn't give way, or to one of its own."""
+    """Whether a shape of a net would be too near to what doesn't give way, or to a contact of its own."""
     if any(too_near(box, shape, space) for other, space in FROM_ALL[layer] for shape in own.get(other, ())):
         return True
     rules = [(other, space, False) for other, space in FROM_OTHERS[layer]] + [(other, space, True) for other, space in FROM_ALL[layer]]
