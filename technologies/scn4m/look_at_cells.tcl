@@ -1,0 +1,22 @@
+# Reads the layout GDS; for each of CELLS prints the count of errors and each broken rule, and extracts it into the folder OUT.
+cif istyle lambda=0.2(scn4m)
+drc off
+gds read $env(GDS)
+extract style scn4m
+cd $env(OUT)
+foreach cell $env(CELLS) {
+  load $cell
+  select top cell
+  drc on
+  drc check
+  drc catchup
+  puts "rules $cell [drc list count total]"
+  foreach {rule boxes} [drc listall why] { puts "broken $cell: $rule: [llength $boxes] times: [lrange $boxes 0 2]" }
+  drc off
+  port makeall
+  extract all
+  ext2spice lvs
+  ext2spice subcircuit top on
+  ext2spice -o $cell.drawn.spice $cell
+}
+quit -noprompt
