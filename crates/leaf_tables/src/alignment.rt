@@ -6,14 +6,14 @@ use cell_roles::Role::{self, *};
 
 /// Which coordinate of two pins has to be equal: the left end or the lower end.
 #[derive(Clone, Copy, PartialEq, Eq, Debug)]
-pub enum PinEdge {
+pub(crate) enum PinEdge {
     Left,
     Low,
 }
 
 /// A role's pin and another role's that it has to face, and with which end.
 #[derive(Clone, Copy, Debug)]
-pub struct Facing(
+pub(crate) struct Facing(
     pub Role,
     pub &'static str,
     pub Role,
@@ -22,7 +22,7 @@ pub struct Facing(
 );
 
 /// Each role whose cell has to be as high as another's, and that other role.
-pub fn height_pairs() -> &'static [(Role, Role)]
+pub(crate) fn height_pairs() -> &'static [(Role, Role)]
     ensures { result.now ≡ heights_equal }
 {
     &[
@@ -37,14 +37,14 @@ pub fn height_pairs() -> &'static [(Role, Role)]
 }
 
 /// Each role whose cell has to be as wide as another's, and that other role.
-pub fn width_pairs() -> &'static [(Role, Role)]
+pub(crate) fn width_pairs() -> &'static [(Role, Role)]
     ensures { result.now ≡ widths_equal }
 {
     &[(Precharge, Bitcell), (Mux, Bitcell), (Tie, Bitcell)]
 }
 
 /// The pins that have to face each other. Of several shapes of a pin the first counts, which is the tie's on metal 2.
-pub fn facing_pins() -> &'static [Facing]
+pub(crate) fn facing_pins() -> &'static [Facing]
     ensures { map plain_facing result.now ≡ pins_face }
 {
     &[

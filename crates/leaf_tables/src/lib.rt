@@ -11,7 +11,6 @@ mod lookup;
 mod part;
 mod read;
 
-pub use alignment::{Facing, PinEdge, facing_pins, height_pairs, width_pairs};
 pub use cell_roles::Role;
 pub use fault::KitFault;
 pub use kit::{Kit, Leaf};
