@@ -1,9 +1,11 @@
 -- One step of the work after another.
-use Rattle.std.proofs.Common.{◌≡◌, ℕ, Bool, false, Option, Some, None, Result, Ok, Err, refl, sym, inr, inl, subst, ◌∙◌}
-use Rattle.or_host.specs.Fault.{HasCause}
+use Rattle.std.proofs.Common.{◌≡◌, ℕ, List, Bool, false, Option, Some, None, Result, Ok, Err, refl, sym, inr, inl, subst, ◌∙◌}
+use Rattle.or_host.specs.Fault.{HasCause, NamesLast}
 use Rattle.or_host.specs.Files.{Files}
 use Rattle.reply_lines.specs.declared.refusal.Refusal.{Refusal}
-use Rattle.command_steps.specs.Outcome.{Then, UnlessMemory, is_read_failed}
+use Rattle.reply_lines.specs.declared.refusal.Refusal.TheVariants.{ReadFailed}
+use Rattle.reply_lines.specs.Statuses.{is_read_failure}
+use Rattle.command_steps.specs.Outcome.{Then, UnlessMemory, is_read_failed, unread_name, unread_in}
 use Rattle.command_steps.specs.Outside.{StoreState, IfTold}
 use Rattle.command_steps.specs.Reading.{HasRead}
 
@@ -28,6 +30,19 @@ then_on P Q x (Err refusal) p q = λ lasts. inr (x, p, q lasts)
 pub then_ends : {X Y : Type 0} (P : Result X Refusal → Type 0) (Q : X → Result Y Refusal → Type 0) (refusal : Refusal) → UnlessMemory P (Err refusal) → UnlessMemory (Then P Q) (Err refusal)
 then_ends P Q refusal p = λ lasts. inl (p lasts)
 
+-- no failed read, no name of one
+pub no_name : (refusal : Refusal) → is_read_failure refusal ≡ false → unread_name refusal ≡ None
+no_name (ReadFailed name) e = absurd cc
+no_name other e = refl
+
+no_name_in : {X : Type 0} (result : Result X Refusal) → is_read_failed result ≡ false → unread_in result ≡ None
+no_name_in (Ok x) e = refl
+no_name_in (Err refusal) e = no_name refusal e
+
+-- a call that doesn't fail, and then another
+pub names_on : (name before mid now : Option (List ℕ)) → mid ≡ before → NamesLast name mid now → NamesLast name before now
+names_on name before mid now kept named = subst (λ (o : Option (List ℕ)). NamesLast name o now) kept named
+
 -- reads, one after another
 pub read_on : {X Y : Type 0} (P : Files → Result X Refusal → Type 0) (Q : Files → X → Result Y Refusal → Type 0) (x : X) (result : Result Y Refusal) (before mid now : StoreState)
     → HasRead P (Ok x) before mid → HasRead (λ files. Q files x) result mid now → HasRead (λ files. Then (P files) (Q files)) result before now
@@ -37,6 +52,7 @@ read_on {X} {Y} P Q x result before mid now p q = record {
       (subst (λ (told : Option Files). IfTold told (λ files. UnlessMemory (Q files x) result)) p.same q.told);
   same = q.same ∙ p.same;
   cause = subst (λ (n : ℕ). HasCause n now.faults (is_read_failed result)) (p.cause.kept refl) q.cause;
+  named = names_on (unread_in result) before.failed mid.failed now.failed p.named q.named;
 }
 
 -- a read, and then a step that reads nothing
@@ -46,6 +62,7 @@ read_then {X} {Y} P Q x result before now p q pure = record {
   told = told_map before.files (λ files. P files (Ok x)) (λ files. UnlessMemory (Then (P files) Q) result) (λ files at. then_on (P files) Q x result at q) p.told;
   same = p.same;
   cause = subst (λ (failed : Bool). HasCause before.faults now.faults failed) (sym pure) p.cause;
+  named = subst (λ (name : Option (List ℕ)). NamesLast name before.failed now.failed) (sym (no_name_in result pure)) p.named;
 }
 
 -- a read that ends the work
@@ -55,4 +72,5 @@ read_ends {X} {Y} P Q refusal before now p = record {
   told = told_map before.files (λ files. UnlessMemory (P files) (Err refusal)) (λ files. UnlessMemory (Then (P files) (Q files)) (Err refusal)) (λ files. then_ends (P files) (Q files) refusal) p.told;
   same = p.same;
   cause = p.cause;
+  named = p.named;
 }

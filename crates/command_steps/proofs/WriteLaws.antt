@@ -2,11 +2,12 @@
 use Rattle.std.proofs.Common.{◌≡◌, ℕ, ◌+◌, ◌<◌, List, [], ◌∷◌, ◌++◌, length, get_or, drop, take, Option, Some, None, Ok, Err, refl, sym, ap, subst, ◌∙◌, take-append-drop}
 use Rattle.or_geom.proofs.ListLaws.{rest_at}
 use Rattle.spice_netlist.proofs.ListLaws.{front_at}
-use Rattle.or_host.specs.Files.{Files, Holds, HoldsPart, Told, Writes}
+use Rattle.or_host.specs.Fault.{NamesLast, IsNameTold, name_if}
+use Rattle.or_host.specs.Files.{Files, Holds, HoldsPart, Told, Writes, write_failed}
 use Rattle.or_host.specs.declared.file.MemFile.{MemFile}
 use Rattle.or_host.specs.declared.store.WriteFail.{WriteFail}
 use Rattle.or_host.specs.declared.store.WriteFail.TheVariants as write
-use Rattle.command_steps.specs.Writing.{AreWritten, AreWrittenBefore, EndsAt}
+use Rattle.command_steps.specs.Writing.{AreWritten, AreWrittenBefore, EndsAt, is_write_failure}
 
 -- one file more
 pub written_on : (files : List MemFile) (file : MemFile) (before mid now : Files) → AreWritten files before mid → Holds mid now file.name file.bytes → AreWritten (files ++ file ∷ []) before now
@@ -42,3 +43,8 @@ told_end files i file name bytes write.Failed (Some b) (Some m) (Some n) lt is n
 told_end files i file name bytes write.Memory (Some b) (Some m) now lt is named held are writes =
     subst (λ (o : Option Files). Told (AreWrittenBefore files file) (Some b) o) (sym writes)
     (record { whole = take i files; untouched = drop (i + 1) files; parts = split_at files i file lt is; written = are })
+
+-- the last call that failed, where writing ended
+pub named_end : (fail : WriteFail) (text name : List ℕ) (before mid now : Option (List ℕ)) → text ≡ name → mid ≡ before → NamesLast (name_if (write_failed (Err fail)) text) mid now → NamesLast (name_if (is_write_failure fail) name) before now
+named_end write.Failed text name before mid now is kept named = subst (λ (n : List ℕ). IsNameTold now n) is named
+named_end write.Memory text name before mid now is kept named = named ∙ kept

@@ -1,6 +1,7 @@
 -- What a step of the work ends with: a value, or a refusal that ends the work.
-use Rattle.std.specs.Prelude.{◌≡◌, ◌⊎◌, Bool, false, Result, Ok, Err}
+use Rattle.std.specs.Prelude.{◌≡◌, ◌⊎◌, ℕ, List, Bool, false, Option, Some, None, Result, Ok, Err}
 use Rattle.reply_lines.specs.declared.refusal.Refusal.{Refusal}
+use Rattle.reply_lines.specs.declared.refusal.Refusal.TheVariants.{ReadFailed}
 use Rattle.reply_lines.specs.Statuses.{is_memory, is_read_failure, is_usage}
 
 -- a value that has Q, and no refusal
@@ -27,6 +28,15 @@ UnlessMemory P (Err refusal) = is_memory refusal ≡ false → P (Err refusal)
 abbrev pub is_read_failed : {X : Type 0} → Result X Refusal → Bool
 is_read_failed (Ok x) = false
 is_read_failed (Err refusal) = is_read_failure refusal
+
+-- the file that couldn't be read
+abbrev pub unread_name : Refusal → Option (List ℕ)
+unread_name (ReadFailed name) = Some name
+unread_name other = None
+
+abbrev pub unread_in : {X : Type 0} → Result X Refusal → Option (List ℕ)
+unread_in (Ok x) = None
+unread_in (Err refusal) = unread_name refusal
 
 -- the words are no form
 abbrev pub is_usage_outcome : {X : Type 0} → Result X Refusal → Bool

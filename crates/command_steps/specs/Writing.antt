@@ -1,7 +1,8 @@
 -- What writing files one after another leaves.
-use Rattle.std.specs.Prelude.{◌≡◌, List, [], ◌∷◌, ◌++◌, Bool, true, false, Option, Result, Ok, Err}
+use Rattle.std.specs.Prelude.{◌≡◌, ℕ, List, [], ◌∷◌, ◌++◌, Bool, true, false, Option, None, Result, Ok, Err}
 use Rattle.std.specs.List.{All}
 use Rattle.std.specs.Str.{IsAscii}
+use Rattle.or_host.specs.Fault.{name_if}
 use Rattle.or_host.specs.Files.{Files, Holds, HoldsPart, Told}
 use Rattle.or_host.specs.declared.file.MemFile.{MemFile}
 use Rattle.or_host.specs.declared.store.WriteFail.{WriteFail}
@@ -48,3 +49,8 @@ is_write_failure write.Memory = false
 abbrev pub some_write_failed : Result (Unit {0}) Unwritten → Bool
 some_write_failed (Ok done) = false
 some_write_failed (Err unwritten) = is_write_failure unwritten.fail
+
+-- the file whose write failed
+abbrev pub unwritten_in : Result (Unit {0}) Unwritten → Option (List ℕ)
+unwritten_in (Ok done) = None
+unwritten_in (Err unwritten) = name_if (is_write_failure unwritten.fail) unwritten.file.now.name

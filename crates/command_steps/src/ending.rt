@@ -18,7 +18,7 @@ pub const NO_MEMORY: u8 = 5;
 
 /// Says that memory ran out, and answers the status of that or, where the sink fails, of a fault outside.
 pub fn no_memory<K: Sink>(out: &mut K) -> u8
-    ensures { IsOutOfMemory result (sink_state (K.written out.old) (K.faults out.old)) (sink_state (K.written out.new) (K.faults out.new)) }
+    ensures { IsOutOfMemory result (sink_state (K.written out.old) (K.faults out.old) (K.puts out.old)) (sink_state (K.written out.new) (K.faults out.new) (K.puts out.new)) }
 {
     match out.put(b"openram: 94 Memory\n") {
         Ok(()) => NO_MEMORY,
@@ -29,7 +29,7 @@ pub fn no_memory<K: Sink>(out: &mut K) -> u8
 
 /// Prints a reply, and answers its status, or 4 or 5 where it isn't printed whole.
 pub fn finish<K: Sink>(reply: &Reply, out: &mut K) -> u8
-    ensures { IsFinished reply.now result (sink_state (K.written out.old) (K.faults out.old)) (sink_state (K.written out.new) (K.faults out.new)) }
+    ensures { IsFinished reply.now result (sink_state (K.written out.old) (K.faults out.old) (K.puts out.old)) (sink_state (K.written out.new) (K.faults out.new) (K.puts out.new)) }
 {
     match print(reply.lines.as_slice(), out) {
         Ok(()) => reply.status,
@@ -40,7 +40,7 @@ pub fn finish<K: Sink>(reply: &Reply, out: &mut K) -> u8
 
 /// Prints the line of a fault outside, and answers its status. Where memory runs out for it, nothing is printed.
 fn tell_outside<K: Sink>(line: &ReplyLine, out: &mut K) -> u8
-    ensures { IsUnreadTold line.now result (sink_state (K.written out.old) (K.faults out.old)) (sink_state (K.written out.new) (K.faults out.new)) }
+    ensures { IsUnreadTold line.now result (sink_state (K.written out.old) (K.faults out.old) (K.puts out.old)) (sink_state (K.written out.new) (K.faults out.new) (K.puts out.new)) }
 {
     match out.put(line.as_bytes()) {
         Ok(()) => OUTSIDE,
@@ -51,7 +51,7 @@ fn tell_outside<K: Sink>(line: &ReplyLine, out: &mut K) -> u8
 
 /// Prints the line of a failed read. Where memory runs out for it, nothing is printed.
 fn finish_unread<K: Sink>(alloc: Global, refusal: &Refusal, out: &mut K) -> u8
-    ensures { IsUnreadTold (reply_line (refusal_words refusal.now)) result (sink_state (K.written out.old) (K.faults out.old)) (sink_state (K.written out.new) (K.faults out.new)) }
+    ensures { IsUnreadTold (reply_line (refusal_words refusal.now)) result (sink_state (K.written out.old) (K.faults out.old) (K.puts out.old)) (sink_state (K.written out.new) (K.faults out.new) (K.puts out.new)) }
 {
     match refusal.line(alloc) {
         Ok(line) => tell_outside(&line, out),
@@ -61,7 +61,7 @@ fn finish_unread<K: Sink>(alloc: Global, refusal: &Refusal, out: &mut K) -> u8
 
 /// Prints the line of a file that wasn't written, where the store failed, or says that memory ran out.
 pub fn finish_unwritten<K: Sink>(alloc: Global, unwritten: &Unwritten<'_>, out: &mut K) -> u8
-    ensures { IsUnwrittenTold unwritten.now.file.now.name unwritten.now.fail result (sink_state (K.written out.old) (K.faults out.old)) (sink_state (K.written out.new) (K.faults out.new)) }
+    ensures { IsUnwrittenTold unwritten.now.file.now.name unwritten.now.fail result (sink_state (K.written out.old) (K.faults out.old) (K.puts out.old)) (sink_state (K.written out.new) (K.faults out.new) (K.puts out.new)) }
 {
     match unwritten.fail {
         WriteFail::Failed => match unwritten_line(alloc, &unwritten.file.name) {
@@ -74,7 +74,7 @@ pub fn finish_unwritten<K: Sink>(alloc: Global, unwritten: &Unwritten<'_>, out: 
 
 /// Prints the line of a refusal, and answers its status, or 4 or 5 where it isn't printed whole.
 pub fn refuse<K: Sink>(alloc: Global, refusal: &Refusal, out: &mut K) -> u8
-    ensures { IsRefusalTold refusal.now result (sink_state (K.written out.old) (K.faults out.old)) (sink_state (K.written out.new) (K.faults out.new)) }
+    ensures { IsRefusalTold refusal.now result (sink_state (K.written out.old) (K.faults out.old) (K.puts out.old)) (sink_state (K.written out.new) (K.faults out.new) (K.puts out.new)) }
 {
     if refusal.is_memory() {
         return no_memory(out);

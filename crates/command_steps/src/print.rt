@@ -1,4 +1,5 @@
-ghost use Rattle.or_host.specs.Fault.{HasCause};
+ghost use Rattle.std.specs.Prelude.{length, OnOk};
+ghost use Rattle.or_host.specs.Fault.{HasCause, RoseBy};
 ghost use Rattle.or_host.specs.Text.{put_failed};
 ghost use Rattle.command_steps.specs.Printed.{Prints};
 
@@ -9,6 +10,7 @@ use reply_lines::ReplyLine;
 pub fn print<K: Sink>(lines: &[ReplyLine], out: &mut K) -> Result<(), PutFail>
     ensures printed { Prints lines.now (K.written out.old) (K.written out.new) result }
     ensures cause { HasCause (K.faults out.old) (K.faults out.new) (put_failed result) }
+    ensures counted { OnOk result (RoseBy (length lines.now) (K.puts out.old) (K.puts out.new)) }
 {
     for line in lines {
         match out.put(line.as_bytes()) {

@@ -1,7 +1,7 @@
 ghost use Rattle.std.specs.Prelude.{◌≡◌};
 ghost use Rattle.std.specs.Str.{IsAscii};
-ghost use Rattle.or_host.specs.Fault.{HasCause};
-ghost use Rattle.command_steps.specs.Writing.{HaveAsciiNames, WritesAll, some_write_failed};
+ghost use Rattle.or_host.specs.Fault.{HasCause, NamesLast};
+ghost use Rattle.command_steps.specs.Writing.{HaveAsciiNames, WritesAll, some_write_failed, unwritten_in};
 
 use or_geom::Name;
 use or_host::{MemFile, Store, WriteFail};
@@ -30,6 +30,7 @@ pub fn write_files<'a, S: Store>(files: &'a [MemFile], store: &mut S) -> Result<
     requires { HaveAsciiNames files.now }
     ensures written { WritesAll files.now (S.files store.old) (S.files store.new) result }
     ensures cause { HasCause (S.faults store.old) (S.faults store.new) (some_write_failed result) }
+    ensures named { NamesLast (unwritten_in result) (S.failed store.old) (S.failed store.new) }
 {
     for file in files {
         match store.write(file_text(&file.name), file.bytes.as_slice()) {

@@ -62,6 +62,8 @@ impl<R: Runtime + AllocGlobal> Store for FileStore<R> {
 
     ghost faults = { λ s. s.faults };
 
+    ghost failed = { λ s. None };
+
     fn read(&mut self, name: &str, limit: u64) -> Result<Option<Vec<u8>>, ReadFail> {
         let mut file = match fs::open(&self.rt, name) {
             Ok(file) => file,

@@ -1,5 +1,5 @@
 ghost use Rattle.std.specs.Prelude.{◌≡◌, ◌++◌, ◌/◌, true, false, Some, OnOk, IsErrOf, length, take};
-ghost use Rattle.or_host.specs.Fault.{HasCause};
+ghost use Rattle.or_host.specs.Fault.{HasCause, RoseBy};
 ghost use Rattle.or_host.specs.Text.{Puts, put_failed};
 ghost use Rattle.or_host.specs.Schedule.{IsNextCall, fails_next};
 
@@ -43,11 +43,14 @@ impl Sink for MemSink {
 
     ghost faults = { λ s. (calls_of s).faults };
 
+    ghost puts = { λ s. (calls_of s).calls };
+
     fn put(&mut self, bytes: &[u8]) -> Result<(), PutFail>
         ensures written { Puts (Some (text_of self.old)) (Some (text_of self.new)) bytes.now result }
         ensures cause { HasCause (calls_of self.old).faults (calls_of self.new).faults (put_failed result) }
+        ensures counted { RoseBy 1 (calls_of self.old).calls (calls_of self.new).calls }
 
-        ensures counted { IsNextCall (calls_of self.old) (calls_of self.new) }
+        ensures next { IsNextCall (calls_of self.old) (calls_of self.new) }
         ensures failed { IsErrOf result PutFail.Failed → fails_next (calls_of self.old) ≡ true }
         ensures done { OnOk result (fails_next (calls_of self.old) ≡ false) }
         ensures half { IsErrOf result PutFail.Failed → text_of self.new ≡ text_of self.old ++ take (length bytes.now / 2) bytes.now }

@@ -1,5 +1,5 @@
-ghost use Rattle.std.specs.Prelude.{◌≡◌, ◌/◌, true, false, Some, IfOk, OnOk, IsErrOf, MatchOption, length, take};
-ghost use Rattle.or_host.specs.Fault.{HasCause};
+ghost use Rattle.std.specs.Prelude.{◌≡◌, ◌/◌, true, false, Some, IfOk, IfSome, OnOk, IsErrOf, MatchOption, length, take};
+ghost use Rattle.or_host.specs.Fault.{HasCause, NamesLast, name_if};
 ghost use Rattle.or_host.specs.Files.{Reads, Writes, Holds, IsNoLonger, read_failed, write_failed};
 ghost use Rattle.or_host.specs.FileList.{files_of};
 ghost use Rattle.or_host.specs.Schedule.{IsNextCall, fails_next};
@@ -7,6 +7,7 @@ ghost use Rattle.or_host.specs.Schedule.{IsNextCall, fails_next};
 use crate::file::{MemFile, bytes_under, put_bytes};
 use crate::schedule::Schedule;
 use crate::store::{ReadFail, Store, WriteFail};
+use or_geom::{Memory, Name};
 use std::alloc::Global;
 
 /// Files in memory, for tests. Its calls are numbered from 1, the number standing still at 2^64 - 1, and those whose
@@ -17,6 +18,17 @@ pub struct MemStore {
     alloc: Global,
     files: Vec<MemFile>,
     schedule: Schedule,
+    failed: Option<Name>,
+}
+
+/// The name, to be told, if there is memory for it.
+fn told_name(alloc: Global, name: &str) -> Option<Name>
+    ensures { IfSome result (λ told. told ≡ name.now) }
+{
+    match Name::from_bytes(alloc, name.as_bytes()) {
+        Ok(told) => Some(told),
+        Err(Memory) => None,
+    }
 }
 
 impl MemStore {
@@ -30,6 +42,7 @@ impl MemStore {
             alloc,
             files,
             schedule: Schedule::new(fail),
+            failed: None,
         }
     }
 
@@ -42,22 +55,26 @@ impl MemStore {
 }
 
 impl Store for MemStore {
-    ghost use Rattle.or_host.specs.MemoryStore.{held, schedule_of};
+    ghost use Rattle.or_host.specs.MemoryStore.{held, schedule_of, failed_in};
 
     ghost files = { λ s. Some (held s) };
 
     ghost faults = { λ s. (schedule_of s).faults };
+
+    ghost failed = { λ s. failed_in s };
 
     fn read(&mut self, name: &str, limit: u64) -> Result<Option<Vec<u8>>, ReadFail>
         ensures read { Reads (Some (held self.old)) name.now limit result }
         ensures bound { IfOk result (IsNoLonger limit) }
         ensures same { Some (held self.new) ≡ Some (held self.old) }
         ensures cause { HasCause (schedule_of self.old).faults (schedule_of self.new).faults (read_failed result) }
+        ensures named { NamesLast (name_if (read_failed result) name.now) (failed_in self.old) (failed_in self.new) }
 
         ensures counted { IsNextCall (schedule_of self.old) (schedule_of self.new) }
         ensures due { read_failed result ≡ fails_next (schedule_of self.old) }
     {
         if self.schedule.next() {
+            self.failed = told_name(self.alloc, name);
             self.schedule.raise();
             return Err(ReadFail::Failed);
         }
@@ -73,6 +90,7 @@ impl Store for MemStore {
     fn write(&mut self, name: &str, bytes: &[u8]) -> Result<(), WriteFail>
         ensures written { Writes (Some (held self.old)) (Some (held self.new)) name.now bytes.now result }
         ensures cause { HasCause (schedule_of self.old).faults (schedule_of self.new).faults (write_failed result) }
+        ensures named { NamesLast (name_if (write_failed result) name.now) (failed_in self.old) (failed_in self.new) }
 
         ensures counted { IsNextCall (schedule_of self.old) (schedule_of self.new) }
         ensures failed { IsErrOf result WriteFail.Failed → fails_next (schedule_of self.old) ≡ true }
@@ -81,6 +99,7 @@ impl Store for MemStore {
     {
         if self.schedule.next() {
             put_bytes(self.alloc, &mut self.files, name, &bytes[..bytes.len() / 2])?;
+            self.failed = told_name(self.alloc, name);
             self.schedule.raise();
             return Err(WriteFail::Failed);
         }

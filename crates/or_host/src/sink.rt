@@ -1,5 +1,5 @@
 ghost use Rattle.std.specs.Prelude.{◌≡◌, ℕ, Option, List};
-ghost use Rattle.or_host.specs.Fault.{HasCause};
+ghost use Rattle.or_host.specs.Fault.{HasCause, RoseBy};
 ghost use Rattle.or_host.specs.Text.{Puts, put_failed};
 ghost use Rattle.or_host.specs.declared.sink.PutFail.TheVariants as put_fail;
 
@@ -30,8 +30,12 @@ pub trait Sink {
     /// How often a call failed. The count never falls, and stands still at 2^64 - 1.
     ghost faults: { Self → ℕ };
 
+    /// How many calls were made. The count stands still at 2^64 - 1.
+    ghost puts: { Self → ℕ };
+
     /// Adds the bytes at the end of the text.
     fn put(&mut self, bytes: &[u8]) -> Result<(), PutFail>
         ensures written { Puts (written self.old) (written self.new) bytes.now result }
-        ensures cause { HasCause (faults self.old) (faults self.new) (put_failed result) };
+        ensures cause { HasCause (faults self.old) (faults self.new) (put_failed result) }
+        ensures counted { RoseBy 1 (puts self.old) (puts self.new) };
 }

@@ -10,14 +10,20 @@ use std::rt::Runtime;
 pub struct StreamSink<R: Runtime> {
     rt: R,
     faults: u64,
+    puts: u64,
 }
 
 impl<R: Runtime> StreamSink<R> {
-    /// No call has failed yet. The allocator is that of the runtime.
+    /// No call was made yet. The allocator is that of the runtime.
     pub fn new(rt: R) -> Self
-        ensures { result.faults ≡ 0 }
+        ensures faults { result.faults ≡ 0 }
+        ensures puts { result.puts ≡ 0 }
     {
-        StreamSink { rt, faults: 0 }
+        StreamSink {
+            rt,
+            faults: 0,
+            puts: 0,
+        }
     }
 }
 
@@ -26,7 +32,10 @@ impl<R: Runtime> Sink for StreamSink<R> {
 
     ghost faults = { λ s. s.faults };
 
+    ghost puts = { λ s. s.puts };
+
     fn put(&mut self, bytes: &[u8]) -> Result<(), PutFail> {
+        self.puts = self.puts.saturating_add(1);
         match io::writer(&self.rt).write_all(bytes) {
             Ok(()) => Ok(()),
             Err(_) => {

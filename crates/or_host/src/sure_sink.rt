@@ -7,17 +7,20 @@ use std::alloc::Global;
 #[derive(Drop)]
 pub struct SureSink {
     text: Vec<u8>,
+    puts: u64,
 }
 
 impl SureSink {
-    ghost use Rattle.or_host.specs.SureText.{sure_text};
+    ghost use Rattle.or_host.specs.SureText.{sure_text, sure_puts};
 
     /// A sink with nothing written.
     pub fn new(alloc: Global) -> Self
-        ensures { sure_text result ≡ [] }
+        ensures text { sure_text result ≡ [] }
+        ensures puts { sure_puts result ≡ 0 }
     {
         SureSink {
             text: Vec::new(alloc),
+            puts: 0,
         }
     }
 
@@ -30,13 +33,16 @@ impl SureSink {
 }
 
 impl Sink for SureSink {
-    ghost use Rattle.or_host.specs.SureText.{sure_text};
+    ghost use Rattle.or_host.specs.SureText.{sure_text, sure_puts};
 
     ghost written = { λ s. Some (sure_text s) };
 
     ghost faults = { λ s. 0 };
 
+    ghost puts = { λ s. sure_puts s };
+
     fn put(&mut self, bytes: &[u8]) -> Result<(), PutFail> {
+        self.puts = self.puts.saturating_add(1);
         Ok(self.text.extend_from_slice(bytes)?)
     }
 }

@@ -37,6 +37,8 @@ impl Store for SureStore {
 
     ghost faults = { λ s. 0 };
 
+    ghost failed = { λ s. None };
+
     fn read(&mut self, name: &str, limit: u64) -> Result<Option<Vec<u8>>, ReadFail> {
         let Some(bytes) = bytes_under(&self.files, name) else {
             return Ok(None);

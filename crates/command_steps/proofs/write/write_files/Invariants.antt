@@ -7,4 +7,5 @@ abbrev pub invariant-loop-file : goal.invariant-loop-file
 invariant-loop-file g l = record {
   written : Told (AreWritten (take l.file-index l.files)) (g.S.Store.files l.fn.store) (g.S.Store.files l.store);
   clean : g.S.Store.faults l.store ≡ g.S.Store.faults l.fn.store;
+  unnamed : g.S.Store.failed l.store ≡ g.S.Store.failed l.fn.store;
 }
