@@ -4,6 +4,8 @@ mod AloneLaws
 mod ReportLaws
 mod ViolationLaws
 mod UnjoinedLaws
+mod TileLaws
+mod OwnerLaws
 mod ShareLaws
 mod NearLaws
 mod PlaceLaws

@@ -1,6 +1,8 @@
 -- The pairs that are found among the shapes near a first one.
-use Rattle.std.proofs.Common.{◌≡◌, inl, inr, ℕ, ◌<◌, List, [], length, Option, Some, None, refl, sym, subst, ◌∙◌}
+use Rattle.std.proofs.Common.{◌≡◌, inl, inr, ℕ, ◌<◌, ℤ, ◌-ℤ◌, List, [], length, Option, Some, None, refl, sym, subst, ◌∙◌}
 use Rattle.std.specs.Prelude.{Contains, slice_get}
+use Rattle.std.specs.Int.{int_max}
+use Rattle.or_geom.specs.Covered.{HasCell}
 use Rattle.std.specs.List.Sorted.{IsStrictlySortedBy}
 use Rattle.std.proofs.lemmas.Option.{same_Some, slice_get_within}
 use Rattle.or_geom.specs.declared.shape.Rect.{Rect}
@@ -23,10 +25,11 @@ use Rattle.tile_checker.specs.declared.violation.Violation.{Violation}
 use Rattle.tile_checker.specs.declared.space.SpaceRule.{SpaceRule}
 use Rattle.tile_checker.proofs.SpaceLaws.{gap_in, gap_out}
 use Rattle.tile_checker.specs.declared.first.First.{First}
-use Rattle.tile_checker.specs.Firsts.{IsAt, IsFrom, IsPartner, HasNoPartner, IsPairAt, IsPartnerAt, ArePartners}
+use Rattle.tile_checker.specs.Firsts.{IsAt, IsPartner, HasNoPartner, IsPartnerAt, ArePartners}
+use Rattle.tile_checker.specs.Tiles.{Owns, IsFromIn, IsPairAt, IsPartIn}
 use Rattle.tile_checker.proofs.NearLaws.{near_meets}
 use Rattle.tile_checker.proofs.PlaceLaws.{sorted_at, later_place, place_of}
-use Rattle.tile_checker.proofs.ShareLaws.{adds_all}
+use Rattle.tile_checker.proofs.PlaceLaws.{adds_all}
 
 abbrev kind : SpaceRule → Rule
 kind rule = Space rule.layer rule.other rule.min.value
@@ -50,56 +53,69 @@ never_found : (rule : SpaceRule) (shapes : List Shape) (first : First) (v : Viol
 never_found rule shapes first v None none is breaks = breaks
 never_found rule shapes first v (Some b) none is breaks = no_partner rule v.first b (subst (λ (s : Shape). HasNoPartner rule s.layer) (sym is) none) breaks.on
 
-pub none_found : (rule : SpaceRule) (shapes : List Shape) (first : First) (old : List Violation) → HasNoPartner rule first.shape.layer → Adds old old (IsFrom rule.number (kind rule) shapes first)
-none_found rule shapes first old none = adds_none old (IsFrom rule.number (kind rule) shapes first) (λ v f. never_found rule shapes first v v.second none f.of f.violation.breaks)
+pub none_found : (rule : SpaceRule) (shapes : List Shape) (tile : Rect) (first : First) (old : List Violation) → HasNoPartner rule first.shape.layer → Adds old old (IsFromIn rule.number (kind rule) shapes tile first)
+none_found rule shapes tile first old none = adds_none old (IsFromIn rule.number (kind rule) shapes tile first) (λ v f. never_found rule shapes first v v.second none f.from.of f.from.violation.breaks)
 
-pair_is : (rule : SpaceRule) (shapes : List Shape) (first : First) (places : List ℕ) (v : Violation) → IsStrictlySortedBy shape_order shapes → IsAt shapes first → SomeGives (IsPairAt rule shapes first) places v
-    → IsFrom rule.number (kind rule) shapes first v
-pair_is rule shapes first places v rises at g =
-    let r = giver (IsPairAt rule shapes first) places v g in
+pair_is : (rule : SpaceRule) (shapes : List Shape) (tile : Rect) (first : First) (places : List ℕ) (v : Violation) → IsStrictlySortedBy shape_order shapes → IsAt shapes first → SomeGives (IsPairAt rule shapes tile first) places v
+    → IsFromIn rule.number (kind rule) shapes tile first v
+pair_is rule shapes tile first places v rises at g =
+    let r = giver (IsPairAt rule shapes tile first) places v g in
     let p = r.2 in
     let f = p.found in
-    let base : IsFrom rule.number (kind rule) shapes first (record { rule = rule.number; first = first.shape; second = Some p.second }) = record {
-      of = refl;
-      violation = record {
-        numbered = refl;
-        first = contained_at shapes first.place first.shape at;
-        second = (contained_at shapes r.0 p.second p.there, sorted_at shape_order shapes first.place r.0 first.shape p.second rises at p.there p.later);
-        breaks = record { on = f.on; near = f.near; bare = λ c. f.bare (gap_in rule shapes first.shape p.second f.on c) };
+    let base : IsFromIn rule.number (kind rule) shapes tile first (record { rule = rule.number; first = first.shape; second = Some p.second }) = record {
+      from = record {
+        of = refl;
+        violation = record {
+          numbered = refl;
+          first = contained_at shapes first.place first.shape at;
+          second = (contained_at shapes r.0 p.second p.there, sorted_at shape_order shapes first.place r.0 first.shape p.second rises at p.there p.later);
+          breaks = record { on = f.on; near = f.near; bare = λ c. f.bare (gap_in rule shapes first.shape p.second f.on c) };
+        };
       };
+      owned = p.owned;
     } in
-    subst (λ (w : Violation). IsFrom rule.number (kind rule) shapes first w) (sym p.is) base
+    subst (λ (w : Violation). IsFromIn rule.number (kind rule) shapes tile first w) (sym p.is) base
 
-pair_each : (rule : SpaceRule) (shapes : List Shape) (first : First) (partner : ℕ) (area : Rect) (places : List ℕ) (v : Violation) (second : Option Shape) → IsStrictlySortedBy shape_order shapes → IsAt shapes first → IsPartner rule first.shape.layer partner
-    → IsGrown rule.min.value first.shape.rect area → ((place : ℕ) → IsNearShape shapes partner area place → Contains places place) → v.first ≡ first.shape → v.rule ≡ rule.number → v.second ≡ second
-    → IsLater shapes first.shape second → Breaks (kind rule) shapes first.shape second → SomeGives (IsPairAt rule shapes first) places v
-pair_each rule shapes first partner area places v None rises at partners grown hits of numbered is later breaks = absurd breaks
-pair_each rule shapes first partner area places v (Some b) rises at partners grown hits of numbered is later breaks =
+grown_corner : (min : ℤ) (a b : Shape) (tile grown : Rect) → IsGrown min a.rect grown → HasCell tile (int_max (a.rect.x1 -ℤ min) b.rect.x1) (int_max (a.rect.y1 -ℤ min) b.rect.y1)
+    → HasCell tile (int_max grown.x1 b.rect.x1) (int_max grown.y1 b.rect.y1)
+grown_corner min a b tile grown g h =
+    subst (λ (z : ℤ). HasCell tile (int_max z b.rect.x1) (int_max grown.y1 b.rect.y1)) (sym g.left)
+    (subst (λ (z : ℤ). HasCell tile (int_max (a.rect.x1 -ℤ min) b.rect.x1) (int_max z b.rect.y1)) (sym g.low) h)
+
+pair_each : (rule : SpaceRule) (shapes : List Shape) (tile : Rect) (first : First) (partner : ℕ) (grown area : Rect) (places : List ℕ) (v : Violation) (second : Option Shape) → IsStrictlySortedBy shape_order shapes → IsAt shapes first
+    → IsPartner rule first.shape.layer partner → IsGrown rule.min.value first.shape.rect grown → IsPartIn tile grown area → ((place : ℕ) → IsNearShape shapes partner area place → Contains places place) → v.first ≡ first.shape → v.rule ≡ rule.number
+    → v.second ≡ second → IsLater shapes first.shape second → Breaks (kind rule) shapes first.shape second → Owns tile (kind rule) first.shape second → SomeGives (IsPairAt rule shapes tile first) places v
+pair_each rule shapes tile first partner grown area places v None rises at partners is_grown part hits of numbered is later breaks owned = absurd breaks
+pair_each rule shapes tile first partner grown area places v (Some b) rises at partners is_grown part hits of numbered is later breaks owned =
     let p = place_of shapes b later.0 in
+    let meets = near_meets rule.min.value first.shape.rect b.rect grown rule.min.within.positive breaks.near is_grown in
     let hit : IsNearShape shapes partner area p.0 = record {
       shape = b;
       there = p.1;
       on = on_partner rule first.shape b partner partners breaks.on;
-      fits = near_meets rule.min.value first.shape.rect b.rect area rule.min.within.positive breaks.near grown;
+      fits = part b.rect meets (grown_corner rule.min.value first.shape b tile grown is_grown owned);
     } in
-    gives_some (IsPairAt rule shapes first) places v p.0 (hits p.0 hit) (record {
+    gives_some (IsPairAt rule shapes tile first) places v p.0 (hits p.0 hit) (record {
       second = b;
       there = p.1;
       later = later_place shape_order shapes first.place p.0 first.shape b shape_total rises at p.1 later.1;
       is = λ i. record { rule = numbered i; first = of i; second = is i };
       found = record { on = breaks.on; near = breaks.near; bare = λ c. breaks.bare (gap_out rule shapes first.shape b breaks.on c) };
+      owned = owned;
     })
 
-pub pairs_found : (rule : SpaceRule) (shapes : List Shape) (first : First) (partner : ℕ) (area : Rect) (none places : List ℕ) (old new : List Violation) → IsStrictlySortedBy shape_order shapes → IsAt shapes first → IsPartner rule first.shape.layer partner
-    → IsGrown rule.min.value first.shape.rect area → none ≡ [] → Adds none places (IsNearShape shapes partner area) → Adds old new (SomeGives (IsPairAt rule shapes first) places) → Adds old new (IsFrom rule.number (kind rule) shapes first)
-pairs_found rule shapes first partner area none places old new rises at partners grown empty hits a =
-    adds_as old new (SomeGives (IsPairAt rule shapes first) places) (IsFrom rule.number (kind rule) shapes first)
-    (λ v g. pair_is rule shapes first places v rises at g)
-    (λ v f. pair_each rule shapes first partner area places v v.second rises at partners grown
+pub pairs_found : (rule : SpaceRule) (shapes : List Shape) (tile : Rect) (first : First) (partner : ℕ) (grown area : Rect) (none places : List ℕ) (old new : List Violation) → IsStrictlySortedBy shape_order shapes → IsAt shapes first
+    → IsPartner rule first.shape.layer partner → IsGrown rule.min.value first.shape.rect grown → IsPartIn tile grown area → none ≡ [] → Adds none places (IsNearShape shapes partner area)
+    → Adds old new (SomeGives (IsPairAt rule shapes tile first) places) → Adds old new (IsFromIn rule.number (kind rule) shapes tile first)
+pairs_found rule shapes tile first partner grown area none places old new rises at partners is_grown part empty hits a =
+    adds_as old new (SomeGives (IsPairAt rule shapes tile first) places) (IsFromIn rule.number (kind rule) shapes tile first)
+    (λ v g. pair_is rule shapes tile first places v rises at g)
+    (λ v f. pair_each rule shapes tile first partner grown area places v v.second rises at partners is_grown part
     (λ place hit. (adds_all places (IsNearShape shapes partner area) (subst (λ (l : List ℕ). Adds l places (IsNearShape shapes partner area)) empty hits) place).1 hit)
-    f.of f.violation.numbered refl
-    (subst (λ (s : Shape). IsLater shapes s v.second) f.of f.violation.second)
-    (subst (λ (s : Shape). Breaks (kind rule) shapes s v.second) f.of f.violation.breaks))
+    f.from.of f.from.violation.numbered refl
+    (subst (λ (s : Shape). IsLater shapes s v.second) f.from.of f.from.violation.second)
+    (subst (λ (s : Shape). Breaks (kind rule) shapes s v.second) f.from.of f.from.violation.breaks)
+    (subst (λ (s : Shape). Owns tile (kind rule) s v.second) f.from.of f.owned))
     a
 
 -- those at the places that were found are partners
@@ -118,8 +134,11 @@ partner_read rule shapes read a s place same p at =
     (subst (λ (t : Shape). AreOn rule a t) (same_Some p.shape s (sym p.there ∙ there)) p.on, there)
 
 -- a place has one shape, so one pair
-pub same_second : (rule : SpaceRule) (shapes : List Shape) (first : First) (place : ℕ) (s : Shape) (v : Violation) → slice_get shapes place ≡ Some s → IsPairAt rule shapes first place v
-    → IsSpaceFound rule (rects_on rule.layer shapes) first.shape s × (v ≡ record { rule = rule.number; first = first.shape; second = Some s })
-same_second rule shapes first place s v at p =
-    let e : p.second ≡ s = same_Some p.second s (sym p.there ∙ at) in
-    (subst (λ (t : Shape). IsSpaceFound rule (rects_on rule.layer shapes) first.shape t) e p.found, p.is ∙ (λ i. record { rule = rule.number; first = first.shape; second = Some (e i) }))
+pub same_second : (rule : SpaceRule) (shapes : List Shape) (tile : Rect) (first : First) (place : ℕ) (s : Shape) (v : Violation) → slice_get shapes place ≡ Some s → IsPairAt rule shapes tile first place v
+    → IsSpaceFound rule (rects_on rule.layer shapes) first.shape s × (v ≡ record { rule = rule.number; first = first.shape; second = Some s }) × Owns tile (kind rule) first.shape (Some s)
+same_second rule shapes tile first place s v at p =
+    let e : p.second ≡ s = same_Some p.second s (sym p.there ∙ at) in (
+      subst (λ (t : Shape). IsSpaceFound rule (rects_on rule.layer shapes) first.shape t) e p.found,
+      p.is ∙ (λ i. record { rule = rule.number; first = first.shape; second = Some (e i) }),
+      subst (λ (t : Shape). Owns tile (kind rule) first.shape (Some t)) e p.owned,
+    )

@@ -1,5 +1,5 @@
 -- Places in a list in strict order, and the rectangles of a layer.
-use Rattle.std.proofs.Common.{◌≡◌, inl, inr, ℕ, zero, suc, ◌+◌, ◌<◌, List, [], ◌∷◌, length, get_or, drop, Some, refl, sym, ap, subst, ◌∙◌, arith}
+use Rattle.std.proofs.Common.{◌↔◌, ◌≡◌, inl, inr, ℕ, zero, suc, ◌+◌, ◌<◌, List, [], ◌∷◌, length, get_or, drop, Some, refl, sym, ap, subst, ◌∙◌, arith}
 use Rattle.std.specs.Prelude.{Contains, slice_get}
 use Rattle.std.specs.Cmp.{IsTotalOrder}
 use Rattle.std.specs.List.Sorted.{IsStrictlySortedBy}
@@ -11,6 +11,7 @@ use Rattle.or_geom.specs.declared.shape.Shape.{Shape}
 use Rattle.or_geom.specs.Distance.{IsReachable}
 use Rattle.or_geom.proofs.ListLaws.{contains_none, contains_cases, contained_at, all_contained, rest_at}
 use Rattle.or_geom.proofs.OneListLaws.{not_both}
+use Rattle.or_geom.specs.Adds.{Adds}
 use Rattle.or_geom.specs.Gathering.{SomeHas}
 use Rattle.or_geom.proofs.GatheringLaws.{IsAmongLeft, among_found, among_goes_on}
 use Rattle.or_geom.specs.Reachable.{AreReachable}
@@ -65,3 +66,7 @@ item_found has xs i d lt p = among_found has xs i (get_or xs i d) lt (item_is xs
 
 pub item_passed : {X : Type 0} (has : X → Type 0) (xs : List X) (i : ℕ) (d : X) → i < length xs → (has (get_or xs i d) → ⊥) → IsAmongLeft has xs i → IsAmongLeft has xs (i + 1)
 item_passed has xs i d lt none left = among_goes_on has xs i (get_or xs i d) lt (item_is xs i d lt) none left
+
+-- what was added to an empty list is what it holds
+pub adds_all : {X : Type 0} (all : List X) (P : X → Type 0) → Adds [] all P → (v : X) → Contains all v ↔ P v
+adds_all {X} all P a v = (λ h. a.only v (subst (λ (l : List X). Contains l v) a.is h), λ p. subst (λ (l : List X). Contains l v) (sym a.is) (a.each v p))

@@ -18,11 +18,6 @@ pub record IsFrom (number : ℕ) (rule : Rule) (shapes : List Shape) (first : Fi
   pub of : v.first ≡ first.shape
   pub violation : IsViolationOf number rule shapes v
 
--- a violation whose first shape stands at this place
-pub record IsFoundAt (rules : List Rule) (shapes : List Shape) (place : ℕ) (v : Violation) : Type 0 where
-  pub at : slice_get shapes place ≡ Some v.first
-  pub violation : IsViolation rules shapes v
-
 -- the layer whose shapes may break a space rule together with those of the first
 abbrev pub IsPartner : SpaceRule → ℕ → ℕ → Type 0
 IsPartner rule layer partner = ((layer ≡ rule.layer) × (partner ≡ rule.other)) ⊎ ((layer ≡ rule.other) × (partner ≡ rule.layer))
@@ -41,11 +36,3 @@ ArePartners rule shapes a places = (place : ℕ) → Contains places place → I
 
 abbrev pub ArePlaces : List Shape → List ℕ → Type 0
 ArePlaces shapes places = (place : ℕ) → Contains places place → place < length shapes
-
--- the shape at a later place breaks the rule together with the first, and this is their violation
-pub record IsPairAt (rule : SpaceRule) (shapes : List Shape) (first : First) (place : ℕ) (v : Violation) : Type 0 where
-  pub second : Shape
-  pub there : slice_get shapes place ≡ Some second
-  pub later : first.place < place
-  pub is : v ≡ record { rule = rule.number; first = first.shape; second = Some second }
-  pub found : IsSpaceFound rule (rects_on rule.layer shapes) first.shape second

@@ -6,6 +6,7 @@ pub mod Found
 pub mod Unjoined
 pub mod OneReport
 pub mod Firsts
+pub mod Tiles
 pub mod Strips
 pub mod Share
 pub mod WideArea

@@ -1,29 +1,28 @@
 -- What a worker finds, and what all of them find.
-use Rattle.std.specs.Prelude.{◌≡◌, ◌↔◌, ℕ, ◌/◌, ◌%◌, List, Contains, Result, Ok, Err}
+use Rattle.std.specs.Prelude.{◌≡◌, ◌↔◌, ℕ, ◌%◌, List, Contains, slice_get, Some, Result, Ok, Err}
 use Rattle.std.specs.List.Sorted.{IsStrictlySortedBy}
 use Rattle.std.specs.declared.vec.Vec.{Vec}
 use Rattle.std.specs.declared.alloc.Global.{Global}
+use Rattle.or_geom.specs.declared.shape.Rect.{Rect}
 use Rattle.or_geom.specs.declared.shape.Shape.{Shape}
 use Rattle.or_geom.specs.declared.memory.Memory.{Memory}
 use Rattle.or_geom.specs.Gathering.{SomeGives}
 use Rattle.tech_rules.specs.declared.tech.Rule.{Rule}
 use Rattle.tile_checker.specs.declared.violation.Violation.{Violation}
-use Rattle.tile_checker.specs.Firsts.{IsFoundAt}
+use Rattle.tile_checker.specs.Tiles.{IsFoundIn}
 use Rattle.tile_checker.specs.RuleReport.{violation_order}
 
--- the one worker that owns what is found from the shape at this place
-abbrev pub owner : ℕ → ℕ → ℕ
-owner workers place = (place / 1024) % workers
-
--- a violation that the worker owns
-pub record IsOwn (rules : List Rule) (shapes : List Shape) (workers worker : ℕ) (v : Violation) : Type 0 where
-  pub place : ℕ
-  pub found : IsFoundAt rules shapes place v
-  pub owned : owner workers place ≡ worker
+-- a violation that is owned by one of the worker's tiles, which are dealt out one by one
+pub record IsOwn (rules : List Rule) (shapes : List Shape) (tiles : List Rect) (workers worker : ℕ) (v : Violation) : Type 0 where
+  pub index : ℕ
+  pub tile : Rect
+  pub there : slice_get tiles index ≡ Some tile
+  pub found : IsFoundIn rules shapes tile v
+  pub dealt : index % workers ≡ worker
 
 -- the list has exactly these
-abbrev pub IsShare : List Rule → List Shape → ℕ → ℕ → List Violation → Type 0
-IsShare rules shapes workers worker list = (v : Violation) → Contains list v ↔ IsOwn rules shapes workers worker v
+abbrev pub IsShare : List Rule → List Shape → List Rect → ℕ → ℕ → List Violation → Type 0
+IsShare rules shapes tiles workers worker list = (v : Violation) → Contains list v ↔ IsOwn rules shapes tiles workers worker v
 
 -- what a worker's list holds
 abbrev pub HasOk : Result (Vec Violation Global) Memory → Violation → Type 0

@@ -3,15 +3,19 @@
 
 mod check;
 mod enclose;
+mod extent;
 mod first;
 mod frame;
 mod gate;
+mod in_tile;
 mod laws;
 mod minimum;
+mod owner;
 mod share;
 mod sides;
 mod space;
 mod strip;
+mod tiles;
 mod union;
 mod violation;
 mod width;

@@ -1,72 +1,30 @@
-ghost use Rattle.std.specs.Prelude.{◌≡◌, ◌≤◌, ◌<◌, IfOk, OnOk, All, length};
+ghost use Rattle.std.specs.Prelude.{◌↔◌, ◌≡◌, ◌<◌, ◌≤◌, ◌%◌, IsTrue, IfOk, OnOk, All, length};
 ghost use Rattle.std.specs.List.Sorted.{IsStrictlySortedBy};
 ghost use Rattle.or_geom.specs.Adds.{Adds};
 ghost use Rattle.or_geom.specs.ShapeOrder.{shape_order};
+ghost use Rattle.or_geom.specs.Distance.{IsReachable};
 ghost use Rattle.or_geom.specs.Reachable.{AreReachable};
 ghost use Rattle.tech_rules.specs.Facts.{IsTech};
 ghost use Rattle.tile_checker.specs.Minimum.{HasMinimum};
-ghost use Rattle.tile_checker.specs.Firsts.{IsAt, IsFrom, IsFoundAt};
+ghost use Rattle.tile_checker.specs.Tiles.{IsViolationIn, IsFoundIn, AreTiles};
 ghost use Rattle.tile_checker.specs.Share.{IsShare};
 ghost use Rattle.tile_checker.specs.WideArea.{IsSeen};
 
-use crate::enclose::add_encloses;
-use crate::first::{First, is_own, shape_at};
-use crate::minimum::Minimum;
-use crate::space::{SpaceRule, add_spaces};
+use crate::in_tile::add_of_rule;
 use crate::violation::Violation;
-use crate::width::{WideArea, add_widths};
-use or_geom::Memory;
+use crate::width::WideArea;
+use or_geom::{Memory, Rect};
 use shape_bins::Bins;
 use std::alloc::Global;
 use tech_rules::{Rule, Tech};
 
-/// Adds what breaks the rule and has this first shape. `near` is a list to use again, and `seen` what the last shape
-/// showed of the next ones.
-fn add_violations(
-    alloc: Global,
-    bins: &Bins,
-    number: u32,
-    rule: &Rule,
-    first: First,
-    near: &mut Vec<usize>,
-    seen: &mut Option<WideArea>,
-    out: &mut Vec<Violation>,
-) -> Result<(), Memory>
-    requires minimum { HasMinimum rule.now }
-    requires rises { IsStrictlySortedBy shape_order bins.now }
-    requires reach { AreReachable bins.now }
-    requires at { IsAt bins.now first }
-    requires seen { IsSeen bins.now seen.old }
-    ensures seen { IsSeen bins.now seen.new }
-    ensures adds { OnOk result (Adds out.old.items out.new.items (IsFrom number rule.now bins.now first)) }
-{
-    match rule {
-        Rule::Width { layer, min } => {
-            let min = Minimum { value: *min };
-            add_widths(alloc, bins, number, *layer, min, first, seen, out)
-        }
-        Rule::Space { layer, other, min } => {
-            let space = SpaceRule {
-                number,
-                layer: *layer,
-                other: *other,
-                min: Minimum { value: *min },
-            };
-            add_spaces(bins, space, first, near, out)
-        }
-        Rule::Enclose { layer, by, min } => {
-            let min = Minimum { value: *min };
-            add_encloses(bins, number, *layer, by, min, first, out)
-        }
-    }
-}
-
-/// Adds what breaks one of the rules and has this first shape.
-fn add_of_first(
+/// Adds what breaks one of the rules and the tile owns.
+fn add_of_tile(
     alloc: Global,
     bins: &Bins,
     rules: &[Rule],
-    first: First,
+    tile: Rect,
+    firsts: &mut Vec<usize>,
     near: &mut Vec<usize>,
     seen: &mut Option<WideArea>,
     out: &mut Vec<Violation>,
@@ -75,18 +33,19 @@ fn add_of_first(
     requires few { length rules.now ≤ 256 }
     requires rises { IsStrictlySortedBy shape_order bins.now }
     requires reach { AreReachable bins.now }
-    requires at { IsAt bins.now first }
+    requires tile { IsReachable tile }
     requires seen { IsSeen bins.now seen.old }
     ensures seen { IsSeen bins.now seen.new }
-    ensures adds { OnOk result (Adds out.old.items out.new.items (IsFoundAt rules.now bins.now first.place)) }
+    ensures adds { OnOk result (Adds out.old.items out.new.items (IsFoundIn rules.now bins.now tile)) }
 {
     for number in 0..rules.len() {
-        add_violations(
+        add_of_rule(
             alloc,
             bins,
             number as u32,
             &rules[number],
-            first,
+            tile,
+            firsts,
             near,
             seen,
             out,
@@ -95,34 +54,49 @@ fn add_of_first(
     Ok(())
 }
 
-/// Of the report, what the worker owns.
+/// Whether the worker has the tile: tiles are dealt out one by one.
+fn is_own(index: usize, worker: usize, workers: usize) -> bool
+    requires { 0 < workers }
+    ensures { IsTrue result ↔ (index % workers ≡ worker) }
+{
+    index % workers == worker
+}
+
+/// Of the report, what the tiles of the worker own.
 pub fn share_of(
     alloc: Global,
     tech: &Tech,
     bins: &Bins,
+    tiles: &[Rect],
     worker: usize,
     workers: usize,
 ) -> Result<Vec<Violation>, Memory>
     requires tech { IsTech tech.now }
     requires rises { IsStrictlySortedBy shape_order bins.now }
     requires reach { AreReachable bins.now }
+    requires tiles { AreTiles bins.now tiles.now }
     requires some { 0 < workers }
-    ensures { IfOk result (λ list. IsShare tech.now.rules bins.now workers worker list.items) }
+    ensures { IfOk result (λ list. IsShare tech.now.rules bins.now tiles.now workers worker list.items) }
 {
     let rules = tech.rules.as_slice();
-    let shapes = bins.shapes();
+    let mut firsts = Vec::new(alloc);
     let mut near = Vec::new(alloc);
     let mut seen = None;
     let mut list = Vec::new(alloc);
-    for place in 0..shapes.len() {
-        if !is_own(place, worker, workers) {
+    for index in 0..tiles.len() {
+        if !is_own(index, worker, workers) {
             continue;
         }
-        let first = First {
-            place,
-            shape: shape_at(shapes, place),
-        };
-        add_of_first(alloc, bins, rules, first, &mut near, &mut seen, &mut list)?;
+        add_of_tile(
+            alloc,
+            bins,
+            rules,
+            tiles[index],
+            &mut firsts,
+            &mut near,
+            &mut seen,
+            &mut list,
+        )?;
     }
     Ok(list)
 }

@@ -1,4 +1,4 @@
-ghost use Rattle.std.specs.Prelude.{◌↔◌, IsTrue, OnOk, MatchOption};
+ghost use Rattle.std.specs.Prelude.{◌↔◌, ◌<ℤ◌, ◌≤ℤ◌, IsTrue, OnOk, MatchOption};
 ghost use Rattle.std.specs.List.Sorted.{IsStrictlySortedBy};
 ghost use Rattle.or_geom.specs.Distance.{IsReachable};
 ghost use Rattle.or_geom.specs.Adds.{Adds};
@@ -9,11 +9,15 @@ ghost use Rattle.shape_bins.specs.Layers.{rects_on};
 ghost use Rattle.tile_checker.specs.Breaks.{AreNear};
 ghost use Rattle.tile_checker.specs.Found.{AreOn, IsSpaceFound};
 ghost use Rattle.tech_rules.specs.declared.tech.Rule.TheVariants as kind;
-ghost use Rattle.tile_checker.specs.Firsts.{IsAt, IsFrom, IsPartner, HasNoPartner, IsPairAt, ArePartners};
+ghost use Rattle.std.specs.Int.{int_max, int_min};
+ghost use Rattle.tile_checker.specs.Firsts.{IsAt, IsPartner, HasNoPartner, ArePartners};
+ghost use Rattle.tile_checker.specs.Tiles.{IsFromIn, IsPairAt, IsPartIn};
 
 use crate::enclose::grown;
+use crate::extent::{greater, lesser};
 use crate::first::{First, shape_at};
 use crate::minimum::Minimum;
+use crate::owner::owns_pair;
 use crate::violation::Violation;
 use or_geom::{Memory, Rect, Shape, dist2, gap_box, joined};
 use shape_bins::Bins;
@@ -72,10 +76,35 @@ fn breaks_space(bins: &Bins, rule: SpaceRule, a: Shape, b: Shape) -> bool
     !bins.box_covered(rule.layer, gap_box(a.rect, b.rect))
 }
 
-/// Adds what a shape breaks together with those at the places behind its own.
+/// Where an interval ends that begins here and goes as far as both sides, but is one unit long at least.
+fn end_of(begin: i64, side: i64, other: i64) -> i64
+    requires { begin <ℤ int_max side other }
+    ensures longer { begin <ℤ result }
+    ensures to { int_min side other ≤ℤ result }
+{
+    let end = lesser(side, other);
+    if begin < end {
+        return end;
+    }
+    begin + 1
+}
+
+/// The part of a rectangle that those meet which share with it an area whose lower left corner the tile has.
+fn part_in(tile: Rect, rect: Rect) -> Rect
+    ensures { IsPartIn tile rect result }
+{
+    let x1 = greater(rect.x1, tile.x1);
+    let y1 = greater(rect.y1, tile.y1);
+    let x2 = end_of(x1, rect.x2, tile.x2);
+    let y2 = end_of(y1, rect.y2, tile.y2);
+    Rect { x1, y1, x2, y2 }
+}
+
+/// Adds what a shape breaks together with those at the places behind its own, as far as the tile owns it.
 fn add_pairs(
     bins: &Bins,
     rule: SpaceRule,
+    tile: Rect,
     first: First,
     places: &[usize],
     out: &mut Vec<Violation>,
@@ -83,7 +112,7 @@ fn add_pairs(
     requires reach { AreReachable bins.now }
     requires at { IsAt bins.now first }
     requires partners { ArePartners rule bins.now first.shape places.now }
-    ensures { OnOk result (Adds out.old.items out.new.items (SomeGives (IsPairAt rule bins.now first) places.now)) }
+    ensures { OnOk result (Adds out.old.items out.new.items (SomeGives (IsPairAt rule bins.now tile first) places.now)) }
 {
     let shapes = bins.shapes();
     for place in places {
@@ -92,6 +121,9 @@ fn add_pairs(
         }
         let second = shape_at(shapes, *place);
         if !breaks_space(bins, rule, first.shape, second) {
+            continue;
+        }
+        if !owns_pair(tile, rule.min, first.shape, second) {
             continue;
         }
         out.push(Violation {
@@ -103,10 +135,12 @@ fn add_pairs(
     Ok(())
 }
 
-/// Adds the pairs of shapes that break the rule and whose first is this one. `near` is a list to use again.
+/// Adds the pairs of shapes that break the rule, whose first is this one and which the tile owns. `near` is a list to use
+/// again.
 pub fn add_spaces(
     bins: &Bins,
     rule: SpaceRule,
+    tile: Rect,
     first: First,
     near: &mut Vec<usize>,
     out: &mut Vec<Violation>,
@@ -114,12 +148,16 @@ pub fn add_spaces(
     requires rises { IsStrictlySortedBy shape_order bins.now }
     requires reach { AreReachable bins.now }
     requires at { IsAt bins.now first }
-    ensures { OnOk result (Adds out.old.items out.new.items (IsFrom rule.number (kind.Space rule.layer rule.other rule.min.value) bins.now first)) }
+    ensures { OnOk result (Adds out.old.items out.new.items (IsFromIn rule.number (kind.Space rule.layer rule.other rule.min.value) bins.now tile first)) }
 {
     let Some(partner) = partner_of(rule, first.shape.layer) else {
         return Ok(());
     };
     near.clear();
-    bins.add_near(partner, grown(first.shape.rect, rule.min), near)?;
-    add_pairs(bins, rule, first, near, out)
+    bins.add_near(
+        partner,
+        part_in(tile, grown(first.shape.rect, rule.min)),
+        near,
+    )?;
+    add_pairs(bins, rule, tile, first, near, out)
 }

@@ -4,8 +4,8 @@ use Rattle.tile_checker.specs.WideArea.{IsSeen}
 use Rattle.tile_checker.proofs.FirstLaws.{IsOwnBelow}
 use Rattle.tile_checker.proofs.share.share_of.Given as goal
 
-abbrev pub invariant-loop-place : goal.invariant-loop-place
-invariant-loop-place l = record {
-  adds : Adds [] l.list.items (IsOwnBelow l.fn.tech.rules l.bins l.workers l.worker l.place);
+abbrev pub invariant-loop-index : goal.invariant-loop-index
+invariant-loop-index l = record {
+  adds : Adds [] l.list.items (IsOwnBelow l.fn.tech.rules l.bins l.tiles l.workers l.worker l.index);
   seen : IsSeen l.bins l.seen;
 }

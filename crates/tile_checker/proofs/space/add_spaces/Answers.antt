@@ -7,7 +7,7 @@ use Rattle.tile_checker.proofs.PairLaws.{none_found, hits_partners, pairs_found}
 use Rattle.tile_checker.proofs.space.add_spaces.Goals as goal
 
 pub returns-in_default : goal.returns-in_default
-returns-in_default c = none_found c.args.rule c.args.bins.now c.args.first c.args.out.now.items c.in_default.ensures
+returns-in_default c = none_found c.args.rule c.args.bins.now c.args.tile c.args.first c.args.out.now.items c.in_default.ensures
 
 pub grown-requires : goal.grown-requires
 grown-requires c = reachable_in c.args.bins.now c.args.first.shape c.requires.reach (contained_at c.args.bins.now c.args.first.place c.args.first.shape c.requires.at)
@@ -15,9 +15,9 @@ grown-requires c = reachable_in c.args.bins.now c.args.first.shape c.requires.re
 pub add_pairs-requires-clause-partners : goal.add_pairs-requires-clause-partners
 add_pairs-requires-clause-partners c =
     subst (λ (l : List ℕ). ArePartners c.args.rule c.args.bins.now c.args.first.shape l) (sym c.deref.ensures.value)
-    (hits_partners c.args.rule c.args.bins.now c.args.first.shape c.in-Some.partner c.grown.result _ _ c.in-Some.ensures c.clear.ensures.items c.in_ok-add_near.ensures)
+    (hits_partners c.args.rule c.args.bins.now c.args.first.shape c.in-Some.partner c.part_in.result _ _ c.in-Some.ensures c.clear.ensures.items c.in_ok-add_near.ensures)
 
 pub returns : goal.returns
 returns c =
-    on_ok_weaker _ (λ a. pairs_found c.args.rule c.args.bins.now c.args.first c.in-Some.partner c.grown.result _ _ _ _ c.requires.rises c.requires.at c.in-Some.ensures c.grown.ensures c.clear.ensures.items c.in_ok-add_near.ensures
+    on_ok_weaker _ (λ a. pairs_found c.args.rule c.args.bins.now c.args.tile c.args.first c.in-Some.partner c.grown.result c.part_in.result _ _ _ _ c.requires.rises c.requires.at c.in-Some.ensures c.grown.ensures c.part_in.ensures c.clear.ensures.items c.in_ok-add_near.ensures
     (rw c.deref.ensures.value at a)) c.add_pairs.ensures

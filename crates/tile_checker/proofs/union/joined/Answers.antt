@@ -2,7 +2,8 @@ use Rattle.std.proofs.Common.{arith}
 use Rattle.std.proofs.lemmas.List.{drop_all}
 use Rattle.or_geom.proofs.ListLaws.{rest_at}
 use Rattle.or_geom.proofs.GatheringLaws.{gather_goes_on, gather_ends}
-use Rattle.tile_checker.proofs.ShareLaws.{adds_all, there_more}
+use Rattle.tile_checker.proofs.ShareLaws.{there_more}
+use Rattle.tile_checker.proofs.PlaceLaws.{adds_all}
 use Rattle.tile_checker.proofs.union.joined.Goals as goal
 
 pub loop-list-preserved : goal.loop-list-preserved

@@ -1,0 +1,160 @@
+ghost use Rattle.std.specs.Prelude.{OnOk};
+ghost use Rattle.std.specs.List.Sorted.{IsStrictlySortedBy};
+ghost use Rattle.or_geom.specs.Adds.{Adds};
+ghost use Rattle.or_geom.specs.Gathering.{SomeGives};
+ghost use Rattle.or_geom.specs.ShapeOrder.{shape_order};
+ghost use Rattle.or_geom.specs.Distance.{IsReachable};
+ghost use Rattle.or_geom.specs.Reachable.{AreReachable};
+ghost use Rattle.tile_checker.specs.Minimum.{HasMinimum};
+ghost use Rattle.tile_checker.specs.Firsts.{IsAt, ArePlaces};
+ghost use Rattle.tile_checker.specs.Tiles.{AreFirsts, IsNearOnSome, IsFromIn, IsFromPlace, IsViolationIn};
+ghost use Rattle.tile_checker.specs.WideArea.{IsSeen};
+
+use crate::enclose::{add_encloses, grown};
+use crate::first::{First, shape_at};
+use crate::minimum::Minimum;
+use crate::owner::has_corner;
+use crate::space::{SpaceRule, add_spaces};
+use crate::violation::Violation;
+use crate::width::{WideArea, add_widths};
+use or_geom::{Memory, Rect};
+use shape_bins::Bins;
+use std::alloc::Global;
+use tech_rules::Rule;
+
+/// Adds the places of all shapes of the two layers that meet the area.
+fn add_of_layers(
+    bins: &Bins,
+    layer: u16,
+    other: u16,
+    area: Rect,
+    firsts: &mut Vec<usize>,
+) -> Result<(), Memory>
+    ensures { OnOk result (Adds firsts.old.items firsts.new.items (IsNearOnSome bins.now layer other area)) }
+{
+    bins.add_near(layer, area, firsts)?;
+    if layer == other {
+        return Ok(());
+    }
+    bins.add_near(other, area, firsts)
+}
+
+/// Lists the places of all first shapes of what breaks the rule and the tile owns, and perhaps of others.
+fn list_firsts(bins: &Bins, rule: &Rule, tile: Rect, firsts: &mut Vec<usize>) -> Result<(), Memory>
+    requires minimum { HasMinimum rule.now }
+    requires tile { IsReachable tile }
+    ensures { OnOk result (AreFirsts rule.now bins.now tile firsts.new.items) }
+{
+    firsts.clear();
+    match rule {
+        Rule::Width { layer, .. } => bins.add_near(*layer, tile, firsts),
+        Rule::Enclose { layer, .. } => bins.add_near(*layer, tile, firsts),
+        Rule::Space { layer, other, min } => {
+            let area = grown(tile, Minimum { value: *min });
+            add_of_layers(bins, *layer, *other, area, firsts)
+        }
+    }
+}
+
+/// Adds what breaks the rule, has this first shape, and is owned by the tile. `near` is a list to use again, and `seen`
+/// what the last shape showed of the next ones.
+fn add_violations(
+    alloc: Global,
+    bins: &Bins,
+    number: u32,
+    rule: &Rule,
+    tile: Rect,
+    first: First,
+    near: &mut Vec<usize>,
+    seen: &mut Option<WideArea>,
+    out: &mut Vec<Violation>,
+) -> Result<(), Memory>
+    requires minimum { HasMinimum rule.now }
+    requires rises { IsStrictlySortedBy shape_order bins.now }
+    requires reach { AreReachable bins.now }
+    requires at { IsAt bins.now first }
+    requires seen { IsSeen bins.now seen.old }
+    ensures seen { IsSeen bins.now seen.new }
+    ensures adds { OnOk result (Adds out.old.items out.new.items (IsFromIn number rule.now bins.now tile first)) }
+{
+    match rule {
+        Rule::Width { layer, min } => {
+            if !has_corner(tile, first.shape.rect) {
+                return Ok(());
+            }
+            let min = Minimum { value: *min };
+            add_widths(alloc, bins, number, *layer, min, first, seen, out)
+        }
+        Rule::Space { layer, other, min } => {
+            let space = SpaceRule {
+                number,
+                layer: *layer,
+                other: *other,
+                min: Minimum { value: *min },
+            };
+            add_spaces(bins, space, tile, first, near, out)
+        }
+        Rule::Enclose { layer, by, min } => {
+            if !has_corner(tile, first.shape.rect) {
+                return Ok(());
+            }
+            let min = Minimum { value: *min };
+            add_encloses(bins, number, *layer, by, min, first, out)
+        }
+    }
+}
+
+/// Adds what breaks the rule, has its first shape at one of the places, and is owned by the tile.
+fn add_of_firsts(
+    alloc: Global,
+    bins: &Bins,
+    number: u32,
+    rule: &Rule,
+    tile: Rect,
+    firsts: &[usize],
+    near: &mut Vec<usize>,
+    seen: &mut Option<WideArea>,
+    out: &mut Vec<Violation>,
+) -> Result<(), Memory>
+    requires minimum { HasMinimum rule.now }
+    requires rises { IsStrictlySortedBy shape_order bins.now }
+    requires reach { AreReachable bins.now }
+    requires firsts { ArePlaces bins.now firsts.now }
+    requires seen { IsSeen bins.now seen.old }
+    ensures seen { IsSeen bins.now seen.new }
+    ensures adds { OnOk result (Adds out.old.items out.new.items (SomeGives (IsFromPlace number rule.now bins.now tile) firsts.now)) }
+{
+    let shapes = bins.shapes();
+    for place in firsts {
+        let first = First {
+            place: *place,
+            shape: shape_at(shapes, *place),
+        };
+        add_violations(alloc, bins, number, rule, tile, first, near, seen, out)?;
+    }
+    Ok(())
+}
+
+/// Adds what breaks the rule and the tile owns. `firsts` and `near` are lists to use again.
+pub fn add_of_rule(
+    alloc: Global,
+    bins: &Bins,
+    number: u32,
+    rule: &Rule,
+    tile: Rect,
+    firsts: &mut Vec<usize>,
+    near: &mut Vec<usize>,
+    seen: &mut Option<WideArea>,
+    out: &mut Vec<Violation>,
+) -> Result<(), Memory>
+    requires minimum { HasMinimum rule.now }
+    requires rises { IsStrictlySortedBy shape_order bins.now }
+    requires reach { AreReachable bins.now }
+    requires tile { IsReachable tile }
+    requires seen { IsSeen bins.now seen.old }
+    ensures seen { IsSeen bins.now seen.new }
+    ensures adds { OnOk result (Adds out.old.items out.new.items (IsViolationIn number rule.now bins.now tile)) }
+{
+    list_firsts(bins, rule, tile, firsts)?;
+    add_of_firsts(alloc, bins, number, rule, tile, firsts, near, seen, out)
+}

@@ -1,0 +1,103 @@
+ghost use Rattle.std.specs.Prelude.{◌<ℤ◌, ◌≤ℤ◌, IfOk, OnOk};
+ghost use Rattle.or_geom.specs.Distance.{IsNear, IsReachable};
+ghost use Rattle.or_geom.specs.Reachable.{AreReachable};
+ghost use Rattle.tile_checker.specs.Tiles.{IsSide, AreTiles, AreCellRows, IsRowAdded, IsTiling};
+
+use crate::extent::extent;
+use or_geom::{Memory, Rect, Shape};
+use std::alloc::Global;
+
+/// A tile is at least so many times as wide and tall as the shapes on an average. So few shapes lie in several tiles, and
+/// a wire that is as long as others crosses few.
+const SHAPE_SIDES: u64 = 64;
+
+/// There are at most about as many tiles as there are lots of so many shapes, also where the shapes lie far apart.
+const SHAPES: u64 = 64;
+
+/// The mean of the shapes' widths and heights.
+fn mean_side(shapes: &[Shape]) -> u64 {
+    let mut sum: u64 = 0;
+    for shape in shapes {
+        let width = shape.rect.x2.abs_diff(shape.rect.x1);
+        let height = shape.rect.y2.abs_diff(shape.rect.y1);
+        sum = sum.saturating_add(width).saturating_add(height);
+    }
+    let count = shapes.len() as u64;
+    if count == 0 {
+        return 0;
+    }
+    sum / count / 2
+}
+
+/// The side of the tiles over an area that holds the shapes.
+fn tile_side(shapes: &[Shape], area: Rect) -> i64
+    ensures { IsSide result }
+{
+    let extent = area.x2.abs_diff(area.x1).max(area.y2.abs_diff(area.y1));
+    let most_along = (shapes.len() as u64 / SHAPES).isqrt() + 1;
+    let side = mean_side(shapes)
+        .saturating_mul(SHAPE_SIDES)
+        .max((extent / most_along).saturating_add(1));
+    side.min(1 << 41) as i64
+}
+
+/// Where the next tile begins after one that begins here, or the area's end.
+fn next_line(at: i64, side: i64, end: i64) -> i64
+    requires side { IsSide side }
+    requires before { at <ℤ end }
+    requires near { IsNear end }
+    ensures later { at <ℤ result }
+    ensures within { result ≤ℤ end }
+{
+    let next = at + side;
+    if next < end {
+        return next;
+    }
+    end
+}
+
+/// Adds tiles with sides of this length, from the area's left side to its right, for the rows of cells from `low` to `high`.
+fn add_row(area: Rect, low: i64, high: i64, side: i64, tiles: &mut Vec<Rect>) -> Result<(), Memory>
+    requires reach { IsReachable area }
+    requires side { IsSide side }
+    requires rows { AreCellRows area low high }
+    ensures { OnOk result (IsRowAdded area low high tiles.old.items tiles.new.items) }
+{
+    let mut left = area.x1;
+    while left < area.x2 {
+        let right = next_line(left, side, area.x2);
+        tiles.push(Rect {
+            x1: left,
+            y1: low,
+            x2: right,
+            y2: high,
+        })?;
+        left = right;
+    }
+    Ok(())
+}
+
+/// Tiles with sides of this length, row by row; the last ones end where the area does.
+fn tiles_over(alloc: Global, area: Rect, side: i64) -> Result<Vec<Rect>, Memory>
+    requires reach { IsReachable area }
+    requires side { IsSide side }
+    ensures { IfOk result (λ tiles. IsTiling area tiles.items) }
+{
+    let mut tiles = Vec::new(alloc);
+    let mut low = area.y1;
+    while low < area.y2 {
+        let high = next_line(low, side, area.y2);
+        add_row(area, low, high, side, &mut tiles)?;
+        low = high;
+    }
+    Ok(tiles)
+}
+
+/// Tiles over all lower left corners of the shapes.
+pub fn tiles_of(alloc: Global, shapes: &[Shape]) -> Result<Vec<Rect>, Memory>
+    requires { AreReachable shapes.now }
+    ensures { IfOk result (λ tiles. AreTiles shapes.now tiles.items) }
+{
+    let area = extent(shapes);
+    tiles_over(alloc, area, tile_side(shapes, area))
+}
