@@ -1,0 +1,15 @@
+pub mod NumberLaws
+pub mod PlaceLaws
+pub mod LayerLaws
+pub mod FitLaws
+pub mod LeafLaws
+pub mod KindLaws
+pub mod ColumnLaws
+pub mod BankLaws
+pub mod MainLaws
+pub mod SupplyLaws
+pub mod CoverLaws
+pub mod WholeLaws
+pub mod RoleLaws
+pub mod KitLaws
+pub mod CoveredLaws
