@@ -14,3 +14,4 @@ mod ExitLaws
 mod ColumnLaws
 mod RoutedLaws
 mod DataLaws
+pub mod RefusedLaws

@@ -8,7 +8,7 @@ use Rattle.channel_router.specs.declared.channel.Channel.{Channel}
 use Rattle.channel_router.specs.declared.channel.Routed.{Routed}
 use Rattle.channel_router.specs.declared.channel.ChannelPin.{ChannelPin}
 use Rattle.channel_router.specs.declared.channel.Interval.{Interval}
-use Rattle.channel_router.specs.Routed.{AreFirstClosePins, IsRouted}
+use Rattle.channel_router.specs.Routed.{HasClosePins, AreFirstClosePins, IsRouted}
 use Rattle.channel_router.specs.Wires.{channel_height}
 use Rattle.sram_netlist.specs.Organization.{Organization, words_per_row}
 use Rattle.leaf_tables.specs.declared.part.PartFault.{PartFault}
@@ -82,7 +82,11 @@ pub record IsNearColumnRouted (wire : Wire) (routed : Routed) : Type 0 where
   pub intervals : List Interval
   pub is : IsRouted channel wire intervals routed
 
--- pins of the column channel, listed by formula, are too close, or memory ran out
+-- no two pins of one side of the column channel, listed by formula, are too close
+abbrev pub AreColumnPinsApart : Organization → LayoutKit → Wire → Type 0
+AreColumnPinsApart plan kit wire = HasClosePins (column_channel plan kit wire) wire → ⊥
+
+-- two such pins are, and these are the first, or memory ran out
 abbrev pub IsColumnFault : Organization → LayoutKit → Wire → PartFault → Type 0
 IsColumnFault plan kit wire (part_fault.Close side first second) =
     IsDataChannel plan kit wire (column_channel plan kit wire) × AreFirstClosePins (column_channel plan kit wire) wire side first second

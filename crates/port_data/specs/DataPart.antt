@@ -12,13 +12,14 @@ use Rattle.sram_deck.specs.Deck.{made_subckt, data_ports, data_instances}
 use Rattle.leaf_tables.specs.declared.kit.Kit.{Kit}
 use Rattle.leaf_tables.specs.declared.part.Edges.{Edges}
 use Rattle.leaf_tables.specs.declared.part.PartFault.{PartFault}
+use Rattle.leaf_tables.specs.declared.part.PartFault.TheVariants as part_fault
 use Rattle.port_lists.specs.Cells.{cell_in}
 use Rattle.macro_layout.specs.Places.{Floorplan, bit_width}
 use Rattle.macro_layout.specs.Floorplan.{IsFloorplan, choice_count, column_role}
 use Rattle.macro_layout.specs.Cells.{data_cell}
 use Rattle.macro_cells.specs.LayoutOfKit.{layout_kit}
 use Rattle.part_edges.specs.PartPins.{PartPin, part_pins, AreEdgesOf}
-use Rattle.port_data.specs.Column.{IsBankFloorplan, IsColumnRouted, IsNarrowFault, AreWideSlices, IsColumnFault}
+use Rattle.port_data.specs.Column.{IsBankFloorplan, IsColumnRouted, IsNarrowFault, AreWideSlices, AreColumnPinsApart, IsColumnFault}
 
 -- the subcircuit of the data; `cell` is the name of a role's cell
 abbrev pub data_part_subckt : Organization → (Role → List ℕ) → List ℕ → Subckt
@@ -44,10 +45,13 @@ pub record IsDataDrawn (kit : Kit) (plan : Organization) (n : List ℕ) (floorpl
   pub width : edges.width ≡ pos (columns_of plan * bit_width (layout_kit kit))
   pub height : edges.height ≡ floorplan.array_y -ℤ floorplan.write_y
 
--- So for each floorplan of a macro whose column channel has the tracks that were routed, however many its main channel has.
+-- So for each floorplan of a macro whose column channel has the tracks that were routed, however many its main channel has. No
+-- slice is too narrow, and no pins of the column channel are too close.
 pub record IsDataBuilt (kit : Kit) (plan : Organization) (n : List ℕ) (old new : CellList) (edges : Edges) : Type 0 where
   pub wire : Wire
   pub wired : kit.tech.wire ≡ Some wire
+  pub wide : AreWideSlices plan (layout_kit kit)
+  pub apart : AreColumnPinsApart plan (layout_kit kit) wire
   pub routed : Routed
   pub each : length routed.track ≡ choice_count plan.col_bits + 2 * plan.word_size
   pub column : IsRoutedColumn kit plan wire routed
@@ -58,3 +62,8 @@ abbrev pub IsDataRefused : Kit → Organization → PartFault → Type 0
 IsDataRefused kit plan fault =
     IsNarrowFault plan (layout_kit kit) fault
     ⊎ (AreWideSlices plan (layout_kit kit) × ((wire : Wire) → kit.tech.wire ≡ Some wire → IsColumnFault plan (layout_kit kit) wire fault))
+
+-- what is built could be refused for want of memory alone
+abbrev pub BuiltExcludesRefused : Type 0
+BuiltExcludesRefused = (kit : Kit) (plan : Organization) (n : List ℕ) (old new : CellList) (edges : Edges) (fault : PartFault)
+    → IsDataBuilt kit plan n old new edges → IsDataRefused kit plan fault → fault ≡ part_fault.Memory

@@ -1,4 +1,4 @@
-ghost use Rattle.std.specs.Prelude.{◌≡◌, ◌<◌, ◌≤◌, ◌*◌, ◌^◌, ◌++◌, ℕ, length, pos, ◌-ℤ◌, ◌≤ℤ◌, Some, IfOk, IfErr, OnOk};
+ghost use Rattle.std.specs.Prelude.{◌≡◌, ◌<◌, ◌≤◌, ◌*◌, ◌^◌, ◌++◌, ℕ, length, pos, ◌-ℤ◌, ◌≤ℤ◌, Some, IfOk, IfErr, OnOk, OnErr};
 ghost use Rattle.std.specs.List.{AllByRecursion};
 ghost use Rattle.or_geom.specs.Place.{IsNearPoint};
 ghost use Rattle.tech_rules.specs.declared.tech.Wire.{Wire};
@@ -34,7 +34,7 @@ use std::alloc::Global;
 /// Adds the cell and the subcircuit of a bank's data. Answers where nets come to its edges, in nanometres from the lower left
 /// corner of the write cells. `name` is the macro's. `SliceTooNarrow`: the sense cell, or else the write cell, is wider than the
 /// columns of a bit; or else `Close`: pins of the column channel are nearer to each other than the pitch, x as `channel` has it.
-/// After a refusal a part of it may be added.
+/// After a refusal nothing is added.
 pub fn build(
     alloc: Global,
     kit: &Kit,
@@ -49,13 +49,15 @@ pub fn build(
     ensures built { IfOk result (IsDataBuilt kit.now (organization plan.now) name.now cells.old cells.new) }
     ensures deck { OnOk result (deck.new ≡ with_subckt (data_part_subckt (organization plan.now) (cell_in kit.now.tech.roles) name.now) deck.old) }
     ensures fault { IfErr result (IsDataRefused kit.now (organization plan.now)) }
+    ensures same_cells { OnErr result (cells.new ≡ cells.old) }
+    ensures same_deck { OnErr result (deck.new ≡ deck.old) }
 {
     refuse_narrow_slices(alloc, kit, plan)?;
     let routed = channel(alloc, kit, plan)?;
     Ok(add_data(alloc, kit, plan, name, routed.tracks, cells, deck)?)
 }
 
-/// Adds the data, where the column channel has so many tracks.
+/// Adds the data, where the column channel has so many tracks. Where memory is wanting nothing is added.
 fn add_data(
     alloc: Global,
     kit: &Kit,
@@ -71,6 +73,8 @@ fn add_data(
     requires few { length cells.old.cells < 2 ^ 31 }
     ensures drawn { IfOk result (λ edges. (wire : Wire) (main : ℕ) (floorplan : Floorplan) → kit.now.tech.wire ≡ Some wire → IsFloorplan (organization plan.now) (layout_kit kit.now) wire (record { main = main; column = tracks }) floorplan → IsDataDrawn kit.now (organization plan.now) name.now floorplan cells.old cells.new edges) }
     ensures deck { OnOk result (deck.new ≡ with_subckt (data_part_subckt (organization plan.now) (cell_in kit.now.tech.roles) name.now) deck.old) }
+    ensures same_cells { OnErr result (cells.new ≡ cells.old) }
+    ensures same_deck { OnErr result (deck.new ≡ deck.old) }
 {
     let sides = sides_of(alloc, kit, plan, name)?;
     // The heights in the data are the same however many tracks the main channel has.
@@ -82,7 +86,7 @@ fn add_data(
     let cell = data_cell(alloc, kit, plan, name, sense_y, column_y)?;
     let subckt = data_subckt(alloc, plan, kit.tech.roles.as_slice(), name)?;
     let edges = data_edges(alloc, kit, plan, &subckt, &cell, width, height)?;
-    add_part(cell, subckt, cells, deck)?;
+    add_part(alloc, cell, subckt, cells, deck)?;
     Ok(edges)
 }
 

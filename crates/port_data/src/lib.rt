@@ -5,6 +5,7 @@ mod bottom;
 mod columns;
 mod data;
 mod exits;
+mod laws;
 mod leaves;
 mod lines;
 mod routing;
@@ -12,5 +13,6 @@ mod slices;
 mod top;
 
 pub use data::build;
+pub use laws::built_excludes_refused;
 pub use routing::channel;
 pub use slices::refuse_narrow_slices;

@@ -7,6 +7,8 @@ returns-clause-built c =
     record {
       wire = is.wire;
       wired = is.wired;
+      wide = c.in_ok-refuse_narrow_slices.ensures.fits;
+      apart = c.in_ok-routed.ensures.apart is.wire is.wired;
       routed = c.in_ok-routed.routed;
       each = c.in_ok-routed.ensures.each;
       column = λ floorplan bank. c.in_ok-routed.ensures.stated is.wire floorplan is.wired bank;

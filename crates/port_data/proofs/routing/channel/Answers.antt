@@ -6,7 +6,7 @@ use Rattle.tech_rules.specs.declared.tech.Wire.{Wire}
 use Rattle.tech_rules.specs.Facts.{AreSizes}
 use Rattle.channel_router.specs.declared.channel.Channel.{Channel}
 use Rattle.channel_router.specs.Channel.{IsChannel}
-use Rattle.channel_router.specs.Routed.{IsRouted, IsRouteFault}
+use Rattle.channel_router.specs.Routed.{HasClosePins, IsRouted, IsRouteFault}
 use Rattle.sram_plan.specs.PlanNumbers.{organization}
 use Rattle.macro_cells.specs.LayoutOfKit.{layout_kit}
 use Rattle.port_data.specs.Pins.{column_channel}
@@ -30,6 +30,14 @@ returns-clause-near c = λ wire wired.
     let near = subst IsNearColumnChannel (sym c.in_ok-meant.ensures) (is_near _ _ _ (near_kit c.args.kit.now c.args.plan.now c.wire_of-wire.result.now c.requires.kit c.requires.plan c.wire_of-wire.ensures.sizes)) in
     let same = same_Some c.wire_of-wire.result.now wire (sym c.wire_of-wire.ensures.is ∙ wired) in
     subst (λ (w : Wire). IsNearColumnRouted w c.in_ok-route.field-0) same (record { channel = c.in_ok-meant.meant; near = near; intervals = c.in_ok-route.ensures.routed.0; is = c.in_ok-route.ensures.routed.1 })
+
+pub returns-clause-apart : goal.returns-clause-apart
+returns-clause-apart c = λ wire wired close.
+    let here = c.wire_of-wire.result.now in
+    let same = same_Some here wire (sym c.wire_of-wire.ensures.is ∙ wired) in
+    let plan = organization c.args.plan.now in
+    let kit = layout_kit c.args.kit.now in
+    c.in_ok-route.ensures.apart (subst (λ (ch : Channel). HasClosePins ch here) (sym c.in_ok-meant.ensures) (subst (λ (w : Wire). HasClosePins (column_channel plan kit w) w) (sym same) close))
 
 pub returns-clause-stated : goal.returns-clause-stated
 returns-clause-stated c = λ wire floorplan wired bank.
