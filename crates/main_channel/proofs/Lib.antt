@@ -1,6 +1,6 @@
 pub mod TableLaws
 pub mod ListLaws
-pub mod RoleLaws
+pub mod ColumnLaws
 pub mod DemandLaws
 pub mod LeafLaws
 pub mod CountLaws
@@ -16,6 +16,7 @@ pub mod LookLaws
 pub mod RailLaws
 pub mod RowPinLaws
 pub mod BankPinLaws
+pub mod FormulaLaws
 pub mod StatedLaws
 pub mod RowLaws
 pub mod ChannelLaws

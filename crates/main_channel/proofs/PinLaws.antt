@@ -1,141 +1,97 @@
--- Lists of pins that grow.
-use Rattle.std.proofs.Common.{◌≡◌, ◌⊎◌, inl, inr, ℕ, ◌+◌, ◌<◌, ◌≤◌, pos, ℤ, ◌+ℤ◌, ◌≤ℤ◌, to_z, of_z, w64, List, [], ◌∷◌, ◌++◌, length, get_or, Option, None, Some, refl, ap, sym, subst, ◌∙◌, arith}
-use Rattle.std.specs.Prelude.{slice_get, All, Contains, ◌↔◌}
+-- Lists of pins that grow, and which pins they have.
+use Rattle.std.proofs.Common.{◌≡◌, ◌⊎◌, inl, inr, ℕ, zero, suc, ◌+◌, ◌<◌, ◌≤◌, pos, ℤ, ◌+ℤ◌, ◌≤ℤ◌, to_z, of_z, w64, List, [], ◌∷◌, ◌++◌, map, flat_map, length, get_or, Option, None, Some, refl, ap, sym, subst, ◌∙◌, arith}
+use Rattle.std.specs.Prelude.{slice_get}
 use Rattle.std.proofs.lemmas.Int.{ints}
-use Rattle.std.proofs.lemmas.List.Elements.{All-push, Contains-append_right}
+use Rattle.std.proofs.lemmas.List.Elements.{All-push}
 use Rattle.std.proofs.lemmas.Option.{slice_get_read}
-use Rattle.or_geom.proofs.ListLaws.{contains_first, below_or}
+use Rattle.or_geom.proofs.ListLaws.{below_or}
 use Rattle.cell_roles.specs.declared.role.Role.{Role}
 use Rattle.cell_roles.specs.declared.role.Role.TheVariants.{Bitcell, Precharge, Mux, Tie, Sense, Write, RowNand2, RowNand3, Driver, Nand2, Nand3, Inv, Dff, Delay}
 use Rattle.netlist.specs.declared.deck.Instance.{Instance}
 use Rattle.channel_router.specs.declared.channel.ChannelPin.{ChannelPin}
 use Rattle.channel_router.specs.Channel.{IsPinOf}
 use Rattle.leaf_shapes.specs.Demands.{role_demands}
+use Rattle.sram_netlist.specs.InstanceList.{numbers_from, tabulate, tabulate_lists}
+use Rattle.port_lists.proofs.TabulateLaws.{tabulate_lists_more}
 use Rattle.main_channel.proofs.PinListLaws.{pin_first, pin_none, pin_cases, pin_in_both, pin_left, pin_right}
-use Rattle.main_channel.specs.Pins.{IsMainPin, AreMainPins, AddsPins, IsPinNamed, HasPinOfNet, pin_of, numbered_net}
+use Rattle.main_channel.specs.Pins.{IsMainPin, AreMainPins, pin_of, numbered_net}
 use Rattle.main_channel.specs.Leaves.{IsInLeaf}
 use Rattle.main_channel.specs.Row.{FitRoles}
-
-pub pin_there : (old new : List ChannelPin) (pin : ChannelPin) → new ≡ old ++ pin ∷ [] → HasPinOfNet new pin.net
-pin_there old new pin is = (pin.x, record { pin = pin; listed = subst (λ (l : List ChannelPin). Contains l pin) (sym is) (Contains-append_right old (pin ∷ []) pin (contains_first pin [])); at_x = refl; of_net = refl })
-
-pub net_kept : (old new : List ChannelPin) (IsMeant : ℕ → ℤ → Type 0) (net : ℕ) → AddsPins old new IsMeant → HasPinOfNet old net → HasPinOfNet new net
-net_kept old new IsMeant net adds has = (has.0, (adds net has.0).1 (inl has.1))
 
 pub pushed_main : (nets : ℕ) (old new : List ChannelPin) (pin : ChannelPin) → AreMainPins nets old → new ≡ old ++ pin ∷ [] → IsMainPin nets pin → AreMainPins nets new
 pushed_main nets old new pin all is here = subst (AreMainPins nets) (sym is) (All-push (IsMainPin nets) old pin all here)
 
-pub pushed_zero : (old new : List ChannelPin) (pin : ChannelPin) → All (λ (p : ChannelPin). p.x ≡ pos 0) old → new ≡ old ++ pin ∷ [] → pin.x ≡ pos 0 → All (λ (p : ChannelPin). p.x ≡ pos 0) new
-pushed_zero old new pin all is here = subst (All (λ (p : ChannelPin). p.x ≡ pos 0)) (sym is) (All-push (λ (p : ChannelPin). p.x ≡ pos 0) old pin all here)
+-- One pin
 
--- one more has it
-pub each_more : (P Q : ℕ → Type 0) (n : ℕ) → ((k : ℕ) → k < n → P k) → ((k : ℕ) → P k → Q k) → Q n → (k : ℕ) → k < n + 1 → Q k
-each_more P Q n before follows here k less = by (below_or k n less) where
-  by : (k < n) ⊎ (k ≡ n) → Q k
-  by (inl lower) = follows k (before k lower)
-  by (inr e) = subst Q (sym e) here
-
--- Pins that are added
-
-pub adds_none : (old : List ChannelPin) (IsMeant : ℕ → ℤ → Type 0) → ((net : ℕ) (x : ℤ) → IsMeant net x → ⊥) → AddsPins old old IsMeant
-adds_none old IsMeant never net x = (λ is. inl is, only) where
-  only : IsPinOf old net x ⊎ IsMeant net x → IsPinOf old net x
-  only (inl is) = is
-  only (inr is) = absurd (never net x is)
-
-pub adds_more : (old now new : List ChannelPin) (IsFirst IsSecond IsMeant : ℕ → ℤ → Type 0) → AddsPins old now IsFirst → AddsPins now new IsSecond → ((net : ℕ) (x : ℤ) → IsFirst net x → IsMeant net x) → ((net : ℕ) (x : ℤ) → IsSecond net x → IsMeant net x)
-    → ((net : ℕ) (x : ℤ) → IsMeant net x → IsFirst net x ⊎ IsSecond net x) → AddsPins old new IsMeant
-adds_more old now new IsFirst IsSecond IsMeant one two first second which net x = (from, to) where
-  earlier : IsPinOf old net x ⊎ IsFirst net x → IsPinOf old net x ⊎ IsMeant net x
-  earlier (inl is) = inl is
-  earlier (inr is) = inr (first net x is)
-
-  later : IsPinOf now net x ⊎ IsSecond net x → IsPinOf old net x ⊎ IsMeant net x
-  later (inl is) = earlier ((one net x).0 is)
-  later (inr is) = inr (second net x is)
-
-  from : IsPinOf new net x → IsPinOf old net x ⊎ IsMeant net x
-  from is = later ((two net x).0 is)
-
-  meant : IsFirst net x ⊎ IsSecond net x → IsPinOf new net x
-  meant (inl is) = (two net x).1 (inl ((one net x).1 (inr is)))
-  meant (inr is) = (two net x).1 (inr is)
-
-  to : IsPinOf old net x ⊎ IsMeant net x → IsPinOf new net x
-  to (inl is) = (two net x).1 (inl ((one net x).1 (inl is)))
-  to (inr is) = meant (which net x is)
-
--- the same, said otherwise
-pub adds_as : (old new : List ChannelPin) (IsMeant IsOther : ℕ → ℤ → Type 0) → AddsPins old new IsMeant → ((net : ℕ) (x : ℤ) → IsMeant net x ↔ IsOther net x) → AddsPins old new IsOther
-adds_as old new IsMeant IsOther adds same net x = (from, to) where
-  turned : IsPinOf old net x ⊎ IsMeant net x → IsPinOf old net x ⊎ IsOther net x
-  turned (inl is) = inl is
-  turned (inr is) = inr ((same net x).0 is)
-
-  from : IsPinOf new net x → IsPinOf old net x ⊎ IsOther net x
-  from is = turned ((adds net x).0 is)
-
-  to : IsPinOf old net x ⊎ IsOther net x → IsPinOf new net x
-  to (inl is) = (adds net x).1 (inl is)
-  to (inr is) = (adds net x).1 (inr ((same net x).1 is))
-
--- from an empty list on
-pub all_added : (none new same : List ChannelPin) (IsMeant : ℕ → ℤ → Type 0) → none ≡ [] → AddsPins none new IsMeant → same ≡ new → (net : ℕ) (x : ℤ) → IsPinOf same net x ↔ IsMeant net x
-all_added none new same IsMeant empty adds is net x = (from, to) where
-  only : IsPinOf none net x ⊎ IsMeant net x → IsMeant net x
-  only (inl there) = absurd (pin_none net x (subst (λ (l : List ChannelPin). IsPinOf l net x) empty there))
-  only (inr meant) = meant
-
-  from : IsPinOf same net x → IsMeant net x
-  from there = only ((adds net x).0 (subst (λ (l : List ChannelPin). IsPinOf l net x) is there))
-
-  to : IsMeant net x → IsPinOf same net x
-  to meant = subst (λ (l : List ChannelPin). IsPinOf l net x) (sym is) ((adds net x).1 (inr meant))
-
--- a pin that was pushed
 pub record IsThisPin (pin : ChannelPin) (net : ℕ) (x : ℤ) : Type 0 where
   pub number : net ≡ pin.net
   pub here : x ≡ pin.x
 
-one_is : (pin : ChannelPin) (net : ℕ) (x : ℤ) → IsPinOf (pin ∷ []) net x → IsThisPin pin net x
+pub one_is : (pin : ChannelPin) (net : ℕ) (x : ℤ) → IsPinOf (pin ∷ []) net x → IsThisPin pin net x
 one_is pin net x is = by (pin_cases pin [] net x is) where
   by : ((pin.net ≡ net) × (pin.x ≡ x)) ⊎ IsPinOf [] net x → IsThisPin pin net x
   by (inl here) = record { number = sym here.0; here = sym here.1 }
   by (inr none) = absurd (pin_none net x none)
 
-one_there : (pin : ChannelPin) (net : ℕ) (x : ℤ) → IsThisPin pin net x → IsPinOf (pin ∷ []) net x
-one_there pin net x is = subst (λ (n : ℕ). IsPinOf (pin ∷ []) n x) (sym is.number) (subst (IsPinOf (pin ∷ []) pin.net) (sym is.here) (pin_first pin []))
+pub this_there : (pin : ChannelPin) (net : ℕ) (x : ℤ) → IsThisPin pin net x → IsPinOf (pin ∷ []) net x
+this_there pin net x is = subst (λ (n : ℕ). IsPinOf (pin ∷ []) n x) (sym is.number) (subst (IsPinOf (pin ∷ []) pin.net) (sym is.here) (pin_first pin []))
 
-appended : (old more new : List ChannelPin) → new ≡ old ++ more → AddsPins old new (IsPinOf more)
-appended old more new is net x = (
-  (λ there. pin_in_both old more net x (subst (λ (l : List ChannelPin). IsPinOf l net x) is there)),
-  (λ there. subst (λ (l : List ChannelPin). IsPinOf l net x) (sym is) (joined there)),
-) where
-  joined : IsPinOf old net x ⊎ IsPinOf more net x → IsPinOf (old ++ more) net x
-  joined (inl a) = pin_left old more net x a
-  joined (inr b) = pin_right old more net x b
+-- The pin of a name
 
-pub pushed_adds : (old new : List ChannelPin) (pin : ChannelPin) → new ≡ old ++ pin ∷ [] → AddsPins old new (IsThisPin pin)
-pushed_adds old new pin is = adds_as old new (IsPinOf (pin ∷ [])) (IsThisPin pin) (appended old (pin ∷ []) new is) (λ net x. (one_is pin net x, one_there pin net x))
+-- the net of this name, here
+pub record IsPinNamed (look : List ℕ → Option ℕ) (name : List ℕ) (at : ℤ) (net : ℕ) (x : ℤ) : Type 0 where
+  pub number : look name ≡ Some net
+  pub here : x ≡ at
 
-named_is : (look : List ℕ → Option ℕ) (name : List ℕ) (at : ℤ) (o : Option ℕ) → look name ≡ o → (net : ℕ) (x : ℤ) → IsPinOf (pin_of o at) net x → IsPinNamed look name at net x
-named_is look name at None is net x there = absurd (pin_none net x there)
-named_is look name at (Some number) is net x there =
+named_as_found : (look : List ℕ → Option ℕ) (name : List ℕ) (at : ℤ) (o : Option ℕ) → look name ≡ o → (net : ℕ) (x : ℤ) → IsPinOf (pin_of o at) net x → IsPinNamed look name at net x
+named_as_found look name at None is net x there = absurd (pin_none net x there)
+named_as_found look name at (Some number) is net x there =
     let one = one_is (record { x = at; net = number }) net x there in
     record { number = is ∙ ap (λ (n : ℕ). Some n) (sym one.number); here = one.here }
 
-named_there : (look : List ℕ → Option ℕ) (name : List ℕ) (at : ℤ) (o : Option ℕ) → look name ≡ o → (net : ℕ) (x : ℤ) → IsPinNamed look name at net x → IsPinOf (pin_of o at) net x
-named_there look name at None is net x named = let e = sym is ∙ named.number in absurd cc
-named_there look name at (Some number) is net x named =
-    let e = sym is ∙ named.number in
-    let same : number ≡ net = cc in
-    one_there (record { x = at; net = number }) net x (record { number = sym same; here = named.here })
+pub named_is : (look : List ℕ → Option ℕ) (name : List ℕ) (at : ℤ) (net : ℕ) (x : ℤ) → IsPinOf (numbered_net look name at) net x → IsPinNamed look name at net x
+named_is look name at net x there = named_as_found look name at (look name) refl net x there
 
--- the pin of a name
-pub named_adds : (old new : List ChannelPin) (look : List ℕ → Option ℕ) (name : List ℕ) (at : ℤ) → new ≡ old ++ numbered_net look name at → AddsPins old new (IsPinNamed look name at)
-named_adds old new look name at is =
-    adds_as old new (IsPinOf (numbered_net look name at)) (IsPinNamed look name at) (appended old (numbered_net look name at) new is)
-    (λ net x. (named_is look name at (look name) refl net x, named_there look name at (look name) refl net x))
+pub named_there : (look : List ℕ → Option ℕ) (name : List ℕ) (at : ℤ) (net : ℕ) (x : ℤ) → look name ≡ Some net → x ≡ at → IsPinOf (numbered_net look name at) net x
+named_there look name at net x number here = subst (λ (o : Option ℕ). IsPinOf (pin_of o at) net x) (sym number) (this_there (record { x = at; net = net }) net x (record { number = refl; here = here }))
+
+-- Lists one after another
+
+pub lists_suc : {A : Type 0} (n : ℕ) (f : ℕ → List A) → tabulate_lists (suc n) f ≡ tabulate_lists n f ++ f n
+lists_suc n f = let e : suc n ≡ n + 1 = omega arith in ap (λ (m : ℕ). tabulate_lists m f) e ∙ tabulate_lists_more n f
+
+pub lists_same : {A : Type 0} (n : ℕ) (f g : ℕ → List A) → ((k : ℕ) → k < n → f k ≡ g k) → tabulate_lists n f ≡ tabulate_lists n g
+lists_same zero f g same = refl
+lists_same (suc n) f g same =
+    lists_suc n f ∙ ((λ i. lists_same n f g (λ k less. same k (omega (arith, less))) i ++ same n (omega arith) i) ∙ sym (lists_suc n g))
+
+-- one of the first lists has the pin
+pub record IsInOne (n : ℕ) (f : ℕ → List ChannelPin) (net : ℕ) (x : ℤ) : Type 0 where
+  pub at : ℕ
+  pub below : at < n
+  pub is : IsPinOf (f at) net x
+
+pub in_one : (n : ℕ) (f : ℕ → List ChannelPin) (net : ℕ) (x : ℤ) → IsPinOf (tabulate_lists n f) net x → IsInOne n f net x
+in_one zero f net x is = absurd (pin_none net x is)
+in_one (suc n) f net x is = elim (pin_in_both (tabulate_lists n f) (f n) net x (subst (λ (l : List ChannelPin). IsPinOf l net x) (lists_suc n f) is)) [
+  | inl before ↦ let r = in_one n f net x before in let below = r.below in record { at = r.at; below = omega (arith, below); is = r.is }
+  | inr last ↦ record { at = n; below = omega arith; is = last }
+]
+
+pub of_one : (n : ℕ) (f : ℕ → List ChannelPin) (net : ℕ) (x : ℤ) (k : ℕ) → k < n → IsPinOf (f k) net x → IsPinOf (tabulate_lists n f) net x
+of_one zero f net x k less is = absurd (omega (arith, less))
+of_one (suc n) f net x k less is = subst (λ (l : List ChannelPin). IsPinOf l net x) (sym (lists_suc n f)) (elim (below_or k n (omega (arith, less))) [
+  | inl lower ↦ pin_left (tabulate_lists n f) (f n) net x (of_one n f net x k lower is)
+  | inr e ↦ pin_right (tabulate_lists n f) (f n) net x (subst (λ (m : ℕ). IsPinOf (f m) net x) e is)
+])
+
+-- a list of items is one of lists of one item each
+singles_from : {A : Type 0} (f : ℕ → A) (ns : List ℕ) → map f ns ≡ flat_map (λ k. f k ∷ []) ns
+singles_from f [] = refl
+singles_from {A = A} f (n ∷ ns) = ap (λ (l : List A). f n ∷ l) (singles_from f ns)
+
+pub singles : {A : Type 0} (n : ℕ) (f : ℕ → A) → tabulate n f ≡ tabulate_lists n (λ k. f k ∷ [])
+singles n f = singles_from f (numbers_from 0 n)
 
 -- The logic row
 

@@ -1,5 +1,5 @@
 -- The ports of the cells of the logic row.
-use Rattle.std.proofs.Common.{◌≡◌, ◌⊎◌, inl, inr, ℕ, zero, suc, ◌+◌, ◌-◌, ◌<◌, ◌≤◌, List, [], ◌∷◌, ◌++◌, length, Some, refl, ap, sym, subst, ◌∙◌, length-append, append_assoc, arith}
+use Rattle.std.proofs.Common.{◌≡◌, ◌⊎◌, inl, inr, ℕ, zero, suc, ◌+◌, ◌<◌, ◌≤◌, List, [], ◌∷◌, ◌++◌, length, Some, refl, ap, sym, subst, ◌∙◌, length-append, append_assoc, arith}
 use Rattle.std.specs.Prelude.{slice_get, codes}
 use Rattle.std.proofs.lemmas.Option.{slice_get_within}
 use Rattle.cell_roles.specs.declared.role.Role.{Role}
@@ -51,34 +51,19 @@ front_of plan (Ki bank) = record { front = SenB bank ∷ SenAt bank ∷ []; is =
 front_of plan (Gn bank m) = record { front = enable_inputs plan bank m ++ WenB bank m ∷ []; is = sym (append_assoc (enable_inputs plan bank m) (WenB bank m ∷ []) supply_nets) }
 front_of plan (Gi bank m) = record { front = WenB bank m ∷ WenAt bank m ∷ []; is = refl }
 
--- which port a net stands on: an input, the output or a supply
-pub record IsInputAt (plan : Organization) (c : LogicCell) (k : ℕ) : Type 0 where
-  pub below : k < length (logic_cell_ports plan c) - 3
-
 supply_is : (k : ℕ) (x : Net) → slice_get supply_nets k ≡ Some x → (x ≡ Vdd) ⊎ (x ≡ Gnd)
 supply_is zero x at = inl (let e : Vdd ≡ x = cc in sym e)
 supply_is (suc zero) x at = inr (let e : Gnd ≡ x = cc in sym e)
 supply_is (suc (suc k)) x at = absurd cc
 
-last_or_before : (k n : ℕ) → k < n → (k < n - 1) ⊎ (k ≡ n - 1)
-last_or_before zero (suc zero) lt = inr refl
-last_or_before zero (suc (suc n)) lt = inl (omega arith)
-last_or_before k zero lt = absurd (omega (arith, lt))
-last_or_before (suc k) (suc n) lt = elim (last_or_before k n (omega (arith, lt))) [ inl less ↦ inl (omega (arith, less)) | inr e ↦ inr (omega (arith, e, lt)) ]
-
-pub which_port : (plan : Organization) (c : LogicCell) (k : ℕ) (x : Net) → slice_get (logic_cell_ports plan c) k ≡ Some x
-    → IsInputAt plan c k ⊎ ((k ≡ length (logic_cell_ports plan c) - 3) ⊎ ((x ≡ Vdd) ⊎ (x ≡ Gnd)))
+-- a net stands on a port before the supplies, or is a supply
+pub which_port : (plan : Organization) (c : LogicCell) (k : ℕ) (x : Net) → slice_get (logic_cell_ports plan c) k ≡ Some x → (k + 2 < length (logic_cell_ports plan c)) ⊎ ((x ≡ Vdd) ⊎ (x ≡ Gnd))
 which_port plan c k x at =
     let f = front_of plan c in
     let long = ap length f.is ∙ length-append f.front supply_nets in
     elim (split_at f.front supply_nets k x (subst (λ (l : List Net). slice_get l k ≡ Some x) f.is at)) [
-      | inl here ↦
-          let within = slice_get_within f.front k x here in
-          elim (last_or_before k (length f.front) within) [
-            | inl less ↦ inl (record { below = omega (arith, long, less) })
-            | inr last ↦ inr (inl (omega (arith, long, last)))
-          ]
-      | inr b ↦ inr (inr (supply_is b.index x b.at))
+      | inl here ↦ let within = slice_get_within f.front k x here in inl (omega (arith, long, within))
+      | inr b ↦ inr (supply_is b.index x b.at)
     ]
 
 -- The cells' roles, whose ports are on the second metal in their order

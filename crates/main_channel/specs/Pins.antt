@@ -1,5 +1,5 @@
 -- Lists of a channel's pins.
-use Rattle.std.specs.Prelude.{◌≡◌, ◌⊎◌, ◌↔◌, ℕ, ◌<◌, ◌^◌, ℤ, pos, ◌≤ℤ◌, List, [], ◌∷◌, Option, None, Some, All}
+use Rattle.std.specs.Prelude.{◌<◌, ◌^◌, ℕ, ℤ, pos, ◌≤ℤ◌, List, [], ◌∷◌, Option, None, Some, All}
 use Rattle.channel_router.specs.declared.channel.ChannelPin.{ChannelPin}
 use Rattle.channel_router.specs.Channel.{IsPinOf}
 
@@ -21,17 +21,9 @@ abbrev pub pin_of : Option ℕ → ℤ → List ChannelPin
 pin_of None x = []
 pin_of (Some net) x = record { x = x; net = net } ∷ []
 
+-- the pin of the net of this name; `look` gives nets of the channel their numbers
 abbrev pub numbered_net : (List ℕ → Option ℕ) → List ℕ → ℤ → List ChannelPin
 numbered_net look name x = pin_of (look name) x
-
--- the pins are those of the old list and those that are meant, and no others
-abbrev pub AddsPins : List ChannelPin → List ChannelPin → (ℕ → ℤ → Type 0) → Type 0
-AddsPins old new IsMeant = (net : ℕ) (x : ℤ) → IsPinOf new net x ↔ (IsPinOf old net x ⊎ IsMeant net x)
-
--- the net of this name, here
-pub record IsPinNamed (look : List ℕ → Option ℕ) (name : List ℕ) (at : ℤ) (net : ℕ) (x : ℤ) : Type 0 where
-  pub number : look name ≡ Some net
-  pub here : x ≡ at
 
 -- the net has a pin
 abbrev pub HasPinOfNet : List ChannelPin → ℕ → Type 0

@@ -1,24 +1,26 @@
-ghost use Rattle.std.specs.Prelude.{◌≡◌, ◌<◌, ◌≤◌, ℕ, pos, All, length, IfOk};
+ghost use Rattle.std.specs.Prelude.{◌≡◌, ◌≤◌, ℕ, pos, length, IfOk};
 ghost use Rattle.cell_roles.specs.declared.role.Role.TheVariants.{Inv};
 ghost use Rattle.channel_router.specs.Channel.{IsChannel};
 ghost use Rattle.leaf_tables.specs.Kits.{IsKit};
+ghost use Rattle.sram_netlist.specs.InstanceList.{tabulate};
 ghost use Rattle.sram_netlist.specs.Numbers.{ArePlanNumbers};
 ghost use Rattle.sram_plan.specs.PlanNumbers.{numbers_of, organization};
 ghost use Rattle.macro_layout.specs.Channels.{ArePins, LeavesLeft};
 ghost use Rattle.macro_layout.specs.Pins.{main_nets};
 ghost use Rattle.macro_cells.specs.LayoutOfKit.{layout_kit};
 ghost use Rattle.macro_wires.specs.FloorplanNumbers.{IsNearFloorplan};
-ghost use Rattle.main_channel.specs.Main.{IsNearMainChannel, IsMainChannelAcross};
-ghost use Rattle.main_channel.specs.Pins.{AreMainPins, HasPinOfNet};
+ghost use Rattle.main_channel.specs.Formula.{main_exit};
+ghost use Rattle.main_channel.specs.Main.{IsNearMainChannel, IsMainChannelAcross, IsMainChannelByFormula};
+ghost use Rattle.main_channel.specs.Pins.{AreMainPins};
 
 use crate::bottom::add_row_pins;
 use crate::gates::{logic_gates, net_names, port_count};
 use crate::leaves::leaf_of;
 use crate::names::number_names;
-use crate::roles::logic_roles;
 use crate::top::add_bank_pins;
 use cell_roles::Role;
 use channel_router::{Channel, ChannelPin};
+use control_logic::logic_roles;
 use leaf_tables::Kit;
 use macro_wires::FloorplanNumbers;
 use or_geom::{Items, Memory};
@@ -45,6 +47,7 @@ pub fn main_channel(
     ensures exits { IfOk result (λ ch. ArePins ch.exits (LeavesLeft (organization plan.now))) }
     ensures low { IfOk result (λ ch. ch.low ≡ pos ((layout_kit kit.now).height Inv)) }
     ensures stated { IfOk result (IsMainChannelAcross kit.now (organization plan.now) floorplan.now) }
+    ensures formula { IfOk result (IsMainChannelByFormula kit.now (organization plan.now) floorplan.now) }
 {
     let gates = logic_gates(alloc, kit, plan)?;
     let roles = logic_roles(alloc, plan)?;
@@ -60,7 +63,6 @@ pub fn main_channel(
         &gates,
         &roles,
         floorplan.logic_x,
-        ports,
         &mut bottom,
     )?;
     Ok(Channel {
@@ -75,8 +77,7 @@ pub fn main_channel(
 /// The exits of the ports, at the macro's left edge.
 fn exits(alloc: Global, ports: u32) -> Result<Items<ChannelPin>, Memory>
     requires { ports ≤ 800 }
-    ensures has { IfOk result (λ exits. (net : ℕ) → net < ports → HasPinOfNet exits net) }
-    ensures zero { IfOk result (All (λ exit. exit.x ≡ pos 0)) }
+    ensures is { IfOk result (λ exits. exits ≡ tabulate ports main_exit) }
     ensures main { IfOk result (λ exits. (nets : ℕ) → ports ≤ nets → AreMainPins nets exits) }
 {
     let mut exits = Vec::new(alloc);

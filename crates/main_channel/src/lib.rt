@@ -7,7 +7,6 @@ mod gates;
 mod leaves;
 mod names;
 mod pins;
-mod roles;
 mod top;
 
 pub use channel::main_channel;

@@ -4,7 +4,7 @@ ghost use Rattle.leaf_tables.specs.Kits.{IsKit};
 ghost use Rattle.macro_wires.specs.FloorplanNumbers.{IsUpTo};
 ghost use Rattle.main_channel.specs.Leaves.{pin_begin};
 ghost use Rattle.main_channel.specs.Numbers.{found_number, IsNetNumbering};
-ghost use Rattle.main_channel.specs.Pins.{IsMacroCoordinate, AreMainPins, AddsPins, IsPinNamed, numbered_net};
+ghost use Rattle.main_channel.specs.Pins.{IsMacroCoordinate, AreMainPins, numbered_net};
 
 use crate::leaves::pin_left;
 use crate::names::NetNumbers;
@@ -43,7 +43,7 @@ pub fn add_leaf_pin(
     requires kit { IsKit kit.now }
     requires there { pin < length (role_demands role) }
     requires x { IsUpTo (2 ^ 28 - 65536) x }
-    ensures adds { OnOk result (AddsPins pins.old.items pins.new.items (IsPinNamed (found_number numbers.now) name.now (x +ℤ pin_begin kit.now role pin))) }
+    ensures is { OnOk result (pins.new.items ≡ pins.old.items ++ numbered_net (found_number numbers.now) name.now (x +ℤ pin_begin kit.now role pin)) }
     ensures main { OnOk result ((nets : ℕ) → IsNetNumbering nets (found_number numbers.now) → AreMainPins nets pins.old.items → AreMainPins nets pins.new.items) }
 {
     add_pin(numbers, name, x + pin_left(kit, role, pin), pins)?;

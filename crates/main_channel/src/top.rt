@@ -1,17 +1,20 @@
-ghost use Rattle.std.specs.Prelude.{◌≡◌, ◌-◌, ◌≤◌, ◌^◌, ℕ, ℤ, pos, ◌*ℤ◌, ◌≤ℤ◌, Some, length, IfOk, OnOk};
+ghost use Rattle.std.specs.Prelude.{◌≡◌, ◌++◌, ◌-◌, ◌≤◌, ◌^◌, ℕ, ℤ, pos, ◌+ℤ◌, ◌*ℤ◌, ◌≤ℤ◌, Some, length, codes, IfOk, OnOk};
+ghost use Rattle.cell_roles.specs.declared.role.Role.TheVariants.{Sense};
 ghost use Rattle.tech_rules.specs.declared.tech.Wire.{Wire};
 ghost use Rattle.tech_rules.specs.Drawing.{pitch};
 ghost use Rattle.leaf_tables.specs.Kits.{IsKit};
+ghost use Rattle.sram_netlist.specs.Names.{with_index};
+ghost use Rattle.sram_netlist.specs.InstanceList.{tabulate_lists};
 ghost use Rattle.sram_netlist.specs.Numbers.{ArePlanNumbers};
 ghost use Rattle.sram_plan.specs.PlanNumbers.{numbers_of, organization};
 ghost use Rattle.port_lists.specs.Spelled.{spelled};
 ghost use Rattle.macro_cells.specs.LeafSides.{leaf_width};
 ghost use Rattle.macro_wires.specs.FloorplanNumbers.{IsUpTo, IsNearFloorplan};
-ghost use Rattle.main_channel.specs.Banks.{IsRailPin, IsWritePin, IsSensePin, IsSlicePin, IsBankPin, columns_begin};
+ghost use Rattle.main_channel.specs.Banks.{bank_rail_pins, write_pins, slice_pins, bank_pins, columns_begin};
 ghost use Rattle.main_channel.specs.Leaves.{IsInLeaf, pin_begin};
 ghost use Rattle.main_channel.specs.Names.{rail_names, enable_name};
 ghost use Rattle.main_channel.specs.Numbers.{found_number, IsNetNumbering};
-ghost use Rattle.main_channel.specs.Pins.{AreMainPins, AddsPins};
+ghost use Rattle.main_channel.specs.Pins.{AreMainPins, numbered_net};
 
 use crate::leaves::leaf_of;
 use crate::names::NetNumbers;
@@ -38,7 +41,7 @@ pub fn add_bank_pins(
     requires kit { IsKit kit.now }
     requires plan { ArePlanNumbers (numbers_of plan.now) }
     requires near { IsNearFloorplan floorplan.now }
-    ensures adds { OnOk result ((wire : Wire) → kit.now.tech.wire ≡ Some wire → AddsPins pins.old.items pins.new.items (IsBankPin (pin_begin kit.now) (leaf_width kit.now) (found_number numbers.now) (organization plan.now) (pitch wire) floorplan.now.row_x floorplan.now.bank_width plan.now.banks)) }
+    ensures is { OnOk result ((wire : Wire) → kit.now.tech.wire ≡ Some wire → pins.new.items ≡ pins.old.items ++ tabulate_lists plan.now.banks (bank_pins (pin_begin kit.now) (leaf_width kit.now) (found_number numbers.now) (organization plan.now) (pitch wire) floorplan.now.row_x floorplan.now.bank_width)) }
     ensures main { OnOk result ((nets : ℕ) → IsNetNumbering nets (found_number numbers.now) → AreMainPins nets pins.old.items → AreMainPins nets pins.new.items) }
 {
     let pitch = pitch_of(kit);
@@ -122,7 +125,7 @@ fn add_rail_pins(
     requires few { length names.now ≤ 64 }
     requires x { IsUpTo (2 ^ 27) x }
     requires pitch { IsUpTo (2 ^ 17) pitch }
-    ensures adds { OnOk result (AddsPins pins.old.items pins.new.items (IsRailPin (found_number numbers.now) names.now x pitch (length names.now))) }
+    ensures is { OnOk result (pins.new.items ≡ pins.old.items ++ bank_rail_pins (found_number numbers.now) names.now x pitch) }
     ensures main { OnOk result ((nets : ℕ) → IsNetNumbering nets (found_number numbers.now) → AreMainPins nets pins.old.items → AreMainPins nets pins.new.items) }
 {
     for rail in 0..names.len() {
@@ -156,7 +159,7 @@ fn add_slice_pins(
     requires kit { IsKit kit.now }
     requires plan { ArePlanNumbers (numbers_of plan.now) }
     requires x { IsUpTo (2 ^ 27) x }
-    ensures adds { OnOk result (AddsPins pins.old.items pins.new.items (IsSlicePin (pin_begin kit.now) (leaf_width kit.now) (found_number numbers.now) (organization plan.now) bank x plan.now.word_size)) }
+    ensures is { OnOk result (pins.new.items ≡ pins.old.items ++ slice_pins (pin_begin kit.now) (leaf_width kit.now) (found_number numbers.now) (organization plan.now) bank x) }
     ensures main { OnOk result ((nets : ℕ) → IsNetNumbering nets (found_number numbers.now) → AreMainPins nets pins.old.items → AreMainPins nets pins.new.items) }
 {
     let width = leaf_of(kit, Role::Bitcell).width;
@@ -193,7 +196,7 @@ fn add_write_pins(
     requires kit { IsKit kit.now }
     requires plan { ArePlanNumbers (numbers_of plan.now) }
     requires x { IsUpTo (2 ^ 28 - 65536) x }
-    ensures adds { OnOk result (AddsPins pins.old.items pins.new.items (IsWritePin (pin_begin kit.now) (found_number numbers.now) (organization plan.now) bank bit x)) }
+    ensures is { OnOk result (pins.new.items ≡ pins.old.items ++ write_pins (pin_begin kit.now) (found_number numbers.now) (organization plan.now) bank bit x) }
     ensures main { OnOk result ((nets : ℕ) → IsNetNumbering nets (found_number numbers.now) → AreMainPins nets pins.old.items → AreMainPins nets pins.new.items) }
 {
     let data = spell(alloc, Spelling::Numbered(b"d", bit))?;
@@ -214,7 +217,7 @@ fn add_sense_pin(
 ) -> Result<(), Memory>
     requires kit { IsKit kit.now }
     requires x { IsUpTo (2 ^ 28 - 65536) x }
-    ensures adds { OnOk result (AddsPins pins.old.items pins.new.items (IsSensePin (pin_begin kit.now) (found_number numbers.now) bit x)) }
+    ensures is { OnOk result (pins.new.items ≡ pins.old.items ++ numbered_net (found_number numbers.now) (with_index (codes "dout0") bit) (x +ℤ pin_begin kit.now Sense 2)) }
     ensures main { OnOk result ((nets : ℕ) → IsNetNumbering nets (found_number numbers.now) → AreMainPins nets pins.old.items → AreMainPins nets pins.new.items) }
 {
     let output = spell(alloc, Spelling::Indexed(b"dout0", bit))?;

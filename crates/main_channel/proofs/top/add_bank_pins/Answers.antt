@@ -1,11 +1,12 @@
 -- A bank more.
-use Rattle.std.proofs.Common.{length, ap, ◌∙◌, arith}
+use Rattle.std.proofs.Common.{length, ap, sym, ◌∙◌, arith}
 use Rattle.std.proofs.lemmas.Int.{ints}
 use Rattle.sram_netlist.proofs.Bounds.{bounds}
 use Rattle.sram_plan.specs.PlanNumbers.{numbers_of, organization}
 use Rattle.port_lists.proofs.NumberLaws.{banks_are}
 use Rattle.main_channel.proofs.CountLaws.{few_rails}
-use Rattle.main_channel.proofs.StepLaws.{no_bank, bank_more, banks_as}
+use Rattle.main_channel.proofs.StepLaws.{bank_more, all_banks}
+use Rattle.main_channel.proofs.RailLaws.{rails_named}
 use Rattle.tech_rules.specs.Drawing.{pitch}
 use Rattle.macro_cells.specs.LeafSides.{leaf_width}
 use Rattle.main_channel.specs.Leaves.{pin_begin}
@@ -39,9 +40,6 @@ add_slice_pins-requires-clause-x c =
     let e = c.in_ok-columns_x.ensures.near.below in
     record { above = omega (arith, ints, a, b, d, e); below = omega (arith, ints, a, b, d, e) }
 
-pub loop-bank-init : goal.loop-bank-init
-loop-bank-init c = record { adds = no_bank _ _ _ _ _ _ _ _; main = λ nets num all. all }
-
 pub loop-bank-preserved : goal.loop-bank-preserved
 loop-bank-preserved c =
     let a = c.bank_x-x.ensures.above in
@@ -51,17 +49,18 @@ loop-bank-preserved c =
     let f = c.requires.near.bank_width.above in
     let g = c.requires.near.bank_width.below in
     record {
-      adds = bank_more (pin_begin c.args.kit.now) (leaf_width c.args.kit.now) (found_number c.args.numbers.now) (organization c.args.plan.now) _ c.args.floorplan.now.row_x c.args.floorplan.now.bank_width _ _ _ _ c.loop-bank.bank c.deref.result.now _ c.bank_x-x.result _ c.in_ok-columns_x.columns_x _
-          (c.deref.ensures ∙ c.in_ok-names.ensures) c.loop-bank.invariant.adds c.in_ok-add_rail_pins.ensures.adds c.in_ok-add_slice_pins.ensures.adds (omega (arith, ints, a, b)) c.bank_x-x.ensures.is (omega (arith, ints, f, g)) (omega (arith, ints, a, b, d, e)) c.in_ok-columns_x.ensures.is;
+      is = bank_more (pin_begin c.args.kit.now) (leaf_width c.args.kit.now) (found_number c.args.numbers.now) (organization c.args.plan.now) _ c.args.floorplan.now.row_x c.args.floorplan.now.bank_width _ c.bank_x-x.result _ c.in_ok-columns_x.columns_x _ _ _ _ _ c.loop-bank.bank c.deref.result.now
+          ((c.deref.ensures ∙ c.in_ok-names.ensures) ∙ sym (rails_named (organization c.args.plan.now) c.loop-bank.bank c.requires.plan.plan)) c.loop-bank.invariant.is c.in_ok-add_rail_pins.ensures.is c.in_ok-add_slice_pins.ensures.is (omega (arith, ints, a, b)) c.bank_x-x.ensures.is (omega (arith, ints, f, g))
+          (omega (arith, ints, a, b, d, e)) c.in_ok-columns_x.ensures.is;
       main = λ nets num all. c.in_ok-add_slice_pins.ensures.main nets num (c.in_ok-add_rail_pins.ensures.main nets num (c.loop-bank.invariant.main nets num all));
     }
 
-pub returns-clause-adds : goal.returns-clause-adds
-returns-clause-adds c = λ wire wired.
+pub returns-clause-is : goal.returns-clause-is
+returns-clause-is c = λ wire wired.
     let is = c.pitch_of-pitch.ensures.is wire wired in
     let d = c.pitch_of-pitch.ensures.near.above in
     let e = c.pitch_of-pitch.ensures.near.below in
     let most = c.loop-bank-test.false in
     let least = c.loop-bank.auto.bank-end in
-    banks_as (pin_begin c.args.kit.now) (leaf_width c.args.kit.now) (found_number c.args.numbers.now) (organization c.args.plan.now) _ (pitch wire) c.args.floorplan.now.row_x c.args.floorplan.now.bank_width c.loop-bank.bank c.args.plan.now.banks c.args.pins.now.items c.loop-bank.pins.items c.loop-bank.invariant.adds
+    all_banks (pin_begin c.args.kit.now) (leaf_width c.args.kit.now) (found_number c.args.numbers.now) (organization c.args.plan.now) _ (pitch wire) c.args.floorplan.now.row_x c.args.floorplan.now.bank_width c.loop-bank.bank c.args.plan.now.banks c.args.pins.now.items c.loop-bank.pins.items c.loop-bank.invariant.is
     (omega (arith, ints, is, d, e)) (omega (arith, most, least))

@@ -3,11 +3,11 @@ use Rattle.std.proofs.Common.{arith}
 use Rattle.std.proofs.lemmas.Int.{ints}
 use Rattle.sram_plan.specs.PlanNumbers.{numbers_of, organization}
 use Rattle.macro_cells.specs.LeafSides.{leaf_width}
-use Rattle.main_channel.proofs.StepLaws.{no_bit, bit_more, slices_as}
+use Rattle.main_channel.proofs.StepLaws.{bit_more, all_bits}
 use Rattle.main_channel.specs.Leaves.{pin_begin}
 use Rattle.main_channel.specs.Numbers.{found_number}
 use Rattle.port_lists.proofs.NumberLaws.{words_are}
-use Rattle.main_channel.proofs.RoleLaws.{few_columns}
+use Rattle.main_channel.proofs.ColumnLaws.{few_columns}
 use Rattle.main_channel.proofs.top.add_slice_pins.Goals as goal
 
 pub columns_width-requires-clause-columns : goal.columns_width-requires-clause-columns
@@ -29,9 +29,6 @@ add_sense_pin-requires-clause-x c =
     let e = c.columns_width.ensures.below in
     record { above = omega (arith, ints, a, b, d, e); below = omega (arith, ints, a, b, d, e) }
 
-pub loop-bit-init : goal.loop-bit-init
-loop-bit-init c = record { adds = no_bit _ _ _ _ _ _ _; main = λ nets num all. all }
-
 pub loop-bit-preserved : goal.loop-bit-preserved
 loop-bit-preserved c =
     let a = c.requires.x.above in
@@ -42,15 +39,15 @@ loop-bit-preserved c =
     let f = c.leaf_of.ensures.width.above in
     let g = c.leaf_of.ensures.width.below in
     record {
-      adds = bit_more (pin_begin c.args.kit.now) (leaf_width c.args.kit.now) (found_number c.args.numbers.now) (organization c.args.plan.now) c.args.bank _ _ _ _ _ c.loop-bit.bit c.args.plan.now.wpr _ c.columns_width.result _ c.loop-bit.invariant.adds c.in_ok-add_write_pins.ensures.adds c.in_ok-add_sense_pin.ensures.adds
+      is = bit_more (pin_begin c.args.kit.now) (leaf_width c.args.kit.now) (found_number c.args.numbers.now) (organization c.args.plan.now) c.args.bank _ _ c.columns_width.result _ _ _ _ _ c.loop-bit.bit c.args.plan.now.wpr c.loop-bit.invariant.is c.in_ok-add_write_pins.ensures.is c.in_ok-add_sense_pin.ensures.is
           (omega (arith, ints, a, b, d, e)) c.columns_width.ensures.is (words_are (numbers_of c.args.plan.now) c.requires.plan) (omega (arith, ints, sized, f, g));
       main = λ nets num all. c.in_ok-add_sense_pin.ensures.main nets num (c.in_ok-add_write_pins.ensures.main nets num (c.loop-bit.invariant.main nets num all));
     }
 
-pub returns-clause-adds : goal.returns-clause-adds
-returns-clause-adds c =
+pub returns-clause-is : goal.returns-clause-is
+returns-clause-is c =
     let a = c.requires.x.above in
     let b = c.requires.x.below in
     let most = c.loop-bit-test.false in
     let least = c.loop-bit.auto.bit-end in
-    slices_as (pin_begin c.args.kit.now) (leaf_width c.args.kit.now) (found_number c.args.numbers.now) (organization c.args.plan.now) c.args.bank _ c.args.x c.loop-bit.bit c.args.plan.now.word_size c.args.pins.now.items c.loop-bit.pins.items c.loop-bit.invariant.adds (omega (arith, ints, a, b)) (omega (arith, most, least))
+    all_bits (pin_begin c.args.kit.now) (leaf_width c.args.kit.now) (found_number c.args.numbers.now) (organization c.args.plan.now) c.args.bank _ c.args.x c.loop-bit.bit c.args.plan.now.word_size c.args.pins.now.items c.loop-bit.pins.items c.loop-bit.invariant.is (omega (arith, ints, a, b)) (omega (arith, most, least))
