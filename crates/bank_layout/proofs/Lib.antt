@@ -16,3 +16,12 @@ pub mod PinTapLaws
 pub mod RailNetLaws
 pub mod RailListLaws
 pub mod StatedTapLaws
+pub mod SameTapLaws
+pub mod ShownLaws
+pub mod WithinLaws
+pub mod HighestLaws
+pub mod TrackLaws
+pub mod BankEdgeLaws
+pub mod BuiltLaws
+pub mod DataLaws
+pub mod EdgeListLaws

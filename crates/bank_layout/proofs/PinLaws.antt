@@ -91,7 +91,7 @@ role_there Delay = refl
 pub wire_is : (kit : Kit) (is : IsKit kit) → IsWire kit.tech.layers is.wire
 wire_is kit is = subst (λ (w : Option Wire). IfSome w (IsWire kit.tech.layers)) is.wired is.tech.wire
 
-in_kit : (kit : Kit) (role : Role) (leaf : Leaf) (is : IsKit kit) → leaf_in kit.leaves role ≡ Some leaf → IsLeaf (source_of kit is.wire) role leaf
+pub in_kit : (kit : Kit) (role : Role) (leaf : Leaf) (is : IsKit kit) → leaf_in kit.leaves role ≡ Some leaf → IsLeaf (source_of kit is.wire) role leaf
 in_kit kit role leaf is there = is.leaves.each (role_number role) role leaf (role_there role) there
 
 pub inside_leaf : (kit : Kit) (role : Role) (leaf : Leaf) (k : ℕ) (pin : LeafPin) → IsKit kit → leaf_in kit.leaves role ≡ Some leaf → slice_get leaf.pins k ≡ Some pin → IsInsideLeaf leaf pin.rect

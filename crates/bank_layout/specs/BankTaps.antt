@@ -7,7 +7,7 @@ use Rattle.cell_roles.specs.declared.role.Role.TheVariants.{Precharge, Sense}
 use Rattle.tech_rules.specs.declared.route.Tap.{Tap}
 use Rattle.tech_rules.specs.declared.tech.Wire.{Wire}
 use Rattle.tech_rules.specs.Drawing.{pitch}
-use Rattle.tech_rules.specs.Spacing.{AreFirstClose}
+use Rattle.tech_rules.specs.Spacing.{AreClose, AreFirstClose}
 use Rattle.channel_router.specs.Wires.{channel_height}
 use Rattle.rail_bus.specs.Rails.{tap_ys, AreRails}
 use Rattle.sram_netlist.specs.Organization.{Organization, columns_of}
@@ -72,6 +72,13 @@ pub record AreBankTaps (leaves : List Leaf) (plan : Organization) (kit : LayoutK
   pub is_precharge : IsLeafPin leaves Precharge 2 precharge
   pub are : taps ≡ rows ++ (sense_tap plan kit floorplan sense ∷ precharge_tap plan kit floorplan precharge
       ∷ tabulate (choice_count plan.col_bits) (choice_tap wire (channel_low kit floorplan) (line_count plan.groups + 3) track))
+
+-- no two of the bank's taps, of which there is no other list, are too close
+pub record AreTapsApart (leaves : List Leaf) (plan : Organization) (kit : LayoutKit) (wire : Wire) (floorplan : Floorplan) (track : List ℕ) : Type 0 where
+  pub taps : List Tap
+  pub are : AreBankTaps leaves plan kit wire floorplan track taps
+  pub only : (other : List Tap) → AreBankTaps leaves plan kit wire floorplan track other → other ≡ taps
+  pub apart : AreClose (pitch wire) (tap_ys taps) → ⊥
 
 -- the lowest two of the bank's taps that are too close
 pub record AreTapsClose (leaves : List Leaf) (plan : Organization) (kit : LayoutKit) (wire : Wire) (floorplan : Floorplan) (track : List ℕ) (first second : ℤ) : Type 0 where

@@ -3,11 +3,14 @@
 
 mod cell;
 mod channel;
+mod edges;
 mod leaves;
 mod numbers;
 mod outputs;
+mod part;
 mod taps;
 mod wires;
 
 pub use cell::bank_cell;
+pub use part::build;
 pub use wires::bank_wires;

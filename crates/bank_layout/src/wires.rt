@@ -11,7 +11,7 @@ ghost use Rattle.macro_wires.specs.Sides.{AreLeafSides, AreSidesOf};
 ghost use Rattle.macro_wires.specs.FloorplanNumbers.{floorplan_of, IsNearFloorplan};
 ghost use Rattle.port_data.specs.Column.{IsColumnRouted};
 ghost use Rattle.bank_layout.specs.StatedWires.{AreWiresOfCell};
-ghost use Rattle.bank_layout.specs.BankTaps.{AreBankRails, IsBankFault};
+ghost use Rattle.bank_layout.specs.BankTaps.{AreBankRails, AreTapsApart, IsBankFault};
 ghost use Rattle.bank_layout.specs.Outputs.{AddsOutputs};
 ghost use Rattle.bank_layout.specs.Near.{IsBankGiven, IsDrawableWire};
 
@@ -50,6 +50,7 @@ pub fn bank_wires(
     requires given { (wire : Wire) → kit.now.tech.wire ≡ Some wire → IsBankGiven (organization plan.now) (layout_kit kit.now) wire (floorplan_of floorplan.now) routed.now }
     ensures near { IfOk result (λ shapes. (wire : Wire) → kit.now.tech.wire ≡ Some wire → (s : Shape) → Contains shapes.items s → IsDrawableWire wire s) }
     ensures stated { IfOk result (λ shapes. (wire : Wire) → kit.now.tech.wire ≡ Some wire → IsColumnRouted (organization plan.now) (layout_kit kit.now) wire (floorplan_of floorplan.now) routed.now → AreWiresOfCell (organization plan.now) (layout_kit kit.now) wire routed.now.tracks (floorplan_of floorplan.now) shapes.items) }
+    ensures apart { IfOk result (λ shapes. (wire : Wire) → kit.now.tech.wire ≡ Some wire → AreTapsApart kit.now.leaves (organization plan.now) (layout_kit kit.now) wire (floorplan_of floorplan.now) routed.now.track) }
     ensures fault { IfErr result (λ (fault : PartFault). (wire : Wire) → kit.now.tech.wire ≡ Some wire → IsBankFault kit.now.leaves (organization plan.now) (layout_kit kit.now) wire (floorplan_of floorplan.now) routed.now.track fault) }
 {
     let wire = wire_of(kit);
@@ -79,6 +80,7 @@ fn rail_wires(
     requires wire { kit.now.tech.wire ≡ Some wire.now }
     requires given { IsBankGiven (organization plan.now) (layout_kit kit.now) wire.now (floorplan_of floorplan.now) routed.now }
     ensures drawn { IfOk result (λ shapes. AreBankRails kit.now.leaves (organization plan.now) (layout_kit kit.now) wire.now (floorplan_of floorplan.now) routed.now.track shapes.items) }
+    ensures apart { IfOk result (λ shapes. AreTapsApart kit.now.leaves (organization plan.now) (layout_kit kit.now) wire.now (floorplan_of floorplan.now) routed.now.track) }
     ensures fault { IfErr result (IsBankFault kit.now.leaves (organization plan.now) (layout_kit kit.now) wire.now (floorplan_of floorplan.now) routed.now.track) }
 {
     let taps = bank_taps(

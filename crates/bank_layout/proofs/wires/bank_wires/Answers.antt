@@ -6,6 +6,7 @@ use Rattle.sram_plan.specs.PlanNumbers.{organization}
 use Rattle.macro_wires.specs.FloorplanNumbers.{floorplan_of}
 use Rattle.port_data.specs.Column.{IsColumnRouted}
 use Rattle.bank_layout.specs.StatedWires.{AreWiresOfCell}
+use Rattle.bank_layout.specs.BankTaps.{AreTapsApart}
 use Rattle.tech_rules.specs.declared.tech.Wire.{Wire}
 use Rattle.macro_cells.specs.LayoutOfKit.{layout_kit}
 use Rattle.bank_layout.specs.Near.{IsDrawableWire}
@@ -60,3 +61,8 @@ returns-clause-stated c other e column =
     let lists = are_rail_lists _ _ _ _ _ parts.drawn.taps taps parts.drawn.are in
     subst (λ (w : Wire). AreWiresOfCell (organization c.args.plan.now) (layout_kit c.args.kit.now) w c.args.routed.now.tracks (floorplan_of c.args.floorplan.now) c.add_bank_joiners.new.shapes.items) same
     (all_stated _ _ _ _ wire _ g _ _ _ _ _ _ parts (omega (arith, ints, near.above, near.below, is, gate, drive)) routed lists)
+
+pub returns-clause-apart : goal.returns-clause-apart
+returns-clause-apart c = λ other e.
+    let wire = c.wire_of-wire.result.now in
+    subst (λ (w : Wire). AreTapsApart c.args.kit.now.leaves (organization c.args.plan.now) (layout_kit c.args.kit.now) w (floorplan_of c.args.floorplan.now) c.args.routed.now.track) (same_Some wire other (sym c.wire_of-wire.ensures.is ∙ e)) c.in_ok-shapes.ensures.apart

@@ -1,13 +1,16 @@
 -- The rails and their taps.
-use Rattle.std.proofs.Common.{◌≡◌, ℕ, ℤ, pos, List, ap, subst, ◌∙◌, arith}
+use Rattle.std.proofs.Common.{◌≡◌, ℕ, ℤ, pos, List, ap, sym, subst, ◌∙◌, arith}
 use Rattle.tech_rules.specs.declared.route.Tap.{Tap}
-use Rattle.rail_bus.specs.Rails.{AreRails}
+use Rattle.rail_bus.specs.Rails.{AreRails, tap_ys}
+use Rattle.tech_rules.specs.Drawing.{pitch}
+use Rattle.tech_rules.specs.Spacing.{AreClose}
 use Rattle.sram_netlist.specs.InstanceList.{tabulate}
 use Rattle.sram_plan.specs.PlanNumbers.{organization}
 use Rattle.macro_layout.specs.Floorplan.{rail_count, rail_x}
 use Rattle.macro_cells.specs.LayoutOfKit.{layout_kit}
 use Rattle.macro_wires.specs.FloorplanNumbers.{floorplan_of}
 use Rattle.bank_layout.specs.BankTaps.{AreBankTaps}
+use Rattle.bank_layout.proofs.SameTapLaws.{same_taps}
 use Rattle.bank_layout.proofs.GivenLaws.{AreGiven}
 use Rattle.bank_layout.proofs.FinishLaws.{fit_of}
 use Rattle.bank_layout.proofs.wires.rail_wires.Goals as goal
@@ -56,4 +59,14 @@ returns-clause-drawn c =
       taps = c.in_ok-taps.taps.items;
       are = subst (λ (t : List ℕ). AreBankTaps c.args.kit.now.leaves (organization c.args.plan.now) (layout_kit c.args.kit.now) c.args.wire.now (floorplan_of c.args.floorplan.now) t c.in_ok-taps.taps.items) c.as_slice.ensures c.in_ok-taps.ensures;
       drawn = subst (λ (zs : List ℤ). AreRails (pos 0) zs c.in_ok-taps.taps.items c.args.wire.now c.in_ok-rails.field-0.items) xs (subst (λ (ts : List Tap). AreRails (pos 0) c.deref.result.now ts c.args.wire.now c.in_ok-rails.field-0.items) c.deref-2.ensures.value c.in_ok-rails.ensures.drawn);
+    }
+
+pub returns-clause-apart : goal.returns-clause-apart
+returns-clause-apart c =
+    let are = subst (λ (t : List ℕ). AreBankTaps c.args.kit.now.leaves (organization c.args.plan.now) (layout_kit c.args.kit.now) c.args.wire.now (floorplan_of c.args.floorplan.now) t c.in_ok-taps.taps.items) c.as_slice.ensures c.in_ok-taps.ensures in
+    record {
+      taps = c.in_ok-taps.taps.items;
+      are = are;
+      only = λ other is. same_taps _ _ _ _ _ _ other c.in_ok-taps.taps.items is are;
+      apart = λ close. c.in_ok-rails.ensures.apart (subst (λ (ts : List Tap). AreClose (pitch c.args.wire.now) (tap_ys ts)) (sym c.deref-2.ensures.value) close);
     }
