@@ -1,12 +1,11 @@
 -- Assembling.
-use Rattle.std.proofs.Common.{◌≡◌, ◌⊎◌, inl, inr, ℕ, suc, ◌+◌, ◌<◌, ◌≤◌, ℤ, pos, ◌+ℤ◌, ◌≤ℤ◌, List, [], ◌∷◌, ◌++◌, All, Contains, Some, length, map, refl, ap, sym, subst, ◌∙◌, length-append, arith}
+use Rattle.std.proofs.Common.{◌⊎◌, inl, inr, ℕ, suc, ◌<◌, ℤ, pos, ◌≤ℤ◌, List, [], ◌∷◌, All, Contains, length, map, refl, length-append, arith}
 use Rattle.std.specs.List.{AllByRecursion}
 use Rattle.std.proofs.lemmas.Int.{ints}
 use Rattle.std.proofs.lemmas.List.Elements.{All-contains}
 use Rattle.or_geom.specs.declared.shape.Shape.{Shape}
 use Rattle.tech_rules.specs.declared.tech.Layer.{Layer}
 use Rattle.tech_rules.specs.declared.tech.Wire.{Wire}
-use Rattle.tech_rules.specs.Drawing.{pitch}
 use Rattle.tech_rules.specs.Facts.{IsWire, IsLayerIndex}
 use Rattle.channel_router.specs.declared.channel.Channel.{Channel}
 use Rattle.channel_router.specs.declared.channel.ChannelPin.{ChannelPin}
@@ -18,10 +17,10 @@ use Rattle.sram_netlist.specs.InstanceList.{logic_cells}
 use Rattle.macro_layout.specs.LayoutKit.{LayoutKit}
 use Rattle.macro_layout.specs.Places.{Floorplan}
 use Rattle.macro_layout.specs.Floorplan.{Tracks, IsFloorplan}
-use Rattle.macro_layout.specs.Pins.{port_nets, output_of, main_nets}
+use Rattle.macro_layout.specs.Pins.{port_nets, output_of}
 use Rattle.macro_layout.specs.Wires.{IsPowerWire, IsGroundWire}
-use Rattle.macro_bounds.specs.Near.{IsCoordinate, IsChannelWithin, IsWireShape, AreWireShapes, RoutedShapesAreNear, NearWiresAreWritable, ListedShapesAreNear, GreaterBoundsHold, NearShapesHaveLayers}
-use Rattle.macro_bounds.specs.Floorplans.{IsSmallKit, IsFloorplanWithin, FloorplansAreNear}
+use Rattle.macro_bounds.specs.Near.{IsCoordinate, IsChannelWithin, IsWireShape, AreWireShapes, RoutedShapesAreNear, ListedShapesAreNear, GreaterBoundsHold}
+use Rattle.macro_bounds.specs.Floorplans.{IsSmallKit, IsFloorplanWithin}
 use Rattle.macro_bounds.specs.Supplies.{SupplyWiresAreNear}
 use Rattle.main_channel.specs.Main as main
 use Rattle.main_channel.specs.Pins.{IsMacroCoordinate}

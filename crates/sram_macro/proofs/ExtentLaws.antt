@@ -1,9 +1,8 @@
 -- The ends of a macro.
-use Rattle.std.proofs.Common.{◌≡◌, ℕ, zero, suc, ◌+◌, ◌<◌, ◌≤◌, ℤ, pos, ◌+ℤ◌, ◌*ℤ◌, ◌≤ℤ◌, ap, sym, subst, ◌∙◌, arith, w64, to_z, of_z}
+use Rattle.std.proofs.Common.{◌≡◌, ℕ, zero, suc, ◌<◌, ◌≤◌, ℤ, pos, ◌+ℤ◌, ◌*ℤ◌, ◌≤ℤ◌, ap, sym, subst, ◌∙◌, arith, w64, to_z, of_z}
 use Rattle.std.proofs.lemmas.Int.{ints}
 use Rattle.std.specs.Int.{int_max}
 use Rattle.tech_rules.specs.declared.tech.Wire.{Wire}
-use Rattle.tech_rules.specs.Drawing.{pitch}
 use Rattle.sram_netlist.specs.Organization.{Organization, power_of_two, banks_of}
 use Rattle.sram_netlist.specs.Numbers.{PlanNumbers, ArePlanNumbers}
 use Rattle.port_lists.proofs.NumberLaws.{banks_are}
@@ -11,8 +10,7 @@ use Rattle.port_lists.proofs.TabulateLaws.{some_lines}
 use Rattle.sram_netlist.specs.InstanceList.{logic_cells}
 use Rattle.macro_layout.specs.LayoutKit.{LayoutKit}
 use Rattle.macro_layout.specs.Places.{Floorplan, total_width}
-use Rattle.macro_layout.specs.Floorplan.{upper_y}
-use Rattle.macro_layout.specs.Wires.{trunk_x, ground_x}
+use Rattle.macro_layout.specs.Wires.{trunk_x}
 use Rattle.macro_wires.specs.FloorplanNumbers.{IsUpTo}
 
 -- so many widths

@@ -80,7 +80,7 @@ no_leaf = record { width = pos 0; height = pos 0; pins = [] }
 leaf_of : (kit : Kit) (is : IsKit kit) (role : Role) (leaf : Leaf) → leaf_in kit.leaves role ≡ Some leaf → IsLeaf (source_of kit is.wire) role leaf
 leaf_of kit is role leaf there = is.leaves.each (role_number role) role leaf (role_there role) there
 
-has_leaf : (kit : Kit) (is : IsKit kit) (role : Role) → HasLeaf (source_of kit is.wire) role
+pub has_leaf : (kit : Kit) (is : IsKit kit) (role : Role) → HasLeaf (source_of kit is.wire) role
 has_leaf kit is role =
     (get_or kit.leaves (role_number role) no_leaf, leaf_of kit is role (get_or kit.leaves (role_number role) no_leaf) (slice_get-get_or kit.leaves (role_number role) no_leaf (role_below kit is (role_number role) role refl)))
 
@@ -233,7 +233,7 @@ ports_low Inv = refl
 ports_low Dff = refl
 ports_low Delay = refl
 
-cell_is : (entries : List RoleName) (role : Role) (cell : List ℕ) → cell_named_for entries role ≡ Some cell → cell_in entries role ≡ cell
+pub cell_is : (entries : List RoleName) (role : Role) (cell : List ℕ) → cell_named_for entries role ≡ Some cell → cell_in entries role ≡ cell
 cell_is [] role cell e = absurd cc
 cell_is (r ∷ rs) role cell e = by (bytes_eq r.role (role_name role)) e (cell_is rs role cell) where
   by : (t : Bool) → option_map (λ (entry : RoleName). entry.cell) (cond t (Some r) (find (λ (entry : RoleName). bytes_eq entry.role (role_name role)) rs)) ≡ Some cell

@@ -1,7 +1,6 @@
 -- Laying out.
-use Rattle.std.proofs.Common.{◌≡◌, ◌⊎◌, ◌↔◌, inl, inr, ℕ, zero, suc, ◌+◌, ◌*◌, ◌<◌, ◌≤◌, ℤ, pos, ◌+ℤ◌, ◌≤ℤ◌, List, [], ◌∷◌, ◌++◌, All, Contains, Some, Ok, Err, Result, IfErr, IfOk, length, ap, sym, subst, ◌∙◌, arith}
+use Rattle.std.proofs.Common.{◌≡◌, ◌⊎◌, ◌↔◌, inl, inr, zero, suc, ◌+◌, ◌*◌, ◌≤◌, ℤ, pos, ◌+ℤ◌, List, [], ◌∷◌, All, Contains, Ok, Err, Result, IfErr, IfOk, length, refl, ap, sym, subst, ◌∙◌, arith}
 use Rattle.std.specs.List.{AllByRecursion}
-use Rattle.std.proofs.lemmas.Int.{ints}
 use Rattle.std.proofs.lemmas.List.Elements.{Contains-append_left, Contains-append_right, Contains-append_cases}
 use Rattle.or_geom.specs.declared.shape.Shape.{Shape}
 use Rattle.or_geom.specs.Adds.{Adds}
@@ -18,17 +17,19 @@ use Rattle.channel_router.specs.Intervals.{AreIntervals}
 use Rattle.channel_router.specs.Density.{IsDensity}
 use Rattle.tech_rules.specs.Drawing.{pitch}
 use Rattle.channel_router.specs.Routed.{HasClosePins, IsRouted, IsRouteFault}
-use Rattle.sram_netlist.specs.Organization.{Organization, columns_of}
+use Rattle.channel_router.specs.Wires.{channel_height}
+use Rattle.cell_roles.specs.declared.role.Role.TheVariants.{Inv, Sense, Write}
+use Rattle.sram_netlist.specs.Organization.{Organization, bank_rows, columns_of}
 use Rattle.macro_layout.specs.LayoutKit.{LayoutKit}
-use Rattle.macro_layout.specs.Places.{Floorplan, bit_width, drive_width}
-use Rattle.macro_layout.specs.Floorplan.{Tracks, IsFloorplan, choice_count}
+use Rattle.macro_layout.specs.Places.{Floorplan, bit_width, bit_height, drive_width}
+use Rattle.macro_layout.specs.Floorplan.{Tracks, IsFloorplan, choice_count, column_role, rail_count, rail_x}
 use Rattle.macro_wires.specs.declared.numbers.FloorplanNumbers.{FloorplanNumbers}
 use Rattle.macro_wires.specs.FloorplanNumbers.{floorplan_of}
 use Rattle.main_channel.specs.Main.{StandsAcross}
-use Rattle.macro_bounds.specs.Near.{IsCoordinate, IsChannelWithin, IsSevenLayerWire, IsWireShape, AreWireShapes, RoutedShapesAreNear, TracksAreFew}
-use Rattle.bank_layout.specs.Near.{IsWireWithin, HasTracks, IsNearRouted}
+use Rattle.macro_bounds.specs.Near.{IsCoordinate, IsChannelWithin, IsSevenLayerWire, IsWireShape, RoutedShapesAreNear, TracksAreFew}
+use Rattle.bank_layout.specs.Near.{IsWireWithin, IsNearRouted}
 use Rattle.port_data.specs.Column as column
-use Rattle.sram_macro.specs.Layout.{IsMainOf, IsMainFault, IsMainRouted, IsColumnOf}
+use Rattle.sram_macro.specs.Layout.{IsMainOf, IsMainFault, IsMainRouted}
 
 -- a list that grew twice
 pub both_added : {X : Type 0} (old now new : List X) (P Q : X → Type 0) → Adds old now P → Adds now new Q → (x : X) → Contains new x ↔ (Contains old x ⊎ (P x ⊎ Q x))
@@ -95,6 +96,27 @@ stands_across plan kit wire first second numbers floorplan a b =
       row_x = rows;
       bank_width = b.bank_width ∙ (ap (λ (x : ℤ). (x +ℤ pos (drive_width plan kit)) +ℤ pos (columns_of plan * bit_width kit)) rows ∙ sym a.bank_width);
     }
+
+-- there is a floorplan with room for so many tracks
+pub some_floorplan : (plan : Organization) (kit : LayoutKit) (wire : Wire) (tracks : Tracks) → (f : Floorplan) × IsFloorplan plan kit wire tracks f
+some_floorplan plan kit wire tracks =
+    let row : ℤ = rail_x wire (rail_count plan) in
+    let write : ℤ = pos (kit.height Inv) +ℤ channel_height wire tracks.main in
+    let sense : ℤ = write +ℤ pos (kit.height Write) in
+    let column : ℤ = (sense +ℤ pos (kit.height Sense)) +ℤ channel_height wire tracks.column in
+    let array : ℤ = column +ℤ pos (kit.height (column_role plan.col_bits)) in (
+      record {
+        logic_x = pitch wire;
+        row_x = row;
+        write_y = write;
+        sense_y = sense;
+        column_y = column;
+        array_y = array;
+        precharge_y = array +ℤ pos (bank_rows plan * bit_height kit);
+        bank_width = (row +ℤ pos (drive_width plan kit)) +ℤ pos (columns_of plan * bit_width kit);
+      },
+      record { logic_x = refl; row_x = refl; write_y = refl; sense_y = refl; column_y = refl; array_y = refl; precharge_y = refl; bank_width = refl },
+    )
 
 pub err_as : {X E : Type 0} (r : Result X E) (P Q : E → Type 0) → ((e : E) → P e → Q e) → IfErr r P → IfErr r Q
 err_as (Ok x) P Q to is = tt

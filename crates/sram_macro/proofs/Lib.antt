@@ -6,3 +6,5 @@ mod LayoutLaws
 mod KitFacts
 mod LabelFacts
 mod AssemblyLaws
+mod MainChannelLaws
+mod StatedLaws

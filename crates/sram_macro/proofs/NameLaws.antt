@@ -1,5 +1,5 @@
 -- The first of the names that is taken.
-use Rattle.std.proofs.Common.{◌≡◌, ℕ, List, [], ◌∷◌, Bool, true, false, cond, Option, Some, None, find, ap, ◌∙◌}
+use Rattle.std.proofs.Common.{◌≡◌, ℕ, List, [], ◌∷◌, Bool, true, false, cond, Some, None, ap, ◌∙◌}
 use Rattle.leaf_tables.specs.declared.kit.Kit.{Kit}
 use Rattle.sram_macro.specs.Names.{is_taken, first_taken}
 

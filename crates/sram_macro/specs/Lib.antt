@@ -5,3 +5,4 @@ pub mod Signals
 pub mod View
 pub mod Layout
 pub mod Macro
+pub mod Stated

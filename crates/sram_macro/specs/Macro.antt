@@ -1,6 +1,8 @@
 -- What a macro is that is assembled, and why there is none.
 use Rattle.std.specs.Prelude.{◌≡◌, ◌⊎◌, ◌↔◌, ℕ, ◌≤◌, pos, List, Contains, Some, None}
+use Rattle.std.specs.List.Sorted.{IsStrictlySortedBy}
 use Rattle.or_geom.specs.declared.shape.Shape.{Shape}
+use Rattle.or_geom.specs.ShapeOrder.{shape_order}
 use Rattle.gds_library.specs.Writable.{IsWritable}
 use Rattle.netlist.specs.declared.deck.Deck.{Deck}
 use Rattle.tech_rules.specs.declared.tech.Wire.{Wire}
@@ -16,7 +18,8 @@ use Rattle.sram_rows.specs.Rows.{AreLeavesFor}
 use Rattle.leaf_tables.specs.declared.kit.Kit.{Kit}
 use Rattle.leaf_tables.specs.declared.part.PartFault.{PartFault}
 use Rattle.port_lists.specs.Cells.{cell_in}
-use Rattle.port_data.specs.Column.{IsNarrowFault, AreWideSlices, IsColumnFault}
+use Rattle.port_data.specs.Column.{AreWideSlices}
+use Rattle.port_data.specs.DataPart.{IsDataRefused}
 use Rattle.macro_layout.specs.LayoutKit.{LayoutKit}
 use Rattle.macro_layout.specs.Wires.{IsPowerWire, IsGroundWire}
 use Rattle.macro_wires.specs.FloorplanNumbers.{floorplan_of}
@@ -24,7 +27,7 @@ use Rattle.macro_cells.specs.LayoutOfKit.{layout_kit}
 use Rattle.sram_macro.specs.declared.assembly.Macro.{Macro}
 use Rattle.sram_macro.specs.declared.layout.Layout.{Layout}
 use Rattle.sram_macro.specs.declared.library.Wires.{Wires}
-use Rattle.sram_macro.specs.Library.{macro_list, drawing_with}
+use Rattle.sram_macro.specs.Library.{macro_list, drawing_with, AreOnLayers}
 use Rattle.sram_macro.specs.Signals.{signal_names, input_count, signals_on_tracks, macro_labels}
 use Rattle.sram_macro.specs.View.{macro_view}
 use Rattle.sram_macro.specs.Names.{macro_names, first_taken, IsTakenFault}
@@ -34,9 +37,11 @@ use Rattle.sram_macro.specs.Layout.{IsColumnOf, IsMacroLayout, IsMacroLayoutFaul
 abbrev pub macro_deck : Kit → Plan → List ℕ → Deck
 macro_deck kit plan name = record { subckts = written_subckts (organization plan) (cell_in kit.tech.roles) name; used = 0 }
 
--- the wires of the macro's cells: a bank's, those of the main channel and of the supplies, and the labels
+-- the wires of the macro's cells, each once and in order: a bank's, those of the main channel and of the supplies; and the labels
 pub record AreWiresOf (plan : Organization) (kit : LayoutKit) (wire : Wire) (layout : Layout) (pins : List SignalPin) (wires : Wires) : Type 0 where
-  pub bank : wires.bank.items ≡ layout.bank.items
+  pub bank_rises : IsStrictlySortedBy shape_order wires.bank.items
+  pub bank : (s : Shape) → Contains wires.bank.items s ↔ Contains layout.bank.items s
+  pub top_rises : IsStrictlySortedBy shape_order wires.top.items
   pub top : (s : Shape) → Contains wires.top.items s
       ↔ (Contains layout.main.shapes s ⊎ (IsPowerWire plan kit wire (floorplan_of layout.floorplan) s ⊎ IsGroundWire plan kit wire (floorplan_of layout.floorplan) s))
   pub labels : wires.labels.items ≡ macro_labels wire layout.ends pins
@@ -51,6 +56,7 @@ pub record IsDrawnFrom (kit : Kit) (plan : Organization) (name : List ℕ) (layo
   pub wired : kit.tech.wire ≡ Some wire
   pub wires : Wires
   pub are : AreWiresOf plan (layout_kit kit) wire layout (layout_pins plan wire layout) wires
+  pub layers : AreOnLayers kit.tech.layers wires
   pub library : IsLibraryOf kit.tech.layers (macro_list kit plan name (drawing_with layout.floorplan wires)) name m.lib
   pub view : m.view ≡ macro_view kit.tech.layers name wire layout.ends (layout_pins plan wire layout)
   pub tracks : m.tracks ≡ layout.main.tracks
@@ -76,16 +82,10 @@ pub record IsMacro (kit : Kit) (plan : Plan) (name : List ℕ) (m : Macro) : Typ
   pub laid : IsLaidOut kit (organization plan) layout
   pub drawn : IsDrawnFrom kit (organization plan) name layout m
 
--- a slice is too narrow, or else pins of the column channel are too close
-abbrev pub IsDataFault : Kit → Organization → PartFault → Type 0
-IsDataFault kit plan fault =
-    IsNarrowFault plan (layout_kit kit) fault
-    ⊎ (AreWideSlices plan (layout_kit kit) × ((wire : Wire) → kit.tech.wire ≡ Some wire → IsColumnFault plan (layout_kit kit) wire fault))
-
--- that, or else taps of a bank or pins of the main channel are too close
+-- the data is refused, or else taps of a bank or pins of the main channel are too close
 abbrev pub IsPartsFault : Kit → Organization → PartFault → Type 0
 IsPartsFault kit plan fault =
-    IsDataFault kit plan fault
+    IsDataRefused kit plan fault
     ⊎ (AreWideSlices plan (layout_kit kit) × ((column : Routed) × IsColumnOf kit plan column × IsMacroLayoutFault kit plan column fault))
 
 -- Why there is no macro: the first name that is taken, or else the first fault of its parts.

@@ -1,5 +1,7 @@
-ghost use Rattle.std.specs.Prelude.{◌≡◌, ◌≤◌, pos, Some, None, IfOk, IfErr, IsTrue};
+ghost use Rattle.std.specs.Prelude.{◌≡◌, ◌≤◌, ◌↔◌, pos, Contains, Some, None, IfOk, IfErr, IsTrue};
 ghost use Rattle.std.specs.List.{AllByRecursion};
+ghost use Rattle.std.specs.List.Sorted.{IsStrictlySortedBy};
+ghost use Rattle.or_geom.specs.ShapeOrder.{shape_order};
 ghost use Rattle.gds_library.specs.Writable.{IsWritable};
 ghost use Rattle.cell_builder.specs.Finish.{IsLibraryOf};
 ghost use Rattle.leaf_tables.specs.Kits.{IsKit};
@@ -8,6 +10,7 @@ ghost use Rattle.sram_netlist.specs.Numbers.{ArePlanNumbers};
 ghost use Rattle.sram_plan.specs.Config.{is_output_name};
 ghost use Rattle.sram_plan.specs.PlanNumbers.{numbers_of, organization};
 ghost use Rattle.port_data.specs.Column.{AreWideSlices};
+ghost use Rattle.port_data.specs.DataPart.{IsDataRefused};
 ghost use Rattle.macro_cells.specs.LayoutOfKit.{layout_kit};
 ghost use Rattle.macro_wires.specs.Sides.{AreLeafSides, AreSidesOf};
 ghost use Rattle.macro_wires.specs.FloorplanNumbers.{IsNearFloorplan};
@@ -16,7 +19,7 @@ ghost use Rattle.sram_macro.specs.Names.{macro_names, first_taken};
 ghost use Rattle.sram_macro.specs.Signals.{signal_names, input_count, signals_on_tracks, IsWritablePin};
 ghost use Rattle.sram_macro.specs.Library.{macro_list, drawing_with, AreOnLayers};
 ghost use Rattle.sram_macro.specs.Layout.{IsMainRouted, IsColumnOf};
-ghost use Rattle.sram_macro.specs.Macro.{IsMacro, IsMacroFault, IsLaidOut, IsDataFault, AreWiresOf};
+ghost use Rattle.sram_macro.specs.Macro.{IsMacro, IsMacroFault, IsLaidOut, AreWiresOf};
 
 use crate::deck::macro_deck;
 use crate::layout::{Layout, lay_out, top_wires, wire_of};
@@ -33,7 +36,7 @@ use macro_bounds::{
 };
 use macro_wires::{FloorplanNumbers, LeafSides};
 use netlist::Deck;
-use or_geom::{Memory, Name};
+use or_geom::{Memory, Name, Shape, sort_distinct};
 use port_data::{channel, refuse_narrow_slices};
 use sram_plan::{Abstract, Plan, SignalPin};
 use std::alloc::Global;
@@ -85,6 +88,16 @@ fn inputs_of(plan: &Plan) -> usize
     3 + plan.masks as usize + plan.addr_bits as usize + plan.word_size as usize
 }
 
+/// The shapes in order, each once.
+fn in_order(shapes: Vec<Shape>) -> Vec<Shape>
+    ensures rises { IsStrictlySortedBy shape_order result.items }
+    ensures same { (s : Shape) → Contains result.items s ↔ Contains shapes.items s }
+{
+    let mut list = shapes;
+    sort_distinct(&mut list);
+    list
+}
+
 /// The wires of a bank, and the wires and labels of the macro.
 fn wires_of(
     alloc: Global,
@@ -118,7 +131,9 @@ fn wires_of(
         main,
     } = layout;
     let labels = macro_labels(alloc, wire, &ends, signals)?;
-    let top = top_wires(plan, wire, &sides, &floorplan, &ends, main)?;
+    let drawn = top_wires(plan, wire, &sides, &floorplan, &ends, main)?;
+    let bank = in_order(bank);
+    let top = in_order(drawn);
     Ok(Wires { bank, top, labels })
 }
 
@@ -187,7 +202,7 @@ fn column_of(alloc: Global, kit: &Kit, plan: &Plan) -> Result<Routed, PartFault>
     requires plan { ArePlanNumbers (numbers_of plan.now) }
     ensures wide { IfOk result (λ _. AreWideSlices (organization plan.now) (layout_kit kit.now)) }
     ensures column { IfOk result (IsColumnOf kit.now (organization plan.now)) }
-    ensures fault { IfErr result (IsDataFault kit.now (organization plan.now)) }
+    ensures fault { IfErr result (IsDataRefused kit.now (organization plan.now)) }
 {
     refuse_narrow_slices(alloc, kit, plan)?;
     channel(alloc, kit, plan)

@@ -4,6 +4,7 @@
 mod assembly;
 mod deck;
 mod extents;
+mod laws;
 mod layout;
 mod library;
 mod names;
@@ -11,3 +12,4 @@ mod signals;
 mod view;
 
 pub use assembly::{Macro, assemble};
+pub use laws::macros_are_stated;

@@ -1,5 +1,5 @@
 -- As the stated ends.
-use Rattle.std.proofs.Common.{◌≡◌, ◌≤◌, ◌≤ℤ◌, ℤ, pos, ◌*ℤ◌, ◌+ℤ◌, ◌∙◌, ap, sym, subst, arith, w64, to_z, of_z}
+use Rattle.std.proofs.Common.{ℤ, pos, ◌*ℤ◌, ◌+ℤ◌, ◌∙◌, ap, sym, subst, arith}
 use Rattle.std.proofs.lemmas.Int.{ints}
 use Rattle.tech_rules.specs.Drawing.{pitch}
 use Rattle.sram_plan.specs.PlanNumbers.{numbers_of, organization}

@@ -1,5 +1,5 @@
 -- The macro on its floorplan.
-use Rattle.std.proofs.Common.{◌≡◌, ℕ, Some, Result, IfOk, IfErr, inr, sym, subst, ◌∙◌}
+use Rattle.std.proofs.Common.{◌≡◌, ℕ, Result, IfOk, IfErr, inl, inr, sym, subst, ◌∙◌}
 use Rattle.std.proofs.lemmas.Option.{same_Some}
 use Rattle.std.proofs.lemmas.Result.{err_from_is_err_and}
 use Rattle.tech_rules.specs.declared.route.RouteFault.{RouteFault}
@@ -10,8 +10,9 @@ use Rattle.sram_plan.specs.PlanNumbers.{organization}
 use Rattle.macro_cells.specs.LayoutOfKit.{layout_kit}
 use Rattle.macro_layout.specs.Floorplan.{IsFloorplan}
 use Rattle.macro_wires.specs.FloorplanNumbers.{floorplan_of}
+use Rattle.bank_layout.specs.BankTaps.{IsBankFault}
 use Rattle.bank_layout.specs.Near.{IsBankGiven}
-use Rattle.sram_macro.proofs.LayoutLaws.{column_near}
+use Rattle.sram_macro.proofs.LayoutLaws.{column_near, some_floorplan}
 use Rattle.sram_macro.proofs.layout.lay_out.Goals as goal
 
 pub bank_wires-requires-clause-given : goal.bank_wires-requires-clause-given
@@ -27,6 +28,27 @@ bank_wires-requires-clause-given c = λ wire wired.
 pub route_main-main-requires-clause-stands : goal.route_main-main-requires-clause-stands
 route_main-main-requires-clause-stands c = (_, c.floorplan-begun.ensures.stated (layout_kit c.args.kit.now) c.in_ok-sides.ensures.of)
 
+pub returns-in_err-sides-clause-fault : goal.returns-in_err-sides-clause-fault
+returns-in_err-sides-clause-fault c =
+    let plan = organization c.args.plan.now in
+    let kit = layout_kit c.args.kit.now in
+    let here = c.wire_of-wire.result.now in
+    let track = c.args.column.now.track in
+    let p = err_from_is_err_and c.from_residual.result c.from_residual.ensures.1 in
+    let f = some_floorplan plan kit here (record { main = 0; column = c.args.column.now.tracks }) in
+    let is = subst (IsBankFault c.args.kit.now.leaves plan kit here f.0 track) (sym p.2) tt in
+    rw p.1 (here, c.wire_of-wire.ensures.is, inl (record { tracks = 0; floorplan = f.0; stands = f.1; is = is }))
+
+pub returns-in_err-bank-clause-fault : goal.returns-in_err-bank-clause-fault
+returns-in_err-bank-clause-fault c =
+    let plan = organization c.args.plan.now in
+    let kit = layout_kit c.args.kit.now in
+    let here = c.wire_of-wire.result.now in
+    let floorplan = floorplan_of c.floorplan-stands.result in
+    let p = err_from_is_err_and c.from_residual-in_err-bank.result c.from_residual-in_err-bank.ensures.1 in
+    let is = subst (IsBankFault c.args.kit.now.leaves plan kit here floorplan c.args.column.now.track) (sym p.2) (c.in_err-bank.ensures.fault here c.wire_of-wire.ensures.is) in
+    rw p.1 (here, c.wire_of-wire.ensures.is, inl (record { tracks = c.tracks_of.result; floorplan = floorplan; stands = c.floorplan-stands.ensures.stated kit c.in_ok-sides.ensures.of; is = is }))
+
 pub returns-in_err-main-clause-fault : goal.returns-in_err-main-clause-fault
 returns-in_err-main-clause-fault c =
     let plan = organization c.args.plan.now in
@@ -34,7 +56,7 @@ returns-in_err-main-clause-fault c =
     let here = c.wire_of-wire.result.now in
     let p = err_from_is_err_and c.from_residual-in_err-main.result c.from_residual-in_err-main.ensures.1 in
     let is : IsMainFault plan kit here c.in_err-main.field-0.0 = subst (λ (r : Result Routed RouteFault). IfErr r (IsMainFault plan kit here)) c.in_err-main.was c.route_main-main.ensures.fault in
-    rw p.1 (here, c.wire_of-wire.ensures.is, inr (record { route = c.in_err-main.field-0.0; is = is; same = p.2 }))
+    rw p.1 (here, c.wire_of-wire.ensures.is, inr (record { tracks = c.tracks_of.result; floorplan = floorplan_of c.floorplan-stands.result; stands = c.floorplan-stands.ensures.stated kit c.in_ok-sides.ensures.of; apart = c.in_ok-bank.ensures.apart here c.wire_of-wire.ensures.is; route = c.in_err-main.field-0.0; is = is; same = p.2 }))
 
 pub returns-clause-layout : goal.returns-clause-layout
 returns-clause-layout c =
@@ -56,6 +78,7 @@ returns-clause-layout c =
       power = c.extents_of.ensures.power;
       ground = c.extents_of.ensures.ground;
       bank_wires = c.in_ok-bank.ensures.stated here c.wire_of-wire.ensures.is (c.requires.column.stated here (floorplan_of c.floorplan-stands.result) c.wire_of-wire.ensures.is (record { row_x = on.row_x; sense_y = on.sense_y }));
+      taps_apart = c.in_ok-bank.ensures.apart here c.wire_of-wire.ensures.is;
       bank = λ s there. c.in_ok-bank.ensures.near here c.wire_of-wire.ensures.is s there;
       main = subst (λ (r : Result Routed RouteFault). IfOk r (IsMainRouted plan kit here)) c.in_ok-main.was c.route_main-main.ensures.routed;
     }

@@ -1,7 +1,4 @@
 -- The main channel, routed.
-use Rattle.std.proofs.Common.{◌≡◌, ◌≤◌, arith}
-use Rattle.channel_router.specs.declared.channel.Routed.{Routed}
-use Rattle.channel_router.specs.declared.channel.Interval.{Interval}
 use Rattle.tech_rules.specs.declared.route.RouteFault.{RouteFault}
 use Rattle.sram_plan.specs.PlanNumbers.{organization}
 use Rattle.macro_cells.specs.LayoutOfKit.{layout_kit}
@@ -15,6 +12,7 @@ returns-clause-routed c =
     let kit = layout_kit c.args.kit.now in
     let wire = c.args.wire.now in
     let is : IsMainOf plan kit wire c.in_ok-channel.channel = record {
+      formula = λ tracks floorplan stands. c.in_ok-channel.ensures.formula wire floorplan c.requires.wired (stands_across plan kit wire c.requires.stands.0 tracks c.args.floorplan.now floorplan c.requires.stands.1 stands);
       stated = λ tracks floorplan stands. c.in_ok-channel.ensures.stated wire floorplan c.requires.wired (stands_across plan kit wire c.requires.stands.0 tracks c.args.floorplan.now floorplan c.requires.stands.1 stands);
       near = c.in_ok-channel.ensures.near;
       nets = c.in_ok-channel.ensures.nets;
@@ -29,6 +27,7 @@ returns-clause-fault c =
     let kit = layout_kit c.args.kit.now in
     let wire = c.args.wire.now in
     let is : IsMainOf plan kit wire c.in_ok-channel.channel = record {
+      formula = λ tracks floorplan stands. c.in_ok-channel.ensures.formula wire floorplan c.requires.wired (stands_across plan kit wire c.requires.stands.0 tracks c.args.floorplan.now floorplan c.requires.stands.1 stands);
       stated = λ tracks floorplan stands. c.in_ok-channel.ensures.stated wire floorplan c.requires.wired (stands_across plan kit wire c.requires.stands.0 tracks c.args.floorplan.now floorplan c.requires.stands.1 stands);
       near = c.in_ok-channel.ensures.near;
       nets = c.in_ok-channel.ensures.nets;

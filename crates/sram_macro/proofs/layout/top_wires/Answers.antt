@@ -1,5 +1,5 @@
 -- The supplies are added.
-use Rattle.std.proofs.Common.{◌≡◌, ◌∙◌, arith}
+use Rattle.std.proofs.Common.{◌∙◌, arith}
 use Rattle.sram_plan.specs.PlanNumbers.{organization}
 use Rattle.macro_layout.specs.Wires.{IsPowerWire, IsGroundWire}
 use Rattle.macro_wires.specs.FloorplanNumbers.{floorplan_of}

@@ -1,16 +1,15 @@
 -- Three cells more, and the library of all.
-use Rattle.std.proofs.Common.{◌≡◌, ℕ, List, [], ◌∷◌, ◌++◌, refl, ap, subst, sym, ◌∙◌}
+use Rattle.std.proofs.Common.{[], ◌∷◌, ◌++◌, ap, subst, sym, ◌∙◌}
 use Rattle.std.specs.List.{AllByRecursion}
 use Rattle.cell_builder.specs.CellList.{CellList}
 use Rattle.cell_builder.specs.Flat.{HasLayers}
 use Rattle.cell_builder.specs.Finish.{IsLibraryOf}
-use Rattle.cell_builder.specs.declared.cell.DrawnCell.{DrawnCell}
 use Rattle.sram_plan.specs.PlanNumbers.{organization}
 use Rattle.macro_cells.specs.LayoutOfKit.{layout_kit}
 use Rattle.macro_layout.specs.Cells.{bank_cell, logic_row_cell, macro_cell}
 use Rattle.macro_wires.specs.FloorplanNumbers.{floorplan_of}
 use Rattle.sram_macro.specs.Library.{part_cells, macro_list, drawing_with}
-use Rattle.sram_macro.proofs.LibraryLaws.{one_more, still_adopted, now_adopted, same_cells, list_is, on_layers}
+use Rattle.sram_macro.proofs.LibraryLaws.{one_more, still_adopted, now_adopted, list_is, on_layers}
 use Rattle.sram_macro.proofs.library.library.Goals as goal
 
 pub finish-requires : goal.finish-requires

@@ -1,8 +1,7 @@
 -- A name more.
-use Rattle.std.proofs.Common.{◌≡◌, true, false, ap, sym, ◌∙◌}
+use Rattle.std.proofs.Common.{◌≡◌, false, ap, sym, ◌∙◌}
 use Rattle.sram_macro.specs.Names.{is_taken, first_taken}
-use Rattle.sram_macro.proofs.NameLaws.{taken_first, free_first, none_left}
-use Rattle.std.proofs.lemmas.List.{nil_from_length}
+use Rattle.sram_macro.proofs.NameLaws.{free_first}
 use Rattle.sram_macro.proofs.names.refuse_taken_names.Goals as goal
 
 pub loop-first-init : goal.loop-first-init

@@ -1,5 +1,5 @@
 -- A label more.
-use Rattle.std.proofs.Common.{◌≡◌, ap, sym, ◌++◌, [], map, append-nil, ◌∙◌}
+use Rattle.std.proofs.Common.{ap, sym, ◌++◌, map, append-nil, ◌∙◌}
 use Rattle.std.proofs.lemmas.List.{nil_from_length}
 use Rattle.cell_builder.specs.declared.cell.PlacedLabel.{PlacedLabel}
 use Rattle.sram_plan.specs.declared.view.SignalPin.{SignalPin}

@@ -1,5 +1,5 @@
 -- A port more.
-use Rattle.std.proofs.Common.{◌≡◌, ℕ, pos, [], length, ap, ◌∙◌, arith}
+use Rattle.std.proofs.Common.{ℕ, pos, [], length, ap, ◌∙◌, arith}
 use Rattle.std.specs.Prelude.{nat_le, nat_eq}
 use Rattle.channel_router.specs.Wires.{track_y}
 use Rattle.sram_macro.specs.Signals.{signal_pin}

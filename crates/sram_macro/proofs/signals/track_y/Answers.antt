@@ -1,6 +1,5 @@
 -- A product and a sum.
 use Rattle.std.proofs.Common.{ℤ, pos, ◌+ℤ◌, ◌*ℤ◌, ap, ◌∙◌, arith}
-use Rattle.std.proofs.lemmas.Int.{ints}
 use Rattle.sram_macro.proofs.ExtentLaws.{kept}
 use Rattle.sram_macro.proofs.SignalLaws.{track_at_y, track_near}
 use Rattle.sram_macro.proofs.signals.track_y.Goals as goal

@@ -1,10 +1,8 @@
 -- A name more.
-use Rattle.std.proofs.Common.{◌≡◌, ◌<◌, ◌++◌, ℕ, [], List, map, length, ap, sym, subst, append-nil, ◌∙◌}
+use Rattle.std.proofs.Common.{◌<◌, ℕ, [], map, length, subst}
 use Rattle.std.specs.Prelude.{slice_index_or}
 use Rattle.std.specs.List.{AllByRecursion}
-use Rattle.std.proofs.lemmas.List.{nil_from_length}
 use Rattle.tech_rules.specs.declared.tech.Layer.{Layer}
-use Rattle.sram_macro.specs.View.{layer_names}
 use Rattle.sram_macro.proofs.SignalLaws.{more_mapped}
 use Rattle.sram_macro.proofs.view.layer_names.Goals as goal
 

@@ -1,5 +1,5 @@
 -- The numbers as they are read.
-use Rattle.std.proofs.Common.{◌≡◌, ◌∙◌, arith}
+use Rattle.std.proofs.Common.{◌∙◌, arith}
 use Rattle.sram_macro.proofs.ExtentLaws.{kept, size_kept, sum_kept}
 use Rattle.sram_macro.proofs.view.macro_view.Goals as goal
 
