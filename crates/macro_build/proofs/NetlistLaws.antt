@@ -1,6 +1,7 @@
 -- The macro's subcircuits behind those of the kit are its netlist, and can be written and read.
 use Rattle.std.proofs.Common.{◌≡◌, ◌⊎◌, inl, inr, ℕ, suc, ◌-◌, ◌≤◌, ◌<◌, ◌^◌, List, [], ◌∷◌, ◌++◌, length, Bool, true, false, cond, Some, Result, Ok, refl, sym, ap, subst, ◌∙◌, arith}
-use Rattle.std.specs.Prelude.{IsTrue, ◌&&◌, ◌||◌, not, nat_le, nat_eq, slice_get}
+use Rattle.std.specs.Prelude.{IsTrue, ◌&&◌, ◌||◌, not, nat_le, nat_eq, slice_get, slice_index}
+use Rattle.std.proofs.lemmas.Option.{same_Some}
 use Rattle.std.specs.List.{AllByRecursion, list_all}
 use Rattle.std.specs.Str.{bytes_eq}
 use Rattle.std.proofs.lemmas.Bool.{leb-true, eqb-true}
@@ -14,6 +15,7 @@ use Rattle.spice_text.specs.Deck.{deck}
 use Rattle.spice_text.specs.Appended.{appended, with_lf}
 use Rattle.spice_text.specs.Writable.{IsName, IsNameByte, AreWritable}
 use Rattle.tech_rules.specs.declared.tech.RoleName.{RoleName}
+use Rattle.tech_rules.specs.declared.tech.Wire.{Wire}
 use Rattle.tech_rules.specs.Roles.{is_cell_byte, is_cell_name}
 use Rattle.cell_roles.specs.declared.role.Role.{Role}
 use Rattle.cell_roles.specs.Roles.{role_name}
@@ -29,8 +31,10 @@ use Rattle.leaf_tables.specs.Kits.{IsKit}
 use Rattle.port_lists.specs.Cells.{cell_in}
 use Rattle.sram_macro.specs.declared.assembly.Macro.{Macro}
 use Rattle.sram_macro.specs.Macro.{IsMacro}
+use Rattle.sram_macro.specs.Stated.{MacrosAreStated}
+use Rattle.view_cover.specs.Cover.{LefCoversLayout}
 use Rattle.macro_build.specs.Built.{all_subckts, IsSoundMacro}
-use Rattle.macro_build.specs.Written.{read_subckts, IsReadInLowerCase, IsReferenceNetlist, SpellSoundLayout}
+use Rattle.macro_build.specs.Written.{read_subckts, IsReadInLowerCase, IsReferenceNetlist, SpellCoveredLayout, SpellSoundLayout}
 
 one_ok : {E : Type 0} (a b : Deck) (given : Result Deck E) → given ≡ Ok a → given ≡ Ok b → a ≡ b
 one_ok a b given e f = cc
@@ -132,16 +136,17 @@ read_netlist law kit plan name m text numbers is read d given =
 
 -- Layouts
 
--- what the bytes spell is flat as the macro that was checked
-pub spells_sound : WritingKeepsFlat → RowsEqualNetlist → (kit : Kit) (plan : Plan) (name : List ℕ) (m : Macro) (bytes : List ℕ) → ArePlanNumbers (numbers_of plan) → IsSoundMacro kit plan name m
+-- what the bytes spell is flat as the macro that was checked, which is the stated layout
+pub spells_sound : WritingKeepsFlat → MacrosAreStated → RowsEqualNetlist → (kit : Kit) (plan : Plan) (name : List ℕ) (m : Macro) (bytes : List ℕ) → IsKit kit → ArePlanNumbers (numbers_of plan) → IsSoundMacro kit plan name m
     → length bytes ≤ 2 ^ 64 → Spells bytes (turned_library m.lib) → SpellSoundLayout kit plan name bytes
-spells_sound keeps law kit plan name m bytes numbers s few spelled = record {
+spells_sound keeps stated law kit plan name m bytes is_kit numbers s few spelled = record {
   some = (turned_library m.lib, spelled);
   each = λ lib is.
       let same = keeps kit.tech.layers m.lib lib bytes name s.clean.is.writable few spelled is in
       record {
         lists = s.lists;
         flat = (same.lists s.lists).1 s.clean.flat;
+        stated = (stated kit plan name m is_kit numbers s.clean.is s.lists s.clean.flat).stated;
         clean = s.clean.reported;
         labels = s.labels;
         nets = s.are.nets;
@@ -150,6 +155,17 @@ spells_sound keeps law kit plan name m bytes numbers s few spelled = record {
         alike = s.alike;
       };
 }
+
+-- and the boxes of its view cover it
+pub spells_covered : WritingKeepsFlat → MacrosAreStated → LefCoversLayout → (kit : Kit) (plan : Plan) (name : List ℕ) (m : Macro) (bytes : List ℕ) → IsKit kit → ArePlanNumbers (numbers_of plan) → IsMacro kit plan name m
+    → length bytes ≤ 2 ^ 64 → Spells bytes (turned_library m.lib) → SpellCoveredLayout kit name m.view bytes
+spells_covered keeps stated covers kit plan name m bytes is_kit numbers is few spelled lib lists read flat wire metal s wired below on there =
+    let same = keeps kit.tech.layers m.lib lib bytes name is.writable few spelled read in
+    let viewed = stated kit plan name m is_kit numbers is lists ((same.lists lists).0 flat) in
+    let at = viewed.stated in
+    let one = same_Some wire at.wire (sym wired ∙ at.wired) in
+    covers kit at.wire (organization plan) at.tracks at.floorplan m.view is_kit at.wired viewed.wide at.stands viewed.view_of metal s below
+    (subst (λ (w : Wire). s.layer ≡ slice_index w.metals metal) one on) ((at.are.shapes s).0 there)
 
 -- Ends of lines
 

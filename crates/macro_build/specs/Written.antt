@@ -1,5 +1,6 @@
 -- What the files of a macro say to whoever reads them.
-use Rattle.std.specs.Prelude.{◌≡◌, ℕ, List, [], ◌++◌, map, length, Ok}
+use Rattle.std.specs.Prelude.{◌≡◌, ℕ, ◌<◌, List, [], ◌++◌, map, length, slice_index, Contains, Some, Ok}
+use Rattle.or_geom.specs.declared.shape.Shape.{Shape}
 use Rattle.gds_library.specs.declared.library.Library.{Library}
 use Rattle.gds_library.specs.declared.library.Structure.{Structure}
 use Rattle.gds_library.specs.Grammar.{Spells}
@@ -18,8 +19,12 @@ use Rattle.sram_deck.specs.Deck.{written_subckts}
 use Rattle.sram_rows.specs.Rows.{netlist_pins, RowsEqual, DeckIsNetlist}
 use Rattle.sram_plan.specs.declared.numbers.Plan.{Plan}
 use Rattle.sram_plan.specs.PlanNumbers.{organization}
+use Rattle.sram_plan.specs.declared.view.Abstract.{Abstract}
+use Rattle.tech_rules.specs.declared.tech.Wire.{Wire}
+use Rattle.macro_views.specs.Boxes.{IsCoveredOn}
 use Rattle.port_lists.specs.Cells.{cell_in}
 use Rattle.leaf_tables.specs.declared.kit.Kit.{Kit}
+use Rattle.sram_macro.specs.Stated.{IsStatedLayout}
 
 -- the subcircuits of the kit, and behind them the macro's with names in lower case
 abbrev pub read_subckts : Kit → Plan → List ℕ → List Subckt
@@ -33,10 +38,19 @@ IsReadInLowerCase kit plan name text = deck text ≡ Ok (record { subckts = read
 abbrev pub IsReferenceNetlist : Kit → Plan → List ℕ → List ℕ → Type 0
 IsReferenceNetlist kit plan name text = (d : Deck) → deck text ≡ Ok d → DeckIsNetlist (organization plan) (cell_in kit.tech.roles) d.subckts name
 
--- The structure of this name is flat, breaks no rule, and its labels are joined exactly as the reference netlist says.
+-- each of the shapes on a metal lies in the boxes of the view's LEF on this metal
+abbrev pub AreCoveredBy : Kit → Abstract → List Shape → Type 0
+AreCoveredBy kit view shapes = (wire : Wire) (metal : ℕ) (s : Shape) → kit.tech.wire ≡ Some wire → metal < 4 → s.layer ≡ slice_index wire.metals metal → Contains shapes s → IsCoveredOn view metal s.rect
+
+-- whichever library the bytes spell, the flat shapes of the structure of this name do
+abbrev pub SpellCoveredLayout : Kit → List ℕ → Abstract → List ℕ → Type 0
+SpellCoveredLayout kit name view bytes = (lib : Library) (lists : FlatLists) → Spells bytes lib → AreFlatLists kit.tech.layers lib.structs name lists → AreCoveredBy kit view lists.shapes
+
+-- The structure of this name is, flat, the stated layout; that breaks no rule, and its labels are joined exactly as the reference netlist says.
 pub record IsSoundLayout (kit : Kit) (plan : Plan) (name : List ℕ) (structs : List Structure) : Type 0 where
   pub lists : FlatLists
   pub flat : AreFlatLists kit.tech.layers structs name lists
+  pub stated : IsStatedLayout kit (organization plan) lists
   pub clean : IsReport kit.tech.rules lists.shapes []
   pub labels : List NetLabel
   pub nets : AreNets kit.tech lists.shapes lists.labels labels

@@ -8,7 +8,7 @@ ghost use Rattle.sram_plan.specs.PlanNumbers.{numbers_of, organization};
 ghost use Rattle.sram_macro.specs.Macro.{IsMacro};
 ghost use Rattle.macro_build.specs.Built.{IsBuilt, IsSoundMacro};
 ghost use Rattle.macro_build.specs.Memory.{IsMemory};
-ghost use Rattle.macro_build.specs.Written.{IsReadInLowerCase, IsReferenceNetlist, SpellSoundLayout};
+ghost use Rattle.macro_build.specs.Written.{IsReadInLowerCase, IsReferenceNetlist, SpellCoveredLayout, SpellSoundLayout};
 
 use crate::built::Built;
 use crate::counts::leaf_count;
@@ -18,12 +18,13 @@ use macro_views::{lef_text, verilog_text};
 use memory_laws::{runs_answer_numbers, runs_exist, runs_obey};
 use or_geom::{Memory, Name};
 use spice_text::write_spice;
-use sram_macro::Macro;
+use sram_macro::{Macro, macros_are_stated};
 use sram_plan::Plan;
 use sram_rows::{
     cells_are_names, rows_equal_netlist, written_subckts_are_read, written_subckts_are_writable,
 };
 use std::alloc::Global;
+use view_cover::lef_covers_layout;
 use written_layout::writing_keeps_flat;
 
 /// The bytes of the kit's netlist before its `.END`.
@@ -112,14 +113,19 @@ fn gds_bytes(
     _name: &Name,
     made: &Macro,
 ) -> Result<Vec<u8>, Memory>
+    requires kit { IsKit _kit.now }
     requires plan { ArePlanNumbers (numbers_of _plan.now) }
     requires sound { IsSoundMacro _kit.now _plan.now _name.now made.now }
     ensures bytes { IfOk result (λ bytes. bytes.items ≡ canonical made.now.lib) }
     ensures layout { IfOk result (λ bytes. SpellSoundLayout _kit.now _plan.now _name.now bytes.items) }
+    ensures covered { IfOk result (λ bytes. SpellCoveredLayout _kit.now _name.now made.now.view bytes.items) }
 {
     // These calls do nothing when the program runs: their contracts are the laws that what is written is flat as what was
-    // checked, and that its rows are those of the reference netlist.
+    // checked, that this is the stated layout, which the boxes of the LEF cover, and that its rows are those of the reference
+    // netlist.
     writing_keeps_flat();
+    macros_are_stated();
+    lef_covers_layout();
     rows_equal_netlist();
     Ok(write_gds(alloc, &made.lib)?)
 }

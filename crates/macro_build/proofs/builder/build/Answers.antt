@@ -11,3 +11,19 @@ returns-in_err-made-clause-fault g c =
     let name = c.args.name.now in
     let p = err_from_is_err_and c.from_residual.result c.from_residual.ensures.1 in
     rw p.1 (subst (IsBuildFault kit plan name) (sym p.2) (part_cause kit plan name c.in_err-made.field-0.0 c.in_err-made.ensures.fault))
+
+pub returns-in_err-check_sound-clause-fault : goal.returns-in_err-check_sound-clause-fault
+returns-in_err-check_sound-clause-fault g c =
+    let kit = c.args.kit.now in
+    let plan = c.args.plan.now in
+    let name = c.args.name.now in
+    let p = err_from_is_err_and c.from_residual-in_err-check_sound.result c.from_residual-in_err-check_sound.ensures.1 in
+    rw p.1 (subst (IsBuildFault kit plan name) (sym p.2) c.in_err-check_sound.ensures.fault)
+
+pub returns-in_err-views-clause-fault : goal.returns-in_err-views-clause-fault
+returns-in_err-views-clause-fault g c =
+    let kit = c.args.kit.now in
+    let plan = c.args.plan.now in
+    let name = c.args.name.now in
+    let p = err_from_is_err_and c.from_residual-in_err-views.result c.from_residual-in_err-views.ensures.1 in
+    rw p.1 (subst (IsBuildFault kit plan name) (sym p.2) tt)
