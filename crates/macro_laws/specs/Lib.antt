@@ -1,0 +1,2 @@
+pub mod OneMacro
+pub mod OneBuild
