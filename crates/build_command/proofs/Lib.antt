@@ -4,4 +4,4 @@ mod WriteLaws
 mod RunLaws
 mod NameLaws
 pub mod OneDesignLaws
-pub mod ToldRefusalLaws
+pub mod OneWorkLaws

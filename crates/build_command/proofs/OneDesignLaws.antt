@@ -25,10 +25,10 @@ use Rattle.reply_lines.specs.declared.refusal.Refusal.TheVariants as refusal_of
 use Rattle.command_steps.specs.File.{IsFile, IsTechnologyFile}
 use Rattle.command_steps.specs.Once.{IsLow, IsOnce}
 use Rattle.command_steps.specs.Outcome.{WithoutRefusal}
-use Rattle.command_steps.proofs.OnceLaws.{gds_lasts, no_value, on_fault, on_file, on_gives, on_tech_file, on_then, on_value, one_refusal}
+use Rattle.command_steps.proofs.OnceLaws.{gds_lasts, on_fault, on_file, on_gives, on_tech_file, on_then, on_value}
 use Rattle.build_command.specs.declared.design.Design.{Design}
 use Rattle.build_command.specs.Design.{IsConfigFile, IsConfiguration, IsDesign, IsDesignOf, IsDesignWith, IsKitOrFault, IsKitOver, IsKitUnder, IsKitWith, IsLeafLayout, IsLeafLayoutFile, IsPlanned}
-use Rattle.build_command.specs.OneDesign.{DesignsAreOne, HoldBytes, RefusedDesignsAreNotMade}
+use Rattle.build_command.specs.OneDesign.{DesignsAreOne, HoldBytes}
 
 -- a refusal of a kit that is neither a failed read nor want of memory is no want of memory below
 kit_lasts : (f : KitFault) → IsLow (refusal_of.Kit f) → f ≢ kit_fault.Memory
@@ -95,8 +95,3 @@ module _ (files : Files) (hold : HoldBytes files) where
 
 pub designs_are_one : DesignsAreOne
 designs_are_one files name hold = on_design files hold name
-
-pub refused_designs_are_not_made : RefusedDesignsAreNotMade
-refused_designs_are_not_made files name refusal (Ok made) hold low decided refused work = absurd (no_value (IsDesign files name) (on_design files hold name) work.0 refusal work.1 low refused)
-refused_designs_are_not_made files name refusal (Err other) hold low decided refused (inl first) = ap (λ (r : Refusal). Err r) (one_refusal (IsDesign files name) (on_design files hold name) other refusal decided low first refused)
-refused_designs_are_not_made files name refusal (Err other) hold low decided refused (inr later) = absurd (no_value (IsDesign files name) (on_design files hold name) later.0 refusal later.1 low refused)

@@ -1,11 +1,11 @@
 -- Steps that read nothing, before or after those that read.
-use Rattle.std.proofs.Common.{◌≡◌, ℕ, Bool, true, false, Result, Ok, Err, ◌<◌, refl, sym, ap, inl, ◌∙◌, arith}
-use Rattle.or_host.specs.Fault.{HasCause}
+use Rattle.std.proofs.Common.{◌≡◌, ℕ, List, Bool, true, false, Option, Result, Ok, Err, ◌<◌, refl, sym, ap, subst, inl, ◌∙◌, arith}
+use Rattle.or_host.specs.Fault.{HasCause, NamesLast}
 use Rattle.or_host.specs.Files.{Files}
 use Rattle.reply_lines.specs.Statuses.{is_memory, is_read_failure, is_usage}
 use Rattle.reply_lines.specs.declared.refusal.Refusal.{Refusal}
 use Rattle.reply_lines.specs.declared.refusal.Refusal.TheVariants.{Memory}
-use Rattle.command_steps.proofs.OutcomeLaws.{told_all, told_map, then_on}
+use Rattle.command_steps.proofs.OutcomeLaws.{told_all, told_map, then_on, no_name}
 use Rattle.command_steps.specs.Outcome.{Then, UnlessMemory}
 use Rattle.command_steps.specs.Outside.{StoreState}
 use Rattle.command_steps.specs.Reading.{HasRead}
@@ -17,6 +17,7 @@ step_on {X} {Y} P Q x result before now p q = record {
   told = told_map before.files (λ files. UnlessMemory (Q files x) result) (λ files. UnlessMemory (Then P (Q files)) result) (λ files is. then_on P (Q files) x result p is) q.told;
   same = q.same;
   cause = q.cause;
+  named = q.named;
 }
 
 -- no fault
@@ -35,6 +36,7 @@ step_ends {X} {Y} P Q refusal store p none = record {
   told = told_all store.files (λ files. UnlessMemory (Then P (Q files)) (Err refusal)) (λ files lasts. inl (p lasts));
   same = refl;
   cause = kept_cause store.faults store.faults (is_read_failure refusal) refl none;
+  named = subst (λ (name : Option (List ℕ)). NamesLast name store.failed store.failed) (sym (no_name refusal none)) refl;
 }
 
 -- a store that counts no faults fails no read

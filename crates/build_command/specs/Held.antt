@@ -34,8 +34,9 @@ pub record HoldViews (name : List ℕ) (built : Built) (files : Files) : Type 0 
   pub abstract : files (name ++ codes ".lef") ≡ Some built.lef.items
   pub behaviour : files (name ++ codes ".v") ≡ Some built.verilog.items
 
--- The files at the end hold the memory that those at the start ask for: the views of a design that was built. Its layout breaks no rule
--- and is joined exactly as its netlist says, and that netlist answers every list of reads and writes as an array of words.
+-- The files at the end hold the memory that those at the start ask for: the views of a design that was built. Its layout is the stated
+-- one, breaks no rule and is joined exactly as its netlist says, and that netlist answers every list of reads and writes as an array of
+-- words.
 pub record IsMemoryHeld (m : Making) (before now : Files) : Type 0 where
   pub design : Design
   pub is_design : IsDesign (files_seen m before) (config_name m) (Ok design)

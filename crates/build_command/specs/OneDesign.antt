@@ -1,19 +1,20 @@
--- That files ask for one design, or are refused in one way.
-use Rattle.std.specs.Prelude.{◌≡◌, ℕ, ◌<◌, List, Some, Result, Err}
+-- That files ask for one design, which is made in one way, or are refused in one way.
+use Rattle.std.specs.Prelude.{◌≡◌, ℕ, ◌<◌, List, ◌++◌, Some, Result, Ok, Err}
 use Rattle.gds_records.specs.Bytes.{AreBytes}
-use Rattle.or_host.specs.Files.{Files}
+use Rattle.or_host.specs.Files.{Files, Told}
 use Rattle.or_host.specs.Text.{Grows}
-use Rattle.reply_lines.specs.Lines.{reply_line}
+use Rattle.reply_lines.specs.Lines.{lines_text, reply_line}
 use Rattle.reply_lines.specs.Refusals.{refusal_words}
 use Rattle.reply_lines.specs.declared.refusal.Refusal.{Refusal}
 use Rattle.command_steps.specs.Once.{IsDecided, IsLow, IsOnce}
 use Rattle.command_steps.specs.Outside.{IfTold, Outside}
 use Rattle.command_steps.specs.Printed.{IsWholeText}
+use Rattle.command_steps.specs.Writing.{AreWritten}
 use Rattle.build_command.specs.declared.made.Made.{Made}
 use Rattle.build_command.specs.Design.{IsDesign}
 use Rattle.build_command.specs.Made.{IsWork}
-use Rattle.build_command.specs.Held.{config_name, files_seen}
-use Rattle.build_command.specs.Run.{IsMakingRun}
+use Rattle.build_command.specs.Held.{config_name, files_seen, first_files}
+use Rattle.build_command.specs.Run.{IsMakingRun, IsMakingWork}
 use Rattle.build_command.specs.Words.{Making}
 
 -- what stands in the files is bytes
@@ -24,21 +25,32 @@ HoldBytes files = (name bytes : List ℕ) → files name ≡ Some bytes → AreB
 abbrev pub DesignsAreOne : Type 0
 DesignsAreOne = (files : Files) (name : List ℕ) → HoldBytes files → IsOnce (IsDesign files name)
 
--- where it is refused, the work on it has this outcome and no other
-abbrev pub RefusedDesignsAreNotMade : Type 0
-RefusedDesignsAreNotMade = (files : Files) (name : List ℕ) (refusal : Refusal) (result : Result Made Refusal) → HoldBytes files → IsLow refusal → IsDecided result
-    → IsDesign files name (Err refusal) → IsWork files name result → result ≡ Err refusal
+-- what is asked for is made in one way, or refused in one way
+abbrev pub WorksAreOne : Type 0
+WorksAreOne = (files : Files) (name : List ℕ) → HoldBytes files → IsOnce (IsWork files name)
 
--- status 3, and the line of the refusal
-pub record EndsRefused (refusal : Refusal) (status : ℕ) (before now : Outside) : Type 0 where
+-- status 0, the files with the views put under their names, and the line
+pub record EndsMade (m : Making) (made : Made) (status : ℕ) (before now : Outside) : Type 0 where
+  pub is : status ≡ 0
+  pub files : Told (AreWritten (first_files m ++ made.views)) before.store.files now.store.files
+  pub printed : Grows (IsWholeText (lines_text made.reply.lines)) before.sink.text now.sink.text
+
+-- status 3, no view written, and the line of the refusal
+pub record EndsRefused (m : Making) (refusal : Refusal) (status : ℕ) (before now : Outside) : Type 0 where
   pub is : status ≡ 3
+  pub files : Told (AreWritten (first_files m)) before.store.files now.store.files
   pub printed : Grows (IsWholeText (reply_line (refusal_words refusal))) before.sink.text now.sink.text
 
--- Over told files of bytes: where configuration, plan or kit are refused, a status below 4 is 3, and this refusal's line is printed.
-abbrev pub TellsRefusal : Making → ℕ → Outside → Outside → Type 0
-TellsRefusal m status before now = (refusal : Refusal) → IsLow refusal → status < 4
-    → IfTold before.store.files (λ files. HoldBytes (files_seen m files) → IsDesign (files_seen m files) (config_name m) (Err refusal) → EndsRefused refusal status before now)
+abbrev pub EndsWith : Making → ℕ → Outside → Outside → Result Made Refusal → Type 0
+EndsWith m status before now (Ok made) = EndsMade m made status before now
+EndsWith m status before now (Err refusal) = EndsRefused m refusal status before now
+
+-- Over told files of bytes: whatever the work on them ends with, failed reads and want of memory aside, a status below 4, the files at
+-- the end and the printed line are those of it.
+abbrev pub TellsWork : Making → ℕ → Outside → Outside → Type 0
+TellsWork m status before now = (result : Result Made Refusal) → IsDecided result → status < 4
+    → IfTold before.store.files (λ files. HoldBytes (files_seen m files) → IsMakingWork m files result → EndsWith m status before now result)
 
 -- each run of a build or a demonstration does so
-abbrev pub RefusalsAreTold : Type 0
-RefusalsAreTold = (m : Making) (status : ℕ) (before now : Outside) → IsMakingRun m status before now → TellsRefusal m status before now
+abbrev pub WorkIsTold : Type 0
+WorkIsTold = (m : Making) (status : ℕ) (before now : Outside) → IsMakingRun m status before now → TellsWork m status before now

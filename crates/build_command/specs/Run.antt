@@ -1,6 +1,6 @@
 -- How a build and a demonstration end: the status, and the outside before and after.
-use Rattle.std.specs.Prelude.{◌≡◌, ◌⊎◌, ℕ, ◌<◌, List, [], ◌++◌, false, Result, Ok, Err, codes}
-use Rattle.or_host.specs.Fault.{Rose, HasCause}
+use Rattle.std.specs.Prelude.{◌≡◌, ◌⊎◌, ℕ, ◌<◌, List, [], ◌++◌, length, false, Result, Ok, Err, codes}
+use Rattle.or_host.specs.Fault.{Rose, RoseBy, HasCause, NamesLast, name_if}
 use Rattle.or_host.specs.FileList.{files_of}
 use Rattle.or_host.specs.Files.{Files, Told}
 use Rattle.or_host.specs.Text.{Grows}
@@ -10,8 +10,8 @@ use Rattle.reply_lines.specs.Lines.{reply_line, lines_text}
 use Rattle.reply_lines.specs.Refusals.{refusal_words}
 use Rattle.reply_lines.specs.Statuses.{is_read_failure, is_usage, refusal_status}
 use Rattle.reply_lines.specs.declared.refusal.Refusal.{Refusal}
-use Rattle.command_steps.specs.Finished.{IsFinished, IsOutOfMemory, IsUnwrittenTold, IsRefusalTold}
-use Rattle.command_steps.specs.Outcome.{UnlessMemory}
+use Rattle.command_steps.specs.Finished.{IsFinished, IsOutOfMemory, IsUnwrittenTold, IsRefusalTold, IsFaultTold, unread_line, unwritten_line}
+use Rattle.command_steps.specs.Outcome.{UnlessMemory, unread_name}
 use Rattle.command_steps.specs.Outside.{Outside, StoreState, IfTold, outside_at}
 use Rattle.command_steps.specs.Printed.{IsWholeText}
 use Rattle.command_steps.specs.Writing.{AreWritten, EndsAt, is_write_failure}
@@ -32,12 +32,14 @@ pub record IsWriteCut (list : List MemFile) (status : ℕ) (before now : Outside
   pub fail : WriteFail
   pub files : Told (EndsAt list file fail) before.store.files now.store.files
   pub cause : HasCause before.store.faults now.store.faults (is_write_failure fail)
+  pub named : NamesLast (name_if (is_write_failure fail) file.name) before.store.failed now.store.failed
   pub told : IsUnwrittenTold file.name fail status before.sink now.sink
 
 -- all views are written, and the line is printed, or part of it
 pub record IsAllWritten (made : Made) (status : ℕ) (before now : Outside) : Type 0 where
   pub files : Told (AreWritten made.views) before.store.files now.store.files
   pub kept : now.store.faults ≡ before.store.faults
+  pub unnamed : now.store.failed ≡ before.store.failed
   pub told : IsFinished made.reply status before.sink now.sink
 
 -- the views are written one after another, and then the line is printed
@@ -68,6 +70,7 @@ pub record IsDemoAfter (list : List MemFile) (status : ℕ) (before now : Outsid
   pub mid : StoreState
   pub written : Told (AreWritten list) before.store.files mid.files
   pub kept : mid.faults ≡ before.store.faults
+  pub unnamed : mid.failed ≡ before.store.failed
   pub built : IsDemoBuilt list status (outside_at mid before.sink) now
 
 abbrev pub IsDemoWritten : List MemFile → ℕ → Outside → Outside → Type 0
@@ -91,6 +94,7 @@ pub record IsWorkRefused (m : Making) (status : ℕ) (before now : Outside) : Ty
   pub work : IfTold before.store.files (λ files. UnlessMemory (IsMakingWork m files) (Err refusal))
   pub files : Told (AreWritten (first_files m)) before.store.files now.store.files
   pub cause : HasCause before.store.faults now.store.faults (is_read_failure refusal)
+  pub named : NamesLast (unread_name refusal) before.store.failed now.store.failed
   pub told : IsRefusalTold refusal status before.sink now.sink
 
 -- A view couldn't be written.
@@ -106,6 +110,7 @@ pub record IsPut (m : Making) (status : ℕ) (before now : Outside) : Type 0 whe
   pub work : IfTold before.store.files (λ files. IsMakingWork m files (Ok made))
   pub files : Told (AreWritten (first_files m ++ made.views)) before.store.files now.store.files
   pub kept : now.store.faults ≡ before.store.faults
+  pub unnamed : now.store.failed ≡ before.store.failed
   pub told : IsFinished made.reply status before.sink now.sink
 
 -- the ends that there are
@@ -114,20 +119,26 @@ IsMakingEnd m status before now =
     IsUnstarted status before now
     ⊎ (IsWriteCut (first_files m) status before now ⊎ (IsWorkRefused m status before now ⊎ (IsViewCut m status before now ⊎ IsPut m status before now)))
 
--- status 0: the files are those at the start with the views put under their names, and the line is printed
+-- status 0: the files are those at the start with the views put under their names, and the line is printed, by one put
 pub record IsMakingDone (m : Making) (before now : Outside) : Type 0 where
   pub made : Made
   pub work : IfTold before.store.files (λ files. IsMakingWork m files (Ok made))
   pub files : Told (AreWritten (first_files m ++ made.views)) before.store.files now.store.files
   pub printed : Grows (IsWholeText (lines_text made.reply.lines)) before.sink.text now.sink.text
+  pub puts : RoseBy (length made.reply.lines) before.sink.puts now.sink.puts
 
--- status 3: no view is written, and the line of the refusal is printed
+-- status 3: no view is written, and the line of the refusal is printed, by one put
 pub record IsMakingRefused (m : Making) (before now : Outside) : Type 0 where
   pub refusal : Refusal
   pub is_input : refusal_status refusal ≡ 3
   pub work : IfTold before.store.files (λ files. IsMakingWork m files (Err refusal))
   pub files : Told (AreWritten (first_files m)) before.store.files now.store.files
   pub printed : Grows (IsWholeText (reply_line (refusal_words refusal))) before.sink.text now.sink.text
+  pub put : RoseBy 1 before.sink.puts now.sink.puts
+
+-- The sink failed; or it has the line of the read or the write that failed, with the name of that call.
+abbrev pub IsMakingFaultTold : Outside → Outside → Type 0
+IsMakingFaultTold before now = Rose before.sink.faults now.sink.faults ⊎ (IsFaultTold unread_line before now ⊎ IsFaultTold unwritten_line before now)
 
 -- What a build or a demonstration does.
 pub record IsMakingRun (m : Making) (status : ℕ) (before now : Outside) : Type 0 where
@@ -138,8 +149,9 @@ pub record IsMakingRun (m : Making) (status : ℕ) (before now : Outside) : Type
   pub done : status ≡ 0 → IsMakingDone m before now
   pub held : status ≡ 0 → Told (IsMemoryHeld m) before.store.files now.store.files
   pub refused : status ≡ 3 → IsMakingRefused m before now
-  -- 4 comes only where a fault rose, and at 5 the sink didn't fail
+  -- 4 comes only where a fault rose, and is told by its line unless the sink failed; at 5 the sink didn't fail
   pub fault : status ≡ 4 → Rose before.store.faults now.store.faults ⊎ Rose before.sink.faults now.sink.faults
+  pub named : status ≡ 4 → IsMakingFaultTold before now
   pub memory_clean : status ≡ 5 → now.sink.faults ≡ before.sink.faults
   -- what is written and printed at each end, at 4 and 5 too
   pub end : IsMakingEnd m status before now

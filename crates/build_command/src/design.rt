@@ -37,7 +37,7 @@ fn with_ending(alloc: Global, name: &Name, ending: &str) -> Result<Name, Memory>
 }
 
 fn read_configuration<S: Store>(alloc: Global, name: &str, store: &mut S) -> Result<Config, Refusal>
-    ensures read { HasRead (λ files. IsConfigFile files name.now) result (store_state (S.files store.old) (S.faults store.old)) (store_state (S.files store.new) (S.faults store.new)) }
+    ensures read { HasRead (λ files. IsConfigFile files name.now) result (store_state (S.files store.old) (S.faults store.old) (S.failed store.old)) (store_state (S.files store.new) (S.faults store.new) (S.failed store.new)) }
     ensures good { IfOk result IsConfig }
     ensures words { is_usage_outcome result ≡ false }
 {
@@ -54,7 +54,7 @@ fn read_under<S: Store>(
 ) -> Result<Items<u8>, Refusal>
     requires name { IsAscii name.now }
     requires ending { IsAscii ending.now }
-    ensures read { HasRead (λ files. IsFile files (name.now ++ ending.now)) result (store_state (S.files store.old) (S.faults store.old)) (store_state (S.files store.new) (S.faults store.new)) }
+    ensures read { HasRead (λ files. IsFile files (name.now ++ ending.now)) result (store_state (S.files store.old) (S.faults store.old) (S.failed store.old)) (store_state (S.files store.new) (S.faults store.new) (S.failed store.new)) }
     ensures words { is_usage_outcome result ≡ false }
 {
     let file = with_ending(alloc, name, ending)?;
@@ -68,7 +68,7 @@ fn read_technology_under<S: Store>(
     store: &mut S,
 ) -> Result<Tech, Refusal>
     requires { IsAscii name.now }
-    ensures read { HasRead (λ files. IsTechnologyFile files (name.now ++ codes ".toml")) result (store_state (S.files store.old) (S.faults store.old)) (store_state (S.files store.new) (S.faults store.new)) }
+    ensures read { HasRead (λ files. IsTechnologyFile files (name.now ++ codes ".toml")) result (store_state (S.files store.old) (S.faults store.old) (S.failed store.old)) (store_state (S.files store.new) (S.faults store.new) (S.failed store.new)) }
     ensures good { IfOk result IsTech }
     ensures words { is_usage_outcome result ≡ false }
 {
@@ -83,7 +83,7 @@ fn read_leaf_layout<S: Store>(
     store: &mut S,
 ) -> Result<Items<u8>, Refusal>
     requires { IsAscii name.now }
-    ensures read { HasRead (λ files. IsLeafLayoutFile files (name.now ++ codes ".gds")) result (store_state (S.files store.old) (S.faults store.old)) (store_state (S.files store.new) (S.faults store.new)) }
+    ensures read { HasRead (λ files. IsLeafLayoutFile files (name.now ++ codes ".gds")) result (store_state (S.files store.old) (S.faults store.old) (S.failed store.old)) (store_state (S.files store.new) (S.faults store.new) (S.failed store.new)) }
     ensures words { is_usage_outcome result ≡ false }
 {
     let bytes = read_under(alloc, name, ".gds", store)?;
@@ -101,7 +101,7 @@ fn read_kit_over<S: Store>(
 ) -> Result<Kit, Refusal>
     requires ascii { IsAscii name.now }
     requires tech { IsTech tech }
-    ensures read { HasRead (λ files. IsKitOver files name.now tech gds.now) result (store_state (S.files store.old) (S.faults store.old)) (store_state (S.files store.new) (S.faults store.new)) }
+    ensures read { HasRead (λ files. IsKitOver files name.now tech gds.now) result (store_state (S.files store.old) (S.faults store.old) (S.failed store.old)) (store_state (S.files store.new) (S.faults store.new) (S.failed store.new)) }
     ensures good { IfOk result IsKit }
     ensures words { is_usage_outcome result ≡ false }
 {
@@ -118,7 +118,7 @@ fn read_kit_with<S: Store>(
 ) -> Result<Kit, Refusal>
     requires ascii { IsAscii name.now }
     requires tech { IsTech tech }
-    ensures read { HasRead (λ files. IsKitWith files name.now tech) result (store_state (S.files store.old) (S.faults store.old)) (store_state (S.files store.new) (S.faults store.new)) }
+    ensures read { HasRead (λ files. IsKitWith files name.now tech) result (store_state (S.files store.old) (S.faults store.old) (S.failed store.old)) (store_state (S.files store.new) (S.faults store.new) (S.failed store.new)) }
     ensures good { IfOk result IsKit }
     ensures words { is_usage_outcome result ≡ false }
 {
@@ -129,7 +129,7 @@ fn read_kit_with<S: Store>(
 /// The kit of this name.
 fn read_kit_under<S: Store>(alloc: Global, name: &Name, store: &mut S) -> Result<Kit, Refusal>
     requires { IsAscii name.now }
-    ensures read { HasRead (λ files. IsKitUnder files name.now) result (store_state (S.files store.old) (S.faults store.old)) (store_state (S.files store.new) (S.faults store.new)) }
+    ensures read { HasRead (λ files. IsKitUnder files name.now) result (store_state (S.files store.old) (S.faults store.old) (S.failed store.old)) (store_state (S.files store.new) (S.faults store.new) (S.failed store.new)) }
     ensures good { IfOk result IsKit }
     ensures words { is_usage_outcome result ≡ false }
 {
@@ -145,7 +145,7 @@ fn design_with<S: Store>(
     store: &mut S,
 ) -> Result<Design, Refusal>
     requires config { IsConfig config }
-    ensures read { HasRead (λ files. IsDesignWith files config plan) result (store_state (S.files store.old) (S.faults store.old)) (store_state (S.files store.new) (S.faults store.new)) }
+    ensures read { HasRead (λ files. IsDesignWith files config plan) result (store_state (S.files store.old) (S.faults store.old) (S.failed store.old)) (store_state (S.files store.new) (S.faults store.new) (S.failed store.new)) }
     ensures parts { IfOk result (λ design. (design.config ≡ config) × (design.plan ≡ plan)) }
     ensures good { IfOk result (λ design. IsKit design.kit) }
     ensures words { is_usage_outcome result ≡ false }
@@ -157,7 +157,7 @@ fn design_with<S: Store>(
 /// The design of a configuration.
 fn design_of<S: Store>(alloc: Global, config: Config, store: &mut S) -> Result<Design, Refusal>
     requires config { IsConfig config }
-    ensures read { HasRead (λ files. IsDesignOf files config) result (store_state (S.files store.old) (S.faults store.old)) (store_state (S.files store.new) (S.faults store.new)) }
+    ensures read { HasRead (λ files. IsDesignOf files config) result (store_state (S.files store.old) (S.faults store.old) (S.failed store.old)) (store_state (S.files store.new) (S.faults store.new) (S.failed store.new)) }
     ensures good { IfOk result IsGoodDesign }
     ensures words { is_usage_outcome result ≡ false }
 {
@@ -168,7 +168,7 @@ fn design_of<S: Store>(alloc: Global, config: Config, store: &mut S) -> Result<D
 /// Reads the configuration, and then the files that it names: the technology, the leaf cells' layouts and their subcircuits,
 /// each decoded before the next is read.
 pub fn read_design<S: Store>(alloc: Global, name: &str, store: &mut S) -> Result<Design, Refusal>
-    ensures read { HasRead (λ files. IsDesign files name.now) result (store_state (S.files store.old) (S.faults store.old)) (store_state (S.files store.new) (S.faults store.new)) }
+    ensures read { HasRead (λ files. IsDesign files name.now) result (store_state (S.files store.old) (S.faults store.old) (S.failed store.old)) (store_state (S.files store.new) (S.faults store.new) (S.failed store.new)) }
     ensures good { IfOk result IsGoodDesign }
     ensures words { is_usage_outcome result ≡ false }
 {

@@ -1,18 +1,16 @@
-ghost use Rattle.build_command.specs.OneDesign.{DesignsAreOne, RefusalsAreTold, RefusedDesignsAreNotMade};
+ghost use Rattle.build_command.specs.OneDesign.{DesignsAreOne, WorkIsTold, WorksAreOne};
 
 /// A law for proofs: over files of bytes a name has one design, or one refusal, failed reads and want of memory aside.
 pub fn designs_are_one()
     ensures { DesignsAreOne }
 {}
 
-/// A law for proofs: where what is read is refused, the work has this refusal and no other outcome, failed reads and want of
-/// memory aside.
-pub fn refused_designs_are_not_made()
-    ensures { RefusedDesignsAreNotMade }
+/// A law for proofs: over files of bytes the work on a name has one outcome, failed reads and want of memory aside.
+pub fn works_are_one()
+    ensures { WorksAreOne }
 {}
 
-/// A law for readers: where what is read is refused, a run that ends below 4 prints this refusal's line and ends with 3, over
-/// told files of bytes.
-pub fn refusals_are_told()
-    ensures { RefusalsAreTold }
+/// A law for readers: a run that ends below 4 has the status, the files and the line of the outcome that told files of bytes have.
+pub fn work_is_told()
+    ensures { WorkIsTold }
 {}

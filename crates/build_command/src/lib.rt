@@ -8,10 +8,8 @@ mod laws;
 mod made;
 mod run;
 mod success;
-#[cfg(test)]
-mod tests;
 mod words;
 
-pub use laws::{designs_are_one, refusals_are_told, refused_designs_are_not_made};
+pub use laws::{designs_are_one, work_is_told, works_are_one};
 pub use run::make;
 pub use words::{Asked, Making, making_in};

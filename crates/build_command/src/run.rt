@@ -31,7 +31,7 @@ fn work_on<R: Threads + Sync, G: Gate + Sync, S: Store>(
 ) -> Result<Made, Refusal>
     requires some { 0 < workers }
     requires at_most { workers ≤ 64 }
-    ensures read { HasRead (λ files. IsWork files config.now) result (store_state (S.files store.old) (S.faults store.old)) (store_state (S.files store.new) (S.faults store.new)) }
+    ensures read { HasRead (λ files. IsWork files config.now) result (store_state (S.files store.old) (S.faults store.old) (S.failed store.old)) (store_state (S.files store.new) (S.faults store.new) (S.failed store.new)) }
     ensures names { IfOk result (λ made. HaveAsciiNames made.views) }
     ensures done { IfOk result (λ made. made.reply.status ≡ 0) }
     ensures words { is_usage_outcome result ≡ false }
@@ -63,7 +63,7 @@ fn work_on_demo<R: Threads + Sync, G: Gate + Sync>(
 /// Writes the views, and prints the line of success.
 fn put_out<S: Store, K: Sink>(alloc: Global, made: &Made, store: &mut S, out: &mut K) -> u8
     requires { HaveAsciiNames made.now.views }
-    ensures { IsPutOut made.now result (outside_at (store_state (S.files store.old) (S.faults store.old)) (sink_state (K.written out.old) (K.faults out.old))) (outside_at (store_state (S.files store.new) (S.faults store.new)) (sink_state (K.written out.new) (K.faults out.new))) }
+    ensures { IsPutOut made.now result (outside_at (store_state (S.files store.old) (S.faults store.old) (S.failed store.old)) (sink_state (K.written out.old) (K.faults out.old) (K.puts out.old))) (outside_at (store_state (S.files store.new) (S.faults store.new) (S.failed store.new)) (sink_state (K.written out.new) (K.faults out.new) (K.puts out.new))) }
 {
     match write_files(made.views.as_slice(), store) {
         Ok(()) => finish(&made.reply, out),
@@ -83,7 +83,7 @@ fn build_from<R: Threads + Sync, G: Gate + Sync, S: Store, K: Sink>(
 ) -> u8
     requires some { 0 < workers }
     requires at_most { workers ≤ 64 }
-    ensures { IsMakingRun (build config.now) result (outside_at (store_state (S.files store.old) (S.faults store.old)) (sink_state (K.written out.old) (K.faults out.old))) (outside_at (store_state (S.files store.new) (S.faults store.new)) (sink_state (K.written out.new) (K.faults out.new))) }
+    ensures { IsMakingRun (build config.now) result (outside_at (store_state (S.files store.old) (S.faults store.old) (S.failed store.old)) (sink_state (K.written out.old) (K.faults out.old) (K.puts out.old))) (outside_at (store_state (S.files store.new) (S.faults store.new) (S.failed store.new)) (sink_state (K.written out.new) (K.faults out.new) (K.puts out.new))) }
 {
     match work_on(rt, alloc, gate, config, workers, store) {
         Ok(made) => put_out(alloc, &made, store, out),
@@ -103,7 +103,7 @@ fn build_demo<R: Threads + Sync, G: Gate + Sync, S: Store, K: Sink>(
 ) -> u8
     requires some { 0 < workers }
     requires at_most { workers ≤ 64 }
-    ensures { IsDemoBuilt files.items result (outside_at (store_state (S.files store.old) (S.faults store.old)) (sink_state (K.written out.old) (K.faults out.old))) (outside_at (store_state (S.files store.new) (S.faults store.new)) (sink_state (K.written out.new) (K.faults out.new))) }
+    ensures { IsDemoBuilt files.items result (outside_at (store_state (S.files store.old) (S.faults store.old) (S.failed store.old)) (sink_state (K.written out.old) (K.faults out.old) (K.puts out.old))) (outside_at (store_state (S.files store.new) (S.faults store.new) (S.failed store.new)) (sink_state (K.written out.new) (K.faults out.new) (K.puts out.new))) }
 {
     match work_on_demo(rt, alloc, gate, files, workers) {
         Ok(made) => put_out(alloc, &made, store, out),
@@ -124,7 +124,7 @@ fn write_and_build<R: Threads + Sync, G: Gate + Sync, S: Store, K: Sink>(
     requires some { 0 < workers }
     requires at_most { workers ≤ 64 }
     requires names { HaveAsciiNames files.items }
-    ensures { IsDemoWritten files.items result (outside_at (store_state (S.files store.old) (S.faults store.old)) (sink_state (K.written out.old) (K.faults out.old))) (outside_at (store_state (S.files store.new) (S.faults store.new)) (sink_state (K.written out.new) (K.faults out.new))) }
+    ensures { IsDemoWritten files.items result (outside_at (store_state (S.files store.old) (S.faults store.old) (S.failed store.old)) (sink_state (K.written out.old) (K.faults out.old) (K.puts out.old))) (outside_at (store_state (S.files store.new) (S.faults store.new) (S.failed store.new)) (sink_state (K.written out.new) (K.faults out.new) (K.puts out.new))) }
 {
     match write_files(&files, store) {
         Ok(()) => build_demo(rt, alloc, gate, files, workers, store, out),
@@ -144,7 +144,7 @@ fn demonstrate<R: Threads + Sync, G: Gate + Sync, S: Store, K: Sink>(
 ) -> u8
     requires some { 0 < workers }
     requires at_most { workers ≤ 64 }
-    ensures { IsMakingRun (demo number) result (outside_at (store_state (S.files store.old) (S.faults store.old)) (sink_state (K.written out.old) (K.faults out.old))) (outside_at (store_state (S.files store.new) (S.faults store.new)) (sink_state (K.written out.new) (K.faults out.new))) }
+    ensures { IsMakingRun (demo number) result (outside_at (store_state (S.files store.old) (S.faults store.old) (S.failed store.old)) (sink_state (K.written out.old) (K.faults out.old) (K.puts out.old))) (outside_at (store_state (S.files store.new) (S.faults store.new) (S.failed store.new)) (sink_state (K.written out.new) (K.faults out.new) (K.puts out.new))) }
 {
     let Ok(files) = demo_files(alloc, number) else {
         return no_memory(out);
@@ -164,7 +164,7 @@ pub fn make<R: Threads + Sync, G: Gate + Sync, S: Store, K: Sink>(
     out: &mut K,
 ) -> u8
     requires { HasMakingWorkers making }
-    ensures { IsMakingRun (told_making making.entry) result (outside_at (store_state (S.files store.old) (S.faults store.old)) (sink_state (K.written out.old) (K.faults out.old))) (outside_at (store_state (S.files store.new) (S.faults store.new)) (sink_state (K.written out.new) (K.faults out.new))) }
+    ensures { IsMakingRun (told_making making.entry) result (outside_at (store_state (S.files store.old) (S.faults store.old) (S.failed store.old)) (sink_state (K.written out.old) (K.faults out.old) (K.puts out.old))) (outside_at (store_state (S.files store.new) (S.faults store.new) (S.failed store.new)) (sink_state (K.written out.new) (K.faults out.new) (K.puts out.new))) }
 {
     match making.asked {
         Asked::Build { config } => build_from(rt, alloc, gate, config, making.workers, store, out),

@@ -3,7 +3,7 @@ use Rattle.std.proofs.Common.{◌≡◌, ◌<◌, ◌↔◌, ℕ, Bool, true, fa
 use Rattle.std.proofs.lemmas.List.{append-nil}
 use Rattle.std.specs.Prelude.{MatchOption, if◌then◌else◌}
 use Rattle.std.specs.Option.{is_none}
-use Rattle.or_host.specs.Fault.{Rose}
+use Rattle.or_host.specs.Fault.{Rose, IsNameTold}
 use Rattle.or_host.specs.Files.{Files}
 use Rattle.or_host.specs.Text.{Grows}
 use Rattle.reply_lines.specs.declared.refusal.Refusal.{Refusal}
@@ -15,12 +15,12 @@ use Rattle.reply_lines.specs.Reply.{refusal_reply}
 use Rattle.reply_lines.specs.Statuses.{is_memory, is_read_failure, is_usage, refusal_status}
 use Rattle.openram_cli.specs.Answer.{IsWork, IsAnswer, IsRead, IsUsage, IsCommandWork, reply_of}
 use Rattle.openram_cli.specs.Command.{Command, command_of}
-use Rattle.command_steps.specs.Finished.{AreSomeLines, IsCut, IsStopped, IsMemorySaid, IsFinished, IsOutOfMemory, IsUnreadTold, IsRefusalTold, memory_line}
+use Rattle.command_steps.specs.Finished.{AreSomeLines, IsCut, IsStopped, IsMemorySaid, IsFinished, IsOutOfMemory, IsUnreadTold, IsRefusalTold, memory_line, unread_line}
 use Rattle.command_steps.specs.Outcome.{UnlessMemory, is_usage_outcome}
 use Rattle.command_steps.specs.Outside.{Outside, SinkState, StoreState, IfTold}
 use Rattle.command_steps.specs.Printed.{IsWholeText, IsPrefixOf}
 use Rattle.command_steps.specs.Reading.{HasRead}
-use Rattle.openram_cli.specs.Run.{IsRunEnd, IsAnswerRun, IsAnswered, IsCutText, IsMemoryText, AreAnswerLines, IsReadText, IsNothingOf, read_line, usage_line}
+use Rattle.openram_cli.specs.Run.{IsRunEnd, IsAnswerRun, IsAnswered, IsCutText, IsMemoryText, AreAnswerLines, IsReadText, IsNothingOf, usage_line}
 use Rattle.command_steps.proofs.EndLaws.{grows, followed, alone}
 use Rattle.command_steps.proofs.OutcomeLaws.{told_all, told_map}
 
@@ -43,7 +43,7 @@ answer_end : (words : List (List ℕ)) (files : Files) (reply : Reply) (ended : 
 answer_end words files reply ended before now is kept (inl whole) =
     let low = is.settled in
     record {
-      answered = λ below. record { reply = reply; is = is; status_is = whole.is; printed = whole.text };
+      answered = λ below. record { reply = reply; is = is; status_is = whole.is; printed = whole.text; puts = whole.puts };
       cut = λ four. absurd (omega (arith, low));
       memory = λ five. absurd (omega (arith, low));
     }
@@ -76,32 +76,32 @@ memory_end words files ended before now kept (inr said) = record {
 }
 
 -- a read failed
-unread_end : (words : List (List ℕ)) (files : Files) (name : List ℕ) (ended : ℕ) (before now : Outside) → IsRead words files name → Rose before.store.faults now.store.faults
-    → IsUnreadTold (read_line name) ended before.sink now.sink → IsRunEnd words files ended before now
-unread_end words files name ended before now read rose (inl whole) = record {
+unread_end : (words : List (List ℕ)) (files : Files) (name : List ℕ) (ended : ℕ) (before now : Outside) → IsRead words files name → Rose before.store.faults now.store.faults → IsNameTold now.store.failed name
+    → IsUnreadTold (unread_line name) ended before.sink now.sink → IsRunEnd words files ended before now
+unread_end words files name ended before now read rose named (inl whole) = record {
   answered = λ below. absurd (omega arith);
   cut = λ four. inl (
     rose,
     whole.kept,
-    grows (IsWholeText (read_line name)) (IsReadText words files IsWholeText) before.sink.text now.sink.text (λ text is. record { name = name; read = read; line = is }) whole.text,
+    grows (IsWholeText (unread_line name)) (IsReadText words files now.store.failed IsWholeText) before.sink.text now.sink.text (λ text is. record { name = name; read = read; named = named; line = is }) whole.text,
   );
   memory = λ five. absurd (omega arith);
 }
-unread_end words files name ended before now read rose (inr (inl cut)) = record {
+unread_end words files name ended before now read rose named (inr (inl cut)) = record {
   answered = λ below. absurd (omega arith);
   cut = λ four. inr (inl (
     rose,
     cut.rose,
-    grows (IsPrefixOf (read_line name)) (IsReadText words files IsPrefixOf) before.sink.text now.sink.text (λ text is. record { name = name; read = read; line = is }) cut.text,
+    grows (IsPrefixOf (unread_line name)) (IsReadText words files now.store.failed IsPrefixOf) before.sink.text now.sink.text (λ text is. record { name = name; read = read; named = named; line = is }) cut.text,
   ));
   memory = λ five. absurd (omega arith);
 }
-unread_end words files name ended before now read rose (inr (inr silent)) = record {
+unread_end words files name ended before now read rose named (inr (inr silent)) = record {
   answered = λ below. absurd (omega arith);
   cut = λ four. absurd (omega arith);
   memory = λ five. inr (
     rose,
-    grows (λ text. text ≡ []) (IsReadText words files IsNothingOf) before.sink.text now.sink.text (λ text is. record { name = name; read = read; line = is }) silent.text,
+    grows (λ text. text ≡ []) (IsReadText words files now.store.failed IsNothingOf) before.sink.text now.sink.text (λ text is. record { name = name; read = read; named = named; line = is }) silent.text,
   );
 }
 
@@ -124,6 +124,7 @@ finished_run words reply ended before now fits told free same kept (inl whole) =
       usage = λ below. (λ two. fits.usage.0 (sym whole.is ∙ two), λ none. whole.is ∙ fits.usage.1 none);
       usage_text = λ two. grows (IsWholeText (lines_text reply.lines)) (IsWholeText usage_line) before.sink.text now.sink.text (λ text is. is ∙ fits.line (sym whole.is ∙ two)) whole.text;
       fault = λ four. absurd (omega (arith, low));
+      named = λ four. absurd (omega (arith, low));
       memory_clean = λ five. absurd (omega (arith, low));
       silent = λ five. inl kept;
       files = same;
@@ -136,6 +137,7 @@ finished_run words reply ended before now fits told free same kept (inr (inl cut
   usage = λ below. absurd (omega arith);
   usage_text = λ two. absurd (omega arith);
   fault = λ four. inr cut.rose;
+  named = λ four. inl cut.rose;
   memory_clean = λ five. absurd (omega arith);
   silent = λ five. inl kept;
   files = same;
@@ -148,6 +150,7 @@ finished_run words reply ended before now fits told free same kept (inr (inr sto
   usage = λ below. absurd (omega arith);
   usage_text = λ two. absurd (omega arith);
   fault = λ four. absurd (omega arith);
+  named = λ four. absurd (omega arith);
   memory_clean = λ five. stopped.kept;
   silent = λ five. inl kept;
   files = same;
@@ -163,6 +166,7 @@ memory_run words ended before now same kept (inl cut) = record {
   usage = λ below. absurd (omega arith);
   usage_text = λ two. absurd (omega arith);
   fault = λ four. inr cut.rose;
+  named = λ four. inl cut.rose;
   memory_clean = λ five. absurd (omega arith);
   silent = λ five. inl kept;
   files = same;
@@ -175,6 +179,7 @@ memory_run words ended before now same kept (inr said) = record {
   usage = λ below. absurd (omega arith);
   usage_text = λ two. absurd (omega arith);
   fault = λ four. absurd (omega arith);
+  named = λ four. absurd (omega arith);
   memory_clean = λ five. said.kept;
   silent = λ five. inl kept;
   files = same;
@@ -182,39 +187,42 @@ memory_run words ended before now same kept (inr said) = record {
 
 -- the run where a read failed; words that are no form read nothing
 unread_run : (words : List (List ℕ)) (name : List ℕ) (ended : ℕ) (before now : Outside) → (command_of words ≡ None → ⊥) → IfTold before.store.files (λ files. IsRead words files name)
-    → now.store.files ≡ before.store.files → Rose before.store.faults now.store.faults → IsUnreadTold (read_line name) ended before.sink now.sink → IsAnswerRun words ended before now
-unread_run words name ended before now form told same rose (inl whole) = record {
+    → now.store.files ≡ before.store.files → Rose before.store.faults now.store.faults → IsNameTold now.store.failed name → IsUnreadTold (unread_line name) ended before.sink now.sink → IsAnswerRun words ended before now
+unread_run words name ended before now form told same rose named (inl whole) = record {
   range = omega arith;
-  told = told_map before.store.files (λ files. IsRead words files name) (λ files. IsRunEnd words files ended before now) (λ files read. unread_end words files name ended before now read rose (inl whole)) told;
+  told = told_map before.store.files (λ files. IsRead words files name) (λ files. IsRunEnd words files ended before now) (λ files read. unread_end words files name ended before now read rose named (inl whole)) told;
   no_form = λ none files. absurd (form none);
   clean = λ below. absurd (omega arith);
   usage = λ below. absurd (omega arith);
   usage_text = λ two. absurd (omega arith);
   fault = λ four. inl rose;
+  named = λ four. inr (record { name = name; rose = rose; named = named; printed = whole.text; put = whole.puts });
   memory_clean = λ five. absurd (omega arith);
   silent = λ five. absurd (omega arith);
   files = same;
 }
-unread_run words name ended before now form told same rose (inr (inl cut)) = record {
+unread_run words name ended before now form told same rose named (inr (inl cut)) = record {
   range = omega arith;
-  told = told_map before.store.files (λ files. IsRead words files name) (λ files. IsRunEnd words files ended before now) (λ files read. unread_end words files name ended before now read rose (inr (inl cut))) told;
+  told = told_map before.store.files (λ files. IsRead words files name) (λ files. IsRunEnd words files ended before now) (λ files read. unread_end words files name ended before now read rose named (inr (inl cut))) told;
   no_form = λ none files. absurd (form none);
   clean = λ below. absurd (omega arith);
   usage = λ below. absurd (omega arith);
   usage_text = λ two. absurd (omega arith);
   fault = λ four. inl rose;
+  named = λ four. inl cut.rose;
   memory_clean = λ five. absurd (omega arith);
   silent = λ five. absurd (omega arith);
   files = same;
 }
-unread_run words name ended before now form told same rose (inr (inr silent)) = record {
+unread_run words name ended before now form told same rose named (inr (inr silent)) = record {
   range = omega arith;
-  told = told_map before.store.files (λ files. IsRead words files name) (λ files. IsRunEnd words files ended before now) (λ files read. unread_end words files name ended before now read rose (inr (inr silent))) told;
+  told = told_map before.store.files (λ files. IsRead words files name) (λ files. IsRunEnd words files ended before now) (λ files read. unread_end words files name ended before now read rose named (inr (inr silent))) told;
   no_form = λ none files. absurd (form none);
   clean = λ below. absurd (omega arith);
   usage = λ below. absurd (omega arith);
   usage_text = λ two. absurd (omega arith);
   fault = λ four. absurd (omega arith);
+  named = λ four. absurd (omega arith);
   memory_clean = λ five. silent.kept;
   silent = λ five. inr (rose, silent.text);
   files = same;
@@ -291,7 +299,7 @@ read_failed_run : (words : List (List ℕ)) (refusal : Refusal) (ended : ℕ) (b
     → is_read_failure refusal ≡ true → IsUnreadTold (reply_line (refusal_words refusal)) ended before.sink now.sink → IsAnswerRun words ended before now
 read_failed_run words (ReadFailed name) ended before now read usage failed told =
     unread_run words name ended before now (formed (command_of words) usage)
-    (told_map before.store.files (λ files. UnlessMemory (IsWork words files) (Err (ReadFailed name))) (λ files. IsRead words files name) (λ files work. work refl) read.told) read.same (read.cause.rose refl) told
+    (told_map before.store.files (λ files. UnlessMemory (IsWork words files) (Err (ReadFailed name))) (λ files. IsRead words files name) (λ files work. work refl) read.told) read.same (read.cause.rose refl) read.named told
 read_failed_run words other ended before now read usage failed told = absurd cc
 
 readable : (refusal : Refusal) → is_memory refusal ≡ true → is_read_failure refusal ≡ false

@@ -1,6 +1,6 @@
 -- How a run of the program ends: its status, and the outside before and after it.
-use Rattle.std.specs.Prelude.{◌≡◌, ◌⊎◌, ◌↔◌, ◌<◌, ℕ, List, [], ◌∷◌, None, codes}
-use Rattle.or_host.specs.Fault.{Rose}
+use Rattle.std.specs.Prelude.{◌≡◌, ◌⊎◌, ◌↔◌, ◌<◌, ℕ, List, [], length, Option, None, codes}
+use Rattle.or_host.specs.Fault.{Rose, RoseBy, IsNameTold}
 use Rattle.or_host.specs.Files.{Files}
 use Rattle.or_host.specs.Text.{Grows}
 use Rattle.reply_lines.specs.declared.reply.Reply.{Reply}
@@ -10,7 +10,7 @@ use Rattle.build_command.specs.Run.{IsMakingRun}
 use Rattle.build_command.specs.Words.{Making, IsMakingForm, AreNoMaking}
 use Rattle.openram_cli.specs.Answer.{IsAnswer, IsRead}
 use Rattle.openram_cli.specs.Command.{command_of}
-use Rattle.command_steps.specs.Finished.{memory_line, IsMemorySaid}
+use Rattle.command_steps.specs.Finished.{memory_line, IsMemorySaid, IsFaultTold, unread_line}
 use Rattle.command_steps.specs.Outside.{Outside, IfTold}
 use Rattle.command_steps.specs.Printed.{IsWholeText, IsPrefixOf, AreFirstLines, IsFollowedBy}
 
@@ -18,16 +18,13 @@ use Rattle.command_steps.specs.Printed.{IsWholeText, IsPrefixOf, AreFirstLines, 
 abbrev pub usage_line : List ℕ
 usage_line = reply_line (headed 90 (codes "Usage") [])
 
--- the line of a failed read
-abbrev pub read_line : List ℕ → List ℕ
-read_line name = reply_line (headed 91 (codes "ReadFailed") (name ∷ []))
-
--- status 0 to 3: the answer's status, and all of its lines
+-- status 0 to 3: the answer's status, and all of its lines, each by one put
 pub record IsAnswered (words : List (List ℕ)) (files : Files) (status : ℕ) (before now : Outside) : Type 0 where
   pub reply : Reply
   pub is : IsAnswer words files reply
   pub status_is : status ≡ reply.status
   pub printed : Grows (IsWholeText (lines_text reply.lines)) before.sink.text now.sink.text
+  pub puts : RoseBy (length reply.lines) before.sink.puts now.sink.puts
 
 -- a prefix of the answer's lines, cut anywhere
 abbrev pub IsAnswerPrefix : List (List ℕ) → Files → List ℕ → Type 0
@@ -45,11 +42,12 @@ IsMemoryText words files = IsFollowedBy (AreAnswerLines words files) IsMemorySai
 abbrev pub IsCutText : List (List ℕ) → Files → List ℕ → Type 0
 IsCutText words files text = IsAnswerPrefix words files text ⊎ IsFollowedBy (AreAnswerLines words files) (IsPrefixOf memory_line) text
 
--- a read failed: of the line that says so, of a file that the program reads, this much is printed
-pub record IsReadText (words : List (List ℕ)) (files : Files) (IsPart : List ℕ → List ℕ → Type 0) (text : List ℕ) : Type 0 where
+-- a read failed: of the line that says so, of a file that the program reads and whose read it was that failed, this much is printed
+pub record IsReadText (words : List (List ℕ)) (files : Files) (failed : Option (List ℕ)) (IsPart : List ℕ → List ℕ → Type 0) (text : List ℕ) : Type 0 where
   pub name : List ℕ
   pub read : IsRead words files name
-  pub line : IsPart (read_line name) text
+  pub named : IsNameTold failed name
+  pub line : IsPart (unread_line name) text
 
 -- nothing of it
 abbrev pub IsNothingOf : List ℕ → List ℕ → Type 0
@@ -58,15 +56,15 @@ IsNothingOf whole text = text ≡ []
 -- Status 4: the store failed, or it and then the sink, or the sink alone.
 abbrev pub IsFaultEnd : List (List ℕ) → Files → Outside → Outside → Type 0
 IsFaultEnd words files before now =
-    (Rose before.store.faults now.store.faults × (now.sink.faults ≡ before.sink.faults) × Grows (IsReadText words files IsWholeText) before.sink.text now.sink.text)
-    ⊎ ((Rose before.store.faults now.store.faults × Rose before.sink.faults now.sink.faults × Grows (IsReadText words files IsPrefixOf) before.sink.text now.sink.text)
+    (Rose before.store.faults now.store.faults × (now.sink.faults ≡ before.sink.faults) × Grows (IsReadText words files now.store.failed IsWholeText) before.sink.text now.sink.text)
+    ⊎ ((Rose before.store.faults now.store.faults × Rose before.sink.faults now.sink.faults × Grows (IsReadText words files now.store.failed IsPrefixOf) before.sink.text now.sink.text)
     ⊎ ((now.store.faults ≡ before.store.faults) × Rose before.sink.faults now.sink.faults × Grows (IsCutText words files) before.sink.text now.sink.text))
 
 -- Status 5: no read failed, and memory ran out; or a read failed, and memory ran out for the line that says so.
 abbrev pub IsMemoryEnd : List (List ℕ) → Files → Outside → Outside → Type 0
 IsMemoryEnd words files before now =
     ((now.store.faults ≡ before.store.faults) × Grows (IsMemoryText words files) before.sink.text now.sink.text)
-    ⊎ (Rose before.store.faults now.store.faults × Grows (IsReadText words files IsNothingOf) before.sink.text now.sink.text)
+    ⊎ (Rose before.store.faults now.store.faults × Grows (IsReadText words files now.store.failed IsNothingOf) before.sink.text now.sink.text)
 
 -- how a run ends over these files
 pub record IsRunEnd (words : List (List ℕ)) (files : Files) (status : ℕ) (before now : Outside) : Type 0 where
@@ -88,6 +86,8 @@ pub record IsAnswerRun (words : List (List ℕ)) (status : ℕ) (before now : Ou
   pub usage_text : status ≡ 2 → Grows (IsWholeText usage_line) before.sink.text now.sink.text
   -- 4 comes only where a fault rose
   pub fault : status ≡ 4 → Rose before.store.faults now.store.faults ⊎ Rose before.sink.faults now.sink.faults
+  -- and unless the sink failed, the line of the failed read is printed
+  pub named : status ≡ 4 → Rose before.sink.faults now.sink.faults ⊎ IsFaultTold unread_line before now
   -- at 5 the sink didn't fail, and where a read failed nothing is printed
   pub memory_clean : status ≡ 5 → now.sink.faults ≡ before.sink.faults
   pub silent : status ≡ 5 → (now.store.faults ≡ before.store.faults) ⊎ (Rose before.store.faults now.store.faults × Grows (λ text. text ≡ []) before.sink.text now.sink.text)

@@ -35,7 +35,7 @@ pub enum Inputs {
 }
 
 fn read_library<S: Store>(alloc: Global, name: &str, store: &mut S) -> Result<Library, Refusal>
-    ensures read { HasRead (λ files. IsLibraryFile files name.now) result (store_state (S.files store.old) (S.faults store.old)) (store_state (S.files store.new) (S.faults store.new)) }
+    ensures read { HasRead (λ files. IsLibraryFile files name.now) result (store_state (S.files store.old) (S.faults store.old) (S.failed store.old)) (store_state (S.files store.new) (S.faults store.new) (S.failed store.new)) }
     ensures good { IfOk result IsWritable }
     ensures words { is_usage_outcome result ≡ false }
 {
@@ -44,7 +44,7 @@ fn read_library<S: Store>(alloc: Global, name: &str, store: &mut S) -> Result<Li
 }
 
 fn read_deck<S: Store>(alloc: Global, name: &str, store: &mut S) -> Result<Deck, Refusal>
-    ensures read { HasRead (λ files. IsDeckFile files name.now) result (store_state (S.files store.old) (S.faults store.old)) (store_state (S.files store.new) (S.faults store.new)) }
+    ensures read { HasRead (λ files. IsDeckFile files name.now) result (store_state (S.files store.old) (S.faults store.old) (S.failed store.old)) (store_state (S.files store.new) (S.faults store.new) (S.failed store.new)) }
     ensures words { is_usage_outcome result ≡ false }
 {
     let bytes = read_file(alloc, name, store)?;
@@ -56,7 +56,7 @@ fn read_layout<S: Store>(
     words: LayoutWords<'_>,
     store: &mut S,
 ) -> Result<Layout, Refusal>
-    ensures read { HasRead (λ files. IsLayout files (told_layout words.entry)) result (store_state (S.files store.old) (S.faults store.old)) (store_state (S.files store.new) (S.faults store.new)) }
+    ensures read { HasRead (λ files. IsLayout files (told_layout words.entry)) result (store_state (S.files store.old) (S.faults store.old) (S.failed store.old)) (store_state (S.files store.new) (S.faults store.new) (S.failed store.new)) }
     ensures tech { IfOk result (λ layout. IsTech layout.tech) }
     ensures writable { IfOk result (λ layout. IsWritable layout.lib) }
     ensures words { is_usage_outcome result ≡ false }
@@ -74,7 +74,7 @@ pub fn read_inputs<S: Store>(
     asked: Asked<'_>,
     store: &mut S,
 ) -> Result<Inputs, Refusal>
-    ensures read { HasRead (λ files. AreInputs files (told_asked asked.entry)) result (store_state (S.files store.old) (S.faults store.old)) (store_state (S.files store.new) (S.faults store.new)) }
+    ensures read { HasRead (λ files. AreInputs files (told_asked asked.entry)) result (store_state (S.files store.old) (S.faults store.old) (S.failed store.old)) (store_state (S.files store.new) (S.faults store.new) (S.failed store.new)) }
     ensures sound { IfOk result AreSound }
     ensures words { is_usage_outcome result ≡ false }
 {

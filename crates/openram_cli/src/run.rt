@@ -3,7 +3,7 @@ ghost use Rattle.std.specs.Option.{is_none};
 ghost use Rattle.or_host.specs.Files.{Files};
 ghost use Rattle.openram_cli.specs.Answer.{IsWork};
 ghost use Rattle.openram_cli.specs.Command.{command_of};
-ghost use Rattle.openram_cli.specs.OneAnswer.{HaveOneAnswer, HaveToldRefusal};
+ghost use Rattle.openram_cli.specs.OneAnswer.{HaveOneAnswer, HaveToldWork};
 ghost use Rattle.command_steps.specs.Outcome.{is_usage_outcome};
 ghost use Rattle.command_steps.specs.Outside.{store_state, sink_state, outside_at};
 ghost use Rattle.command_steps.specs.Reading.{HasRead};
@@ -28,7 +28,7 @@ fn reply_to<R: Threads + Sync, G: Gate + Sync, S: Store>(
     words: &[String],
     store: &mut S,
 ) -> Result<Reply, Refusal>
-    ensures read { HasRead (IsWork (map string_bytes words.now)) result (store_state (S.files store.old) (S.faults store.old)) (store_state (S.files store.new) (S.faults store.new)) }
+    ensures read { HasRead (IsWork (map string_bytes words.now)) result (store_state (S.files store.old) (S.faults store.old) (S.failed store.old)) (store_state (S.files store.new) (S.faults store.new) (S.failed store.new)) }
     ensures small { IfOk result (λ reply. reply.status < 2) }
     ensures usage { is_usage_outcome result ≡ is_none (command_of (map string_bytes words.now)) }
 {
@@ -48,7 +48,7 @@ fn answer_words<R: Threads + Sync, G: Gate + Sync, S: Store, K: Sink>(
     store: &mut S,
     out: &mut K,
 ) -> u8
-    ensures run { IsAnswerRun (map string_bytes words.now) result (outside_at (store_state (S.files store.old) (S.faults store.old)) (sink_state (K.written out.old) (K.faults out.old))) (outside_at (store_state (S.files store.new) (S.faults store.new)) (sink_state (K.written out.new) (K.faults out.new))) }
+    ensures run { IsAnswerRun (map string_bytes words.now) result (outside_at (store_state (S.files store.old) (S.faults store.old) (S.failed store.old)) (sink_state (K.written out.old) (K.faults out.old) (K.puts out.old))) (outside_at (store_state (S.files store.new) (S.faults store.new) (S.failed store.new)) (sink_state (K.written out.new) (K.faults out.new) (K.puts out.new))) }
     ensures one { (files : Files) → HaveOneAnswer (map string_bytes words.now) files }
 {
     match reply_to(rt, alloc, gate, words, store) {
@@ -66,12 +66,12 @@ pub fn run_gated<R: Threads + Sync, G: Gate + Sync, S: Store, K: Sink>(
     store: &mut S,
     out: &mut K,
 ) -> u8
-    ensures run { IsProgramRun (map string_bytes words.now) result (outside_at (store_state (S.files store.old) (S.faults store.old)) (sink_state (K.written out.old) (K.faults out.old))) (outside_at (store_state (S.files store.new) (S.faults store.new)) (sink_state (K.written out.new) (K.faults out.new))) }
+    ensures run { IsProgramRun (map string_bytes words.now) result (outside_at (store_state (S.files store.old) (S.faults store.old) (S.failed store.old)) (sink_state (K.written out.old) (K.faults out.old) (K.puts out.old))) (outside_at (store_state (S.files store.new) (S.faults store.new) (S.failed store.new)) (sink_state (K.written out.new) (K.faults out.new) (K.puts out.new))) }
     // Over files of bytes words that are no build and no demonstration have one answer at most, so status and text are a
     // function of them.
     ensures one { (files : Files) → HaveOneAnswer (map string_bytes words.now) files }
-    // So they are of a build and a demonstration whose configuration, plan or kit is refused; of others this is not said.
-    ensures refusal { HaveToldRefusal (map string_bytes words.now) result (outside_at (store_state (S.files store.old) (S.faults store.old)) (sink_state (K.written out.old) (K.faults out.old))) (outside_at (store_state (S.files store.new) (S.faults store.new)) (sink_state (K.written out.new) (K.faults out.new))) }
+    // So they are of a build and a demonstration, with the files at the end.
+    ensures work { HaveToldWork (map string_bytes words.now) result (outside_at (store_state (S.files store.old) (S.faults store.old) (S.failed store.old)) (sink_state (K.written out.old) (K.faults out.old) (K.puts out.old))) (outside_at (store_state (S.files store.new) (S.faults store.new) (S.failed store.new)) (sink_state (K.written out.new) (K.faults out.new) (K.puts out.new))) }
 {
     match making_in(words) {
         Some(making) => make(rt, alloc, gate, making, store, out),
@@ -90,12 +90,12 @@ pub fn run<R: Threads + Sync, S: Store, K: Sink>(
     store: &mut S,
     out: &mut K,
 ) -> u8
-    ensures run { IsProgramRun (map string_bytes words.now) result (outside_at (store_state (S.files store.old) (S.faults store.old)) (sink_state (K.written out.old) (K.faults out.old))) (outside_at (store_state (S.files store.new) (S.faults store.new)) (sink_state (K.written out.new) (K.faults out.new))) }
+    ensures run { IsProgramRun (map string_bytes words.now) result (outside_at (store_state (S.files store.old) (S.faults store.old) (S.failed store.old)) (sink_state (K.written out.old) (K.faults out.old) (K.puts out.old))) (outside_at (store_state (S.files store.new) (S.faults store.new) (S.failed store.new)) (sink_state (K.written out.new) (K.faults out.new) (K.puts out.new))) }
     // Over files of bytes words that are no build and no demonstration have one answer at most, so status and text are a
     // function of them.
     ensures one { (files : Files) → HaveOneAnswer (map string_bytes words.now) files }
-    // So they are of a build and a demonstration whose configuration, plan or kit is refused; of others this is not said.
-    ensures refusal { HaveToldRefusal (map string_bytes words.now) result (outside_at (store_state (S.files store.old) (S.faults store.old)) (sink_state (K.written out.old) (K.faults out.old))) (outside_at (store_state (S.files store.new) (S.faults store.new)) (sink_state (K.written out.new) (K.faults out.new))) }
+    // So they are of a build and a demonstration, with the files at the end.
+    ensures work { HaveToldWork (map string_bytes words.now) result (outside_at (store_state (S.files store.old) (S.faults store.old) (S.failed store.old)) (sink_state (K.written out.old) (K.faults out.old) (K.puts out.old))) (outside_at (store_state (S.files store.new) (S.faults store.new) (S.failed store.new)) (sink_state (K.written out.new) (K.faults out.new) (K.puts out.new))) }
 {
     run_gated(rt, alloc, &OpenGate, words, store, out)
 }

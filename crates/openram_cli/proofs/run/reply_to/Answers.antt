@@ -12,8 +12,8 @@ use Rattle.openram_cli.proofs.run.reply_to.Goals as goal
 pub returns-clause-read : goal.returns-clause-read
 returns-clause-read g c =
     let command = told_command c.in-Some.command in
-    let before = store_state (g.S.Store.files c.args.store.now) (g.S.Store.faults c.args.store.now) in
-    let now = store_state (g.S.Store.files c.read_inputs.new.store) (g.S.Store.faults c.read_inputs.new.store) in
+    let before = store_state (g.S.Store.files c.args.store.now) (g.S.Store.faults c.args.store.now) (g.S.Store.failed c.args.store.now) in
+    let now = store_state (g.S.Store.files c.read_inputs.new.store) (g.S.Store.faults c.read_inputs.new.store) (g.S.Store.failed c.read_inputs.new.store) in
     work_of (map string_bytes c.args.words.now) command c.answer.result before now c.in-Some.ensures.words
     (read_then (λ files. AreInputs files command) IsReplyTo c.in_ok-inputs.inputs c.answer.result before now c.in_ok-inputs.ensures.read c.answer.ensures.answer c.answer.ensures.read)
 
@@ -22,8 +22,8 @@ returns-in_err-inputs-clause-read g c =
     let p = err_from_is_err_and c.from_residual.result c.from_residual.ensures.1 in
     let command = told_command c.in-Some.command in
     let refusal = c.in_err-inputs.field-0.0 in
-    let before = store_state (g.S.Store.files c.args.store.now) (g.S.Store.faults c.args.store.now) in
-    let now = store_state (g.S.Store.files c.read_inputs.new.store) (g.S.Store.faults c.read_inputs.new.store) in
+    let before = store_state (g.S.Store.files c.args.store.now) (g.S.Store.faults c.args.store.now) (g.S.Store.failed c.args.store.now) in
+    let now = store_state (g.S.Store.files c.read_inputs.new.store) (g.S.Store.faults c.read_inputs.new.store) (g.S.Store.failed c.read_inputs.new.store) in
     rw (p.1, p.2)
     (work_of (map string_bytes c.args.words.now) command (Err refusal) before now c.in-Some.ensures.words
     (read_ends (λ files. AreInputs files command) (λ files. IsReplyTo) refusal before now c.in_err-inputs.ensures.read))

@@ -1,6 +1,6 @@
 use Rattle.std.proofs.Common.{inl, inr, map}
 use Rattle.std.specs.Prelude.{string_bytes}
-use Rattle.build_command.proofs.ToldRefusalLaws.{refusals_are_told}
+use Rattle.build_command.proofs.OneWorkLaws.{work_is_told}
 use Rattle.build_command.specs.Words.{told_making}
 use Rattle.openram_cli.proofs.OneAnswer.{one_answer}
 use Rattle.openram_cli.proofs.run.run_gated.Goals as goal
@@ -11,11 +11,11 @@ returns-in-Some-clause-run g c = inl (told_making c.in-Some.making, c.in-Some.en
 pub returns-in-Some-clause-one : goal.returns-in-Some-clause-one
 returns-in-Some-clause-one g c = one_answer (map string_bytes c.args.words.now)
 
-pub returns-in-Some-clause-refusal : goal.returns-in-Some-clause-refusal
-returns-in-Some-clause-refusal g c = inr (told_making c.in-Some.making, c.in-Some.ensures.some, refusals_are_told (told_making c.in-Some.making) _ _ _ c.make.ensures)
+pub returns-in-Some-clause-work : goal.returns-in-Some-clause-work
+returns-in-Some-clause-work g c = inr (told_making c.in-Some.making, c.in-Some.ensures.some, work_is_told (told_making c.in-Some.making) _ _ _ c.make.ensures)
 
-pub returns-in-None-clause-refusal : goal.returns-in-None-clause-refusal
-returns-in-None-clause-refusal g c = inl c.in-None.ensures.none
+pub returns-in-None-clause-work : goal.returns-in-None-clause-work
+returns-in-None-clause-work g c = inl c.in-None.ensures.none
 
 pub returns-in-None-clause-run : goal.returns-in-None-clause-run
 returns-in-None-clause-run g c = inr (c.in-None.ensures.none, c.answer_words.ensures.run)

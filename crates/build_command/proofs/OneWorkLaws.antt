@@ -1,0 +1,90 @@
+-- What files ask for is made in one way, or refused in one way; and a run that ends below 4 tells it.
+use Rattle.std.proofs.Common.{◌≡◌, ◌≢◌, inl, inr, ℕ, ◌<◌, List, [], ◌∷◌, ◌++◌, Result, Ok, Err, refl, sym, ap, subst, ◌∙◌, arith}
+use Rattle.std.specs.Prelude.{codes}
+use Rattle.std.specs.Fmt.{decimal, signed_decimal}
+use Rattle.or_host.specs.Files.{Files}
+use Rattle.leaf_tables.specs.Kits.{IsKit}
+use Rattle.tech_rules.specs.declared.tech.Layer.{Layer}
+use Rattle.sram_plan.specs.declared.config.Config.{Config}
+use Rattle.sram_plan.specs.declared.numbers.Plan.{Plan}
+use Rattle.macro_build.specs.Built.{IsBuildFault}
+use Rattle.macro_build.specs.declared.built.Built.{Built}
+use Rattle.macro_build.specs.declared.built.BuildFault.{BuildFault}
+use Rattle.macro_build.specs.declared.built.BuildFault.TheVariants as build_fault
+use Rattle.macro_laws.specs.OneBuild.{AreSameViews}
+use Rattle.macro_laws.proofs.OneBuildLaws.{one_build, one_build_fault, no_build_beside}
+use Rattle.reply_lines.specs.Lines.{reply_line}
+use Rattle.reply_lines.specs.declared.refusal.Refusal.{Refusal}
+use Rattle.reply_lines.specs.declared.refusal.Refusal.TheVariants as refusal_of
+use Rattle.command_steps.proofs.OnceLaws.{on_fault, on_then}
+use Rattle.command_steps.proofs.OutcomeLaws.{told_map}
+use Rattle.command_steps.specs.Once.{IsDecided, IsLow, IsOnce}
+use Rattle.command_steps.specs.Outside.{IfTold, Outside}
+use Rattle.build_command.specs.declared.design.Design.{Design}
+use Rattle.build_command.specs.declared.made.Made.{Made}
+use Rattle.build_command.specs.Design.{IsDesign}
+use Rattle.build_command.specs.Held.{config_name, files_seen}
+use Rattle.build_command.specs.Made.{IsDesignMade, IsMadeOf, IsWork, count_words, made_of, refusal_in, view_name}
+use Rattle.build_command.specs.OneDesign.{EndsWith, HoldBytes, TellsWork, WorkIsTold, WorksAreOne}
+use Rattle.build_command.specs.Run.{IsMakingRun, IsMakingWork}
+use Rattle.build_command.specs.Words.{Making}
+use Rattle.build_command.proofs.OneDesignLaws.{designs_are_one}
+
+-- the same views make the same files and line
+made_as : (config : Config) (plan : Plan) (a b : Built) → AreSameViews a b → made_of config plan a ≡ made_of config plan b
+made_as config plan a b same = λ i. record {
+  views = record { name = view_name config ++ codes ".sp"; bytes = same.spice i }
+      ∷ record { name = view_name config ++ codes ".gds"; bytes = same.gds i }
+      ∷ record { name = view_name config ++ codes ".lef"; bytes = same.lef i }
+      ∷ record { name = view_name config ++ codes ".v"; bytes = same.verilog i }
+      ∷ [];
+  reply = record {
+    status = 0;
+    lines = reply_line (config.output_name ∷ (count_words plan
+        ++ ((codes "tracks" ∷ decimal (same.tracks i) ∷ codes "leaves" ∷ decimal (same.leaves i) ∷ [])
+        ++ (codes "size" ∷ signed_decimal (same.width i) ∷ signed_decimal (same.height i) ∷ [])))) ∷ [];
+  };
+}
+
+-- a refusal that is neither a failed read nor want of memory isn't the memory of a build
+build_lasts : (layers : List Layer) (f : BuildFault) → IsLow (refusal_in layers f) → f ≢ build_fault.Memory
+build_lasts layers f low e = let five : 5 < 4 = subst (λ (g : BuildFault). IsLow (refusal_in layers g)) e low in omega (arith, five)
+
+on_made : (design : Design) → IsKit design.kit → IsOnce (IsDesignMade design)
+on_made design kit =
+    let layers = design.kit.tech.layers in
+    let name = design.config.output_name in
+    on_fault (IsMadeOf design) (IsBuildFault design.kit design.plan name) (refusal_in layers)
+    (λ a b p q. p.is ∙ made_as design.config design.plan p.built q.built (one_build design.kit design.plan name p.built q.built kit p.is_built q.is_built) ∙ sym q.is)
+    (λ f g s t p q. one_build_fault design.kit design.plan name f g kit (build_lasts layers f s) (build_lasts layers g t) p q)
+    (λ f made s p q. no_build_beside design.kit design.plan name f q.built kit (build_lasts layers f s) p q.is_built)
+
+-- a design that files ask for has a kit
+has_kit : (files : Files) (name : List ℕ) (design : Design) → IsDesign files name (Ok design) → IsKit design.kit
+has_kit files name design is = let under = is.2.2 in subst (λ (d : Design). IsKit d.kit) (sym under.2) under.1.2.2.2.is
+
+pub works_are_one : WorksAreOne
+works_are_one files name hold = on_then (IsDesign files name) IsDesignMade (designs_are_one files name hold) (λ design is. on_made design (has_kit files name design is))
+
+-- what a run tells
+
+-- whatever the files ask for, the run ended with that
+abbrev Tells : Making → ℕ → Outside → Outside → Result Made Refusal → Files → Type 0
+Tells m status before now result files = HoldBytes (files_seen m files) → IsMakingWork m files result → EndsWith m status before now result
+
+tells : (m : Making) (status : ℕ) (before now : Outside) (result other : Result Made Refusal) → IsDecided result → IsDecided other → EndsWith m status before now other → (files : Files) → IsMakingWork m files other → Tells m status before now result files
+tells m status before now result other decided also ends files work hold wanted =
+    subst (EndsWith m status before now) (works_are_one (files_seen m files) (config_name m) hold other result also decided work wanted) ends
+
+pub work_is_told : WorkIsTold
+work_is_told m status before now run result decided below = elim (run.kinds below) [
+  | inl zero ↦
+      let done = run.done zero in
+      told_map before.store.files (λ files. IsMakingWork m files (Ok done.made)) (Tells m status before now result)
+      (tells m status before now result (Ok done.made) decided tt (record { is = zero; files = done.files; printed = done.printed })) done.work
+  | inr three ↦
+      let refused = run.refused three in
+      let input = refused.is_input in
+      told_map before.store.files (λ files. IsMakingWork m files (Err refused.refusal)) (Tells m status before now result)
+      (tells m status before now result (Err refused.refusal) decided (omega (arith, input)) (record { is = three; files = refused.files; printed = refused.printed })) refused.work
+]
