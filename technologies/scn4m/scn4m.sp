@@ -22,19 +22,25 @@ M5 selb sel vdd vdd pfet W=1.2u L=0.4u
 .SUBCKT tie bl br vdd gnd
 .ENDS tie
 .SUBCKT sense bl br dout en vdd gnd
-M0 t en gnd gnd nfet W=1.6u L=0.4u
-M1 l r between_n10_42_2 gnd nfet W=1.6u L=0.4u
-M2 between_n10_42_2 bl t gnd nfet W=1.6u L=0.4u
-M3 t br between_n10_42_5 gnd nfet W=1.6u L=0.4u
-M4 between_n10_42_5 l r gnd nfet W=1.6u L=0.4u
-M5 vdd en l vdd pfet W=1.6u L=0.4u
-M6 l r vdd vdd pfet W=1.6u L=0.4u
-M7 vdd l r vdd pfet W=1.6u L=0.4u
-M8 r en vdd vdd pfet W=1.6u L=0.4u
-M9 nr r vdd vdd pfet W=0.8u L=0.4u
-M10 vdd l dout vdd pfet W=1.6u L=0.4u
-M11 nr r gnd gnd nfet W=0.8u L=0.4u
-M12 gnd nr dout gnd nfet W=1.6u L=0.4u
+M0 sl en gnd gnd nfet W=0.8u L=2.4u
+M1 gnd en sr gnd nfet W=0.8u L=2.4u
+M2 t en gnd gnd nfet W=0.8u L=2.0u
+M3 sl bl vdd gnd nfet W=1.6u L=0.4u
+M4 vdd br sr gnd nfet W=1.6u L=0.4u
+M5 l sl t gnd nfet W=2.4u L=0.4u
+M6 t sr r gnd nfet W=2.4u L=0.4u
+M7 vdd l l vdd pfet W=0.8u L=0.6u
+M8 l r vdd vdd pfet W=0.8u L=0.8u
+M9 vdd l r vdd pfet W=0.8u L=0.8u
+M10 r r vdd vdd pfet W=0.8u L=0.6u
+M11 nl l vdd vdd pfet W=1.6u L=0.4u
+M12 vdd r nr vdd pfet W=1.6u L=0.4u
+M13 up nl vdd vdd pfet W=0.8u L=0.4u
+M14 vdd up dout vdd pfet W=1.6u L=0.4u
+M15 nl l gnd gnd nfet W=0.8u L=0.4u
+M16 gnd r nr gnd nfet W=0.8u L=0.4u
+M17 up nl gnd gnd nfet W=0.8u L=0.4u
+M18 gnd nr dout gnd nfet W=1.6u L=0.4u
 .ENDS sense
 .SUBCKT write din bl br en vdd gnd
 M0 enb en gnd gnd nfet W=0.8u L=0.4u
