@@ -2,7 +2,8 @@
 
 klayout -b -r tools/klayout_check.py -rd tech=TECH -rd gds="GDS..." -rd top=TOP [-rd deep=1]
 
-With `deep` KLayout checks cell by cell, else all shapes as if there were no cells. One line is printed for each file: its name, and for each rule that has markers the rule's number and how many they are.
+With `deep` KLayout checks cell by cell, else all shapes as if there were no cells. One line is printed for each file: its name, and for
+each rule that has markers the rule's number and how many they are.
 
 A width rule is KLayout's width_check, a space rule on one layer its space_check, a space rule between two layers its
 separation_check, and an enclose rule its enclosed_check against the union of the rule's layers, with the parts of cuts that

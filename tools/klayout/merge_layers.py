@@ -1,13 +1,13 @@
 """Flattens structures and merges each of their layers. Run by tools/merge_layers, in KLayout, with source, target and tops."""
+import os
 import sys
 
 import pya
 
-
-def stop(why):
-    # KLayout takes a number alone as its status.
-    print(f"merge_layers: {why}", file=sys.stderr)
-    sys.exit(1)
+# KLayout doesn't look for modules beside the script.
+sys.dont_write_bytecode = True
+sys.path.insert(0, os.path.dirname(os.path.abspath(__file__)))
+import gds_files
 
 
 def merged(cell, index):
@@ -23,30 +23,19 @@ def merged(cell, index):
 
 
 def main():
-    layout = pya.Layout()
-    fault = None
-    try:
-        layout.read(source)
-    except RuntimeError as error:
-        fault = error
-    if fault is not None:  # KLayout loses a status that is given while an exception is handled
-        stop(f"KLayout can't read {source}: {fault}")
+    layout = gds_files.read("merge_layers", source)
     made = pya.Layout()
     made.dbu = layout.dbu
     for top in tops.split():
         cell = layout.cell(top)
         if cell is None:
-            stop(f"no structure is called {top}")
+            gds_files.stop("merge_layers", f"no structure is called {top}")
         flat = made.create_cell(top)
         for index in layout.layer_indexes():
             shapes = flat.shapes(made.layer(layout.get_info(index)))
             for polygon in merged(cell, index):
                 shapes.insert(polygon)
-    options = pya.SaveLayoutOptions()
-    options.format = "GDS2"
-    options.gds2_write_timestamps = False
-    options.write_context_info = False
-    made.write(target, options)
+    made.write(target, gds_files.options())
 
 
 main()

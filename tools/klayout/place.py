@@ -4,10 +4,17 @@ klayout -b -r tools/klayout/place.py -rd tech=TECH -rd lef="TECHNOLOGY.lef NAME.
 
 Instances get their names of the DEF as property 1, with an x before them, as they are called in SPICE. Needs a KLayout with Python 3.11 or later.
 """
+import os
+import sys
 import tempfile
 import tomllib
 
 import pya
+
+# KLayout doesn't look for modules beside the script.
+sys.dont_write_bytecode = True
+sys.path.insert(0, os.path.dirname(os.path.abspath(__file__)))
+import gds_files
 
 
 def layer_map():
@@ -39,11 +46,7 @@ def main():
         name = instance.property(1)
         if name is not None:
             instance.set_property(1, f"x{name}")
-    saved = pya.SaveLayoutOptions()
-    saved.format = "GDS2"
-    saved.gds2_write_timestamps = False
-    saved.write_context_info = False
-    made.write(target, saved)
+    made.write(target, gds_files.options())
 
 
 main()

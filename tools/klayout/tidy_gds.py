@@ -1,14 +1,14 @@
 """Rewrites a layout so that the program reads it. Run by tools/tidy_gds, in KLayout, with source and target."""
+import os
 import sys
 import tempfile
 
 import pya
 
-
-def stop(why):
-    # KLayout takes a number alone as its status.
-    print(f"tidy_gds: {why}", file=sys.stderr)
-    sys.exit(1)
+# KLayout doesn't look for modules beside the script.
+sys.dont_write_bytecode = True
+sys.path.insert(0, os.path.dirname(os.path.abspath(__file__)))
+import gds_files
 
 NANOMETRE = 0.001
 MOST_POINTS = 8190  # of a boundary; KLayout's own way to split one leaves seams that the space rule may take for gaps
@@ -96,32 +96,17 @@ def flatten_complex(cell):
 
 
 def write(layout):
-    options = pya.SaveLayoutOptions()
-    options.format = "GDS2"
-    options.gds2_write_timestamps = False
+    options = gds_files.options()
     options.gds2_write_file_properties = False
     options.gds2_write_cell_properties = False
     options.gds2_multi_xy_records = False
     options.gds2_max_vertex_count = MOST_POINTS + 1
     options.gds2_resolve_skew_arrays = True
-    options.write_context_info = False
     layout.write(target, options)
 
 
-def read():
-    layout = pya.Layout()
-    fault = None
-    try:
-        layout.read(source)
-    except RuntimeError as error:
-        fault = error
-    if fault is not None:  # KLayout loses a status that is given while an exception is handled
-        stop(f"KLayout can't read {source}: {fault}")
-    return layout
-
-
 def main():
-    layout = in_nanometres(read())
+    layout = in_nanometres(gds_files.read("tidy_gds", source))
     for cell in layout.each_cell():
         flatten_complex(cell)
     for cell in layout.each_cell():

@@ -5,19 +5,15 @@ pin too.
 """
 import re
 from dataclasses import dataclass, field
-from pathlib import Path
 
-from magic_tech import magic_tech
-from programs import demand, output, same_sets
+from layout_tools import klayout, magic
+from programs import demand, same_sets
 from shapes import magic_boxes
-
-HERE = Path(__file__).resolve().parent
 
 MAGIC = """drc off
 lef read {lef}
 load {top}
 save abstract
-quit -noprompt
 """
 
 
@@ -58,8 +54,7 @@ def of_lines(path):
 
 
 def of_klayout(macro):
-    lef = macro.view(".lef").name
-    text = output(["klayout", "-b", "-r", str(HERE / "klayout_abstract.py"), "-rd", f"lef={lef}", "-rd", f"top={macro.name}"], macro.folder)
+    text = klayout(macro, "klayout_abstract.py", lef=macro.view(".lef").name, top=macro.name)
     view, boxes, labels = Abstract(), [], []
     for kind, layer, *words in (line.split() for line in text.splitlines() if line.startswith(("shape ", "label "))):
         if kind == "label":
@@ -79,9 +74,7 @@ def of_klayout(macro):
 
 
 def of_magic(macro):
-    (macro.folder / "layers.tech").write_text(magic_tech(macro.technology, "layers"))
-    (macro.folder / "abstract.tcl").write_text(MAGIC.format(lef=macro.view(".lef").name, top=macro.name))
-    output(["magic", "-dnull", "-noconsole", "-T", "layers", "abstract.tcl"], macro.folder)
+    magic(macro, MAGIC.format(lef=macro.view(".lef").name, top=macro.name))
     saved = macro.folder / "abstract.mag"
     demand(saved.exists(), "Magic saved nothing")
     view, text = Abstract(), saved.read_text()

@@ -5,9 +5,8 @@ import tomllib
 from dataclasses import dataclass
 from pathlib import Path
 
+from gdsii import BGNSTR, BOUNDARY, ENDEL, PROPATTR, record, records
 from programs import Differs, last_line, run
-
-BOUNDARY, ENDEL, BGNSTR, PROPATTR = 0x0800, 0x1100, 0x0502, 0x2B02
 
 # Beside the demonstration of 16 words of 2 bits: masks, and banks with masks and a column choice.
 CONFIGURATIONS = {
@@ -98,39 +97,21 @@ def build_config(program, folder, kit, name, config, spice=None):
 # GDSII by records.
 
 
-def records(data):
-    """Each record's code, and where it begins and ends."""
-    at = 0
-    while at + 4 <= len(data):
-        length, code = struct.unpack_from(">HH", data, at)
-        if length < 4:
-            return
-        yield code, at, at + length
-        at += length
-
-
 def without_shape(data):
     """The layout without the first wire of its last structure, which is the macro."""
-    begin, ends = None, None
-    for code, at, end in records(data):
-        if code == BGNSTR:
-            begin, ends = None, None
-        elif code == BOUNDARY and begin is None:
-            begin = at
-        elif code == ENDEL and begin is not None and ends is None:
-            ends = end
+    found = list(records(data))
+    last = max(at for at, it in enumerate(found) if it.code == BGNSTR)
+    begin = next((at for at in range(last, len(found)) if found[at].code == BOUNDARY), None)
     if begin is None:
         raise Differs("the last structure has no boundary")
-    return data[:begin] + data[ends:]
+    end = next(at for at in range(begin, len(found)) if found[at].code == ENDEL)
+    return b"".join(it.spelled() for it in found[:begin] + found[end + 1 :])
 
 
 def with_property(data, number):
     """The layout with this number in place of property 1, in which instances have their names."""
-    parts = []
-    for code, at, end in records(data):
-        named = code == PROPATTR and data[at + 4 : end] == b"\0\1"
-        parts.append(data[at : at + 4] + struct.pack(">H", number) if named else data[at:end])
-    return b"".join(parts)
+    named = struct.pack(">H", number)
+    return b"".join(record(PROPATTR, named) if it.code == PROPATTR and it.numbers() == (1,) else it.spelled() for it in records(data))
 
 
 # ---------------------------------------------------------------------------------------------------------------------

@@ -7,12 +7,13 @@ import subprocess
 from collections import defaultdict
 from pathlib import Path
 
+from layout_tools import klayout, magic
 from macros import with_property
-from magic_tech import magic_tech
-from programs import demand, output, run, same_sets
+from programs import demand, last_line, output, run, same_sets
 from spice_cells import spice_cells
 
-HERE = Path(__file__).resolve().parent
+FLOW = Path(__file__).resolve().parent.parent / "flow"
+TECH = "demo_tech.toml"
 
 
 def partition(net_of):
@@ -137,7 +138,6 @@ MAGIC = """drc off
 gds read named.gds
 load {top}
 extract all
-quit -noprompt
 """
 
 
@@ -170,35 +170,27 @@ def join_extracted(groups, folder, cell, path):
 def of_magic(macro, pins):
     """Magic names instances by property 98, so it is given a copy of the layout that has their names there."""
     (macro.folder / "named.gds").write_bytes(with_property(macro.view(".gds").read_bytes(), 98))
-    (macro.folder / "layers.tech").write_text(magic_tech(macro.technology, "layers"))
-    (macro.folder / "extract.tcl").write_text(MAGIC.format(top=macro.name))
-    output(["magic", "-dnull", "-noconsole", "-T", "layers", "extract.tcl"], macro.folder)
+    magic(macro, MAGIC.format(top=macro.name))
     groups = Groups()
     join_extracted(groups, macro.folder, macro.name, "")
     return partition({pin: groups.group(pin) for pin in pins})
 
 
-def klayout_words(macro, *more):
-    words = {"gds": macro.view(".gds").name, "top": macro.name, "tech": "demo_tech.toml", **dict(more)}
-    return [word for name, value in words.items() for word in ("-rd", f"{name}={value}")]
-
-
 def of_klayout(macro):
-    text = output(["klayout", "-b", "-r", str(HERE / "klayout_nets.py"), *klayout_words(macro)], macro.folder)
+    text = klayout(macro, "klayout_nets.py", gds=macro.view(".gds").name, top=macro.name, tech=TECH)
     nets = [line.split()[1:] for line in text.splitlines() if line.startswith("net ")]
     return partition({pin: number for number, net in enumerate(nets) for pin in net})
 
 
 def klayout_says_clean(macro):
     """KLayout extracts a netlist, reads the .sp and compares the two by their form."""
-    script = HERE / "klayout_lvs.py"
-    text = output(["klayout", "-b", "-r", str(script), *klayout_words(macro, ("sp", macro.view(".sp").name))], macro.folder)
-    demand("netlists match" in text, text.strip().splitlines()[-1] if text.strip() else "nothing printed")
+    _, text = run([str(FLOW / "klayout_compare"), TECH, macro.view(".gds").name, macro.view(".sp").name, macro.name], macro.folder)
+    demand(text.strip() == "LVS clean", last_line(text))
     return "its netlist of the layout matches the .sp"
 
 
 def program_says_alike(macro, program):
     """The program's own comparison, by names."""
-    status, text = run([program, "compare", "demo_tech.toml", macro.view(".gds").name, macro.view(".sp").name, macro.name], macro.folder)
+    status, text = run([program, "compare", TECH, macro.view(".gds").name, macro.view(".sp").name, macro.name], macro.folder)
     demand(status == 0, text.strip())
     return "no difference of the layout from the .sp"

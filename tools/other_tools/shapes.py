@@ -2,37 +2,25 @@
 from collections import defaultdict
 from pathlib import Path
 
-from macros import technology_text
-from magic_tech import Stack, magic_tech
-from programs import Differs, demand, output, python_with, run, same_sets
+from layout_tools import klayout, magic, magic_checks, program_checks
+from magic_tech import Stack
+from programs import Differs, demand, output, python_with, same_sets
 
 HERE = Path(__file__).resolve().parent
 WIDEST = 1048576
 
-MAGIC = """drc off
-gds read {gds}
-load {top}
-select top cell
-drc on
-drc check
-drc catchup
-puts "faults [drc list count total]"
+MAGIC = """puts "faults [drc list count total]"
 flatten all_of_it
 load all_of_it
 save all_of_it
-quit -noprompt
 """
 
 
 def of_program(macro, program):
     """What `check` reports where every shape is too narrow: all shapes, each once."""
     widest = [{"kind": "width", "layer": name, "min": WIDEST} for name in macro.layers()]
-    (macro.folder / "widest.toml").write_text(technology_text({**macro.technology, "rule": widest}))
-    status, text = run([program, "check", "widest.toml", macro.view(".gds").name, macro.name, "1"], macro.folder)
-    demand(status == 1, f"check ended with {status}: {text[:80]}")
     shapes = defaultdict(set)
-    for line in text.splitlines():
-        _, layer, *box = line.split()
+    for _, layer, *box in program_checks(macro, program, {**macro.technology, "rule": widest}):
         shapes[layer].add(tuple(map(int, box)))
     return shapes
 
@@ -51,8 +39,7 @@ def of_lines(macro, text):
 
 
 def of_klayout(macro):
-    words = ["-rd", f"gds={macro.view('.gds').name}", "-rd", f"top={macro.name}"]
-    return of_lines(macro, output(["klayout", "-b", "-r", str(HERE / "klayout_shapes.py"), *words], macro.folder))
+    return of_lines(macro, klayout(macro, "klayout_shapes.py", gds=macro.view(".gds").name, top=macro.name))
 
 
 def of_gdspy(macro):
@@ -74,9 +61,7 @@ def magic_boxes(path):
 
 def of_magic(macro):
     """Boxes that Magic makes of the shapes, on each metal those of the cuts that end on it among them; and how many faults it finds."""
-    (macro.folder / "layers.tech").write_text(magic_tech(macro.technology, "layers"))
-    (macro.folder / "read.tcl").write_text(MAGIC.format(gds=macro.view(".gds").name, top=macro.name))
-    text = output(["magic", "-dnull", "-noconsole", "-T", "layers", "read.tcl"], macro.folder)
+    text = magic(macro, magic_checks(macro) + MAGIC)
     faults = [line.split()[1] for line in text.splitlines() if line.startswith("faults ")]
     saved = macro.folder / "all_of_it.mag"
     demand(faults and saved.exists(), "Magic saved nothing")
