@@ -136,7 +136,7 @@ one_of_two wire i l h = elim (contains_cases (slice_index wire.metals i) (slice_
 ]
 
 -- a conductor is one of the metals
-conductor : (wire : Wire) (tech : Tech) (l : ℕ) → tech.connects ≡ wire_connects wire → IsConductor tech l → (k : ℕ) × (k < 4) × (l ≡ slice_index wire.metals k)
+conductor : (wire : Wire) (tech : Tech) (l : ℕ) → tech.connects ≡ wire_connects wire → IsConductor tech.connects l → (k : ℕ) × (k < 4) × (l ≡ slice_index wire.metals k)
 conductor wire tech l wired is = elim (subst (λ (cs : List Connect). SomeHas (λ (connect : Connect). Contains connect.to l) cs) wired is) [
   | inl first ↦ by 0 (omega arith) first
   | inr (inl second) ↦ by 1 (omega arith) second
@@ -147,7 +147,7 @@ conductor wire tech l wired is = elim (subst (λ (cs : List Connect). SomeHas (�
   by i lt h = elim (one_of_two wire i l h) [ inl e ↦ (i, omega (arith, lt), e) | inr e ↦ (i + 1, omega (arith, lt), e) ]
 
 -- a cut and a layer that it connects
-cut_to : (wire : Wire) (tech : Tech) (cut other : ℕ) → tech.connects ≡ wire_connects wire → IsCutTo tech cut other → (c : ℕ) × (c < 3) × (cut ≡ slice_index wire.cuts c) × ((other ≡ slice_index wire.metals c) ⊎ (other ≡ slice_index wire.metals (c + 1)))
+cut_to : (wire : Wire) (tech : Tech) (cut other : ℕ) → tech.connects ≡ wire_connects wire → IsCutTo tech.connects cut other → (c : ℕ) × (c < 3) × (cut ≡ slice_index wire.cuts c) × ((other ≡ slice_index wire.metals c) ⊎ (other ≡ slice_index wire.metals (c + 1)))
 cut_to wire tech cut other wired is = elim (subst (λ (cs : List Connect). SomeHas (Joins cut other) cs) wired is) [
   | inl first ↦ (0, omega arith, sym first.by, one_of_two wire 0 other first.to)
   | inr (inl second) ↦ (1, omega arith, sym second.by, one_of_two wire 1 other second.to)
@@ -260,7 +260,7 @@ module _ (ch : Channel) (wire : Wire) (intervals : List Interval) (track : List 
     by (inr next) (inr v) (inr (inl d)) = omega (arith, next, v.0, d.0)
     by near (inr v) (inr (inr d)) = pins_apart wire ch.bottom i j p.x sizes none_bottom differ v.2 d.1
 
-  by_cut : (tech : Tech) (i j : ℕ) (s u : Shape) → tech.connects ≡ wire_connects wire → i ≢ j → IsOfNet ch wire intervals track tracks i s → IsOfNet ch wire intervals track tracks j u → TouchByCut tech s u → ⊥
+  by_cut : (tech : Tech) (i j : ℕ) (s u : Shape) → tech.connects ≡ wire_connects wire → i ≢ j → IsOfNet ch wire intervals track tracks i s → IsOfNet ch wire intervals track tracks j u → TouchByCut tech.connects s u → ⊥
   by_cut tech i j s u wired differ of_i of_j touch =
       let cut = cut_to wire tech s.layer u.layer wired touch.connects in
       let p : Point = record { x = touch.area.x; y = touch.area.y } in
@@ -274,7 +274,7 @@ module _ (ch : Channel) (wire : Wire) (intervals : List Interval) (track : List 
         closed v cell = record { left = cell.left; right = (let lt = cell.right in omega (arith, ints, lt)); low = cell.low; high = (let lt = cell.high in omega (arith, ints, lt)) }
 
   -- wires of different nets don't touch
-  pub apart : (tech : Tech) (i j : ℕ) (s u : Shape) → tech.connects ≡ wire_connects wire → i ≢ j → IsOfNet ch wire intervals track tracks i s → IsOfNet ch wire intervals track tracks j u → Touch tech s u → ⊥
+  pub apart : (tech : Tech) (i j : ℕ) (s u : Shape) → tech.connects ≡ wire_connects wire → i ≢ j → IsOfNet ch wire intervals track tracks i s → IsOfNet ch wire intervals track tracks j u → Touch tech.connects s u → ⊥
   apart tech i j s u wired differ of_i of_j (inl layer) =
       let metal = conductor wire tech s.layer wired layer.conductor in
       clash_layer i j metal.0 s u layer.joined.p differ metal.1 (spot i s layer.joined.p of_i layer.joined.p_in_a) (spot j u layer.joined.p of_j layer.joined.p_in_b) metal.2 (sym layer.one_layer ∙ metal.2)

@@ -11,3 +11,4 @@ pub mod OrderLaws
 pub mod StepLaws
 pub mod ApartLaws
 pub mod OneNetLaws
+pub mod PinListLaws

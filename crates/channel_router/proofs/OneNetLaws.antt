@@ -11,10 +11,12 @@ use Rattle.tech_rules.specs.declared.tech.Tech.{Tech}
 use Rattle.tech_rules.specs.declared.tech.Wire.{Wire}
 use Rattle.tech_rules.specs.Drawing.{IsBox, IsVia}
 use Rattle.tech_rules.specs.Facts.{AreSizes}
-use Rattle.tech_rules.specs.Net.{AreOnOneNet, Leads}
-use Rattle.tech_rules.specs.Touch.{IsCutTo, Joins, TouchByCut}
+use Rattle.tech_rules.specs.Linked.{LeadsBy}
+use Rattle.tech_rules.specs.Net.{AreOnOneNet}
+use Rattle.tech_rules.specs.Touch.{IsCutTo, Joins, Touch, TouchByCut}
 use Rattle.tech_rules.specs.WireRules.{margin}
 use Rattle.tech_rules.proofs.DrawingLaws.{same_box, twice_margin}
+use Rattle.tech_rules.proofs.LinkedLaws.{leads_on}
 use Rattle.channel_router.specs.declared.channel.Channel.{Channel}
 use Rattle.channel_router.specs.declared.channel.Interval.{Interval}
 use Rattle.channel_router.specs.Apart.{wire_connects}
@@ -24,10 +26,6 @@ use Rattle.channel_router.specs.Tracks.{AreTracksBelow, HasTrack}
 use Rattle.channel_router.specs.Wires.{AreWires, IsOfNet, IsTrunk, IsWireOf, channel_height, track_y}
 use Rattle.channel_router.proofs.HeightLaws.{pitch_apart}
 use Rattle.channel_router.proofs.PinLaws.{pin_left, pin_right}
-
-leads_on : (tech : Tech) (shapes : List Shape) (from mid to : Shape) (p q : List Shape) → Leads tech shapes from p mid → Leads tech shapes mid q to → Leads tech shapes from (p ++ q) to
-leads_on tech shapes from mid to [] q e h = subst (λ (s : Shape). Leads tech shapes s q to) (sym e) h
-leads_on tech shapes from mid to (next ∷ rest) q h k = (h.0, h.1, leads_on tech shapes next mid to rest q h.2 k)
 
 first_of : (a b : ℕ) → Contains (a ∷ b ∷ []) a
 first_of a b = contains_first a (b ∷ [])
@@ -67,21 +65,21 @@ multiple t (pos p) low = omega (arith, ints)
 multiple t (negsuc p) low = absurd (omega (arith, ints, low))
 
 module _ (ch : Channel) (wire : Wire) (intervals : List Interval) (track : List ℕ) (tracks : ℕ) (shapes : List Shape) (sizes : AreSizes wire) (are : AreIntervals ch intervals) (below : AreTracksBelow track tracks) (wires : AreWires ch wire intervals track tracks shapes) (tech : Tech) (wired : tech.connects ≡ wire_connects wire) where
-  joins_first_top : IsCutTo tech (slice_index wire.cuts 2) (slice_index wire.metals 2)
+  joins_first_top : IsCutTo tech.connects (slice_index wire.cuts 2) (slice_index wire.metals 2)
   joins_first_top = subst (λ (cs : List Connect). SomeHas (Joins (slice_index wire.cuts 2) (slice_index wire.metals 2)) cs) (sym wired) (inr (inr (inl (record { by = refl; to = first_of (slice_index wire.metals 2) (slice_index wire.metals 3) }))))
 
-  joins_top : IsCutTo tech (slice_index wire.cuts 2) (slice_index wire.metals 3)
+  joins_top : IsCutTo tech.connects (slice_index wire.cuts 2) (slice_index wire.metals 3)
   joins_top = subst (λ (cs : List Connect). SomeHas (Joins (slice_index wire.cuts 2) (slice_index wire.metals 3)) cs) (sym wired) (inr (inr (inl (record { by = refl; to = second_of (slice_index wire.metals 2) (slice_index wire.metals 3) }))))
 
-  joins_bottom : IsCutTo tech (slice_index wire.cuts 1) (slice_index wire.metals 1)
+  joins_bottom : IsCutTo tech.connects (slice_index wire.cuts 1) (slice_index wire.metals 1)
   joins_bottom = subst (λ (cs : List Connect). SomeHas (Joins (slice_index wire.cuts 1) (slice_index wire.metals 1)) cs) (sym wired) (inr (inl (record { by = refl; to = first_of (slice_index wire.metals 1) (slice_index wire.metals 2) })))
 
-  joins_first_bottom : IsCutTo tech (slice_index wire.cuts 1) (slice_index wire.metals 2)
+  joins_first_bottom : IsCutTo tech.connects (slice_index wire.cuts 1) (slice_index wire.metals 2)
   joins_first_bottom = subst (λ (cs : List Connect). SomeHas (Joins (slice_index wire.cuts 1) (slice_index wire.metals 2)) cs) (sym wired) (inr (inl (record { by = refl; to = second_of (slice_index wire.metals 1) (slice_index wire.metals 2) })))
 
-  touching : (cut other : ℕ) (v b : Shape) (x y : ℤ) → IsCutTo tech cut other → v.layer ≡ cut → b.layer ≡ other → HasCell v.rect x y → HasCell b.rect x y → TouchByCut tech v b
+  touching : (cut other : ℕ) (v b : Shape) (x y : ℤ) → IsCutTo tech.connects cut other → v.layer ≡ cut → b.layer ≡ other → HasCell v.rect x y → HasCell b.rect x y → TouchByCut tech.connects v b
   touching cut other v b x y joins e f in_v in_b = record {
-    connects = subst (λ (l : ℕ). IsCutTo tech l b.layer) (sym e) (subst (λ (l : ℕ). IsCutTo tech cut l) (sym f) joins);
+    connects = subst (λ (l : ℕ). IsCutTo tech.connects l b.layer) (sym e) (subst (λ (l : ℕ). IsCutTo tech.connects cut l) (sym f) joins);
     area = record { x = x; y = y; in_a = in_v; in_b = in_b };
   }
 
@@ -170,13 +168,13 @@ module _ (ch : Channel) (wire : Wire) (intervals : List Interval) (track : List 
     has_trunk = there trunk (inl is_trunk)
 
     -- a cut of the top touches the trunk, and one of the bottom does
-    top_cut : (x : ℤ) (v : Shape) → IsPinOf ch.top net x → IsVia wire 2 x (track_y ch.low wire t) v → TouchByCut tech v trunk
+    top_cut : (x : ℤ) (v : Shape) → IsPinOf ch.top net x → IsVia wire 2 x (track_y ch.low wire t) v → TouchByCut tech.connects v trunk
     top_cut x v pin is = touching _ _ v trunk (x +ℤ margin wire) (track_y ch.low wire t +ℤ margin wire) joins_first_top is.on refl (in_via 2 x v is) (in_trunk x trunk (top_place x pin) is_trunk)
 
-    bottom_cut : (x : ℤ) (v : Shape) → IsPinOf ch.bottom net x → IsVia wire 1 x (track_y ch.low wire t) v → TouchByCut tech v trunk
+    bottom_cut : (x : ℤ) (v : Shape) → IsPinOf ch.bottom net x → IsVia wire 1 x (track_y ch.low wire t) v → TouchByCut tech.connects v trunk
     bottom_cut x v pin is = touching _ _ v trunk (x +ℤ margin wire) (track_y ch.low wire t +ℤ margin wire) joins_first_bottom is.on refl (in_via 1 x v is) (in_trunk x trunk (bottom_place x pin) is_trunk)
 
-    to_trunk : (s : Shape) → IsWireOf ch wire tracks net a t s → (path : List Shape) × Leads tech shapes s path trunk
+    to_trunk : (s : Shape) → IsWireOf ch wire tracks net a t s → (path : List Shape) × LeadsBy (Contains shapes) (Touch tech.connects) s path trunk
     to_trunk s (inl is) = ([], same_box _ _ _ _ _ s trunk is is_trunk)
     to_trunk s (inr (inl (x, pin, inr cut))) = (trunk ∷ [], (has_trunk, inr (inl (top_cut x s pin cut)), refl))
     to_trunk s (inr (inl (x, pin, inl branch))) = (
@@ -197,7 +195,7 @@ module _ (ch : Channel) (wire : Wire) (intervals : List Interval) (track : List 
       ),
     )
 
-    from_trunk : (s : Shape) → IsWireOf ch wire tracks net a t s → (path : List Shape) × Leads tech shapes trunk path s
+    from_trunk : (s : Shape) → IsWireOf ch wire tracks net a t s → (path : List Shape) × LeadsBy (Contains shapes) (Touch tech.connects) trunk path s
     from_trunk s (inl is) = ([], same_box _ _ _ _ _ trunk s is_trunk is)
     from_trunk s (inr (inl (x, pin, inr cut))) = (s ∷ [], (there s (inr (inl (x, pin, inr cut))), inr (inr (top_cut x s pin cut)), refl))
     from_trunk s (inr (inl (x, pin, inl branch))) = (
@@ -218,14 +216,14 @@ module _ (ch : Channel) (wire : Wire) (intervals : List Interval) (track : List 
       ),
     )
 
-    joined : (s u : Shape) → IsWireOf ch wire tracks net a t s → IsWireOf ch wire tracks net a t u → AreOnOneNet tech shapes s u
+    joined : (s u : Shape) → IsWireOf ch wire tracks net a t s → IsWireOf ch wire tracks net a t u → AreOnOneNet tech.connects shapes s u
     joined s u is_s is_u =
         let first = to_trunk s is_s in
         let second = from_trunk u is_u in
-        record { path = first.0 ++ second.0; leads = leads_on tech shapes s trunk u first.0 second.0 first.1 second.1 }
+        record { path = first.0 ++ second.0; leads = leads_on (Contains shapes) (Touch tech.connects) s trunk u first.0 second.0 first.1 second.1 }
 
   -- the wires of one net are one net of touching shapes
-  pub one_net : (net : ℕ) (s u : Shape) → IsOfNet ch wire intervals track tracks net s → IsOfNet ch wire intervals track tracks net u → AreOnOneNet tech shapes s u
+  pub one_net : (net : ℕ) (s u : Shape) → IsOfNet ch wire intervals track tracks net s → IsOfNet ch wire intervals track tracks net u → AreOnOneNet tech.connects shapes s u
   one_net net s u of_s of_u =
       let same_a = one_at intervals net of_u.interval of_s.interval of_u.has.there of_s.has.there in
       let same_t = one_at track net of_u.t of_s.t of_u.has.on of_s.has.on in

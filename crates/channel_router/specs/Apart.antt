@@ -26,5 +26,5 @@ pub record AreSevenLayers (wire : Wire) : Type 0 where
 
 -- under these connections alone, wires of different nets don't touch, and those of one net are one net of touching shapes
 pub record AreChannelNets (ch : Channel) (wire : Wire) (intervals : List Interval) (track : List ℕ) (tracks : ℕ) (shapes : List Shape) : Type 0 where
-  pub apart : (tech : Tech) (i j : ℕ) (s u : Shape) → tech.connects ≡ wire_connects wire → i ≢ j → IsOfNet ch wire intervals track tracks i s → IsOfNet ch wire intervals track tracks j u → Touch tech s u → ⊥
-  pub one : (tech : Tech) (net : ℕ) (s u : Shape) → tech.connects ≡ wire_connects wire → IsOfNet ch wire intervals track tracks net s → IsOfNet ch wire intervals track tracks net u → AreOnOneNet tech shapes s u
+  pub apart : (tech : Tech) (i j : ℕ) (s u : Shape) → tech.connects ≡ wire_connects wire → i ≢ j → IsOfNet ch wire intervals track tracks i s → IsOfNet ch wire intervals track tracks j u → Touch tech.connects s u → ⊥
+  pub one : (tech : Tech) (net : ℕ) (s u : Shape) → tech.connects ≡ wire_connects wire → IsOfNet ch wire intervals track tracks net s → IsOfNet ch wire intervals track tracks net u → AreOnOneNet tech.connects shapes s u

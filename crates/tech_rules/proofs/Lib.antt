@@ -3,7 +3,9 @@ pub mod LayerFacts
 pub mod IndexFacts
 pub mod RuleFacts
 pub mod WireFacts
+pub mod DeviceFacts
 pub mod TechFacts
 pub mod SpacingLaws
 pub mod DrawingLaws
 pub mod WireLaws
+pub mod LinkedLaws

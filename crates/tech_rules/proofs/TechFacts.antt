@@ -16,6 +16,7 @@ use Rattle.tech_rules.specs.declared.tech.RoleName.{RoleName}
 use Rattle.tech_rules.specs.declared.tech.Tech.{Tech}
 use Rattle.tech_rules.specs.declared.tech.Wire.{Wire}
 use Rattle.tech_rules.specs.Connects.{connects_under}
+use Rattle.tech_rules.specs.Devices.{devices_under}
 use Rattle.tech_rules.specs.Facts.{IsLayerIndex, IsWire, IsTech}
 use Rattle.tech_rules.specs.Layers.{layers_under, layer_under}
 use Rattle.tech_rules.specs.Roles.{is_cell_name, role_names, role_cell, roles_in, cells_of, roles_under, rows_under}
@@ -28,6 +29,7 @@ use Rattle.tech_rules.proofs.LayerFacts.{layers_hold}
 use Rattle.tech_rules.proofs.IndexFacts.{layer_under-IsLayerIndex, some_layer}
 use Rattle.tech_rules.proofs.RuleFacts.{rules_hold, connects_hold}
 use Rattle.tech_rules.proofs.WireFacts.{wire_holds}
+use Rattle.tech_rules.proofs.DeviceFacts.{devices_hold}
 
 cell_facts : (s : Section TechFault) (role : List ℕ) (r : RoleName) → role_cell s role ≡ Ok r
     → IsTrue (is_cell_name r.cell)
@@ -118,12 +120,14 @@ tech_holds s tech made =
     let e = steps_of (wire_under a.x s) _ tech d.next in
     let f = steps_of (roles_under s) _ tech e.next in
     let g = steps_of (rows_under s) _ tech f.next in
-    let made_so : Tech = record { layers = a.x; outline = b.x; rules = c.x; connects = d.x; wire = e.x; roles = f.x; tables = g.x } in
-    let kept = kept_if (bad_layer made_so) (λ layer. BadWire layer.name) made_so tech g.next in
+    let h = steps_of (devices_under a.x s) _ tech g.next in
+    let made_so : Tech = record { layers = a.x; outline = b.x; rules = c.x; connects = d.x; wire = e.x; roles = f.x; tables = g.x; devices = h.x } in
+    let kept = kept_if (bad_layer made_so) (λ layer. BadWire layer.name) made_so tech h.next in
     let layers = layers_hold s a.x a.first in
     let rules = rules_hold a.x s c.x c.first in
     let connects = connects_hold a.x s d.x d.first in
     let wire = wire_holds a.x s e.x e.first in
+    let devices = devices_hold a.x s h.x h.first in
     subst IsTech kept.same (record {
       some_layer = layers.some;
       few_layers = layers.few;
@@ -137,6 +141,8 @@ tech_holds s tech made =
       wire = wire;
       allowed = allowed_wire made_so e.x wire kept.none;
       roles = roles_hold s f.x f.first;
+      few_devices = devices.few;
+      devices = devices.are;
     })
 
 pub gives-IsTech : (s : Section TechFault) (answer : Result Tech TechFault) → MatchesUnless Memory answer (tech_in s)

@@ -2,6 +2,7 @@
 use Rattle.std.specs.Prelude.{◌≡◌, ◌≢◌, ◌≤◌, ◌<◌, ℕ, ℤ, pos, ◌-ℤ◌, ◌<ℤ◌, List, length, None, IfSome, IsTrue, All, AllPairs, int_rem}
 use Rattle.toml_keys.specs.Keys.{IsInRange}
 use Rattle.tech_rules.specs.declared.tech.Connect.{Connect}
+use Rattle.tech_rules.specs.declared.tech.Device.{Device}
 use Rattle.tech_rules.specs.declared.tech.Layer.{Layer}
 use Rattle.tech_rules.specs.declared.tech.Rule.{Rule}
 use Rattle.tech_rules.specs.declared.tech.Rule.TheVariants.{Width, Space, Enclose}
@@ -79,6 +80,16 @@ pub record IsWire (layers : List Layer) (wire : Wire) : Type 0 where
   pub cuts_differ : AllPairs (λ a b. a ≢ b) wire.cuts
   pub apart : All (λ cut. All (λ metal. cut ≢ metal) wire.metals) wire.cuts
 
+-- a kind of transistor's model is one that a file may name, and its three layers are there and differ
+pub record IsDevice (layers : List Layer) (device : Device) : Type 0 where
+  pub model : IsTrue (is_cell_name device.model)
+  pub gate : IsLayerIndex layers device.gate
+  pub active : IsLayerIndex layers device.active
+  pub by : IsLayerIndex layers device.by
+  pub active_differs : device.active ≢ device.gate
+  pub by_differs : device.by ≢ device.gate
+  pub by_and_active : device.by ≢ device.active
+
 -- What holds of a technology that is read: every index is that of a layer, names of layers differ, numbers are ones that
 -- a file may give, and the rules and connections allow the wires.
 pub record IsTech (tech : Tech) : Type 0 where
@@ -94,3 +105,5 @@ pub record IsTech (tech : Tech) : Type 0 where
   pub wire : IfSome tech.wire (IsWire tech.layers)
   pub allowed : IfSome tech.wire (λ wire. first_bad_index tech wire ≡ None)
   pub roles : All (λ r. IsTrue (is_cell_name r.cell)) tech.roles
+  pub few_devices : length tech.devices ≤ 8
+  pub devices : All (IsDevice tech.layers) tech.devices

@@ -6,9 +6,11 @@ pub mod Connects
 pub mod Wires
 pub mod WireRules
 pub mod Roles
+pub mod Devices
 pub mod Facts
 pub mod Technology
 pub mod Drawing
 pub mod Spacing
 pub mod Touch
+pub mod Linked
 pub mod Net

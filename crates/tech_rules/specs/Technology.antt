@@ -15,6 +15,7 @@ use Rattle.tech_rules.specs.Connects.{connects_under}
 use Rattle.tech_rules.specs.Wires.{wire_under}
 use Rattle.tech_rules.specs.WireRules.{bad_layer}
 use Rattle.tech_rules.specs.Roles.{roles_under, rows_under}
+use Rattle.tech_rules.specs.Devices.{devices_under}
 
 -- the technology, unless its rules don't allow its wires
 abbrev pub with_good_wires : Tech → Result Tech TechFault
@@ -30,7 +31,8 @@ tech_in s =
     wire_under layers s >>= λ wire.
     roles_under s >>= λ roles.
     rows_under s >>= λ tables.
-    with_good_wires (record { layers = layers; outline = outline; rules = rules; connects = connects; wire = wire; roles = roles; tables = tables })
+    devices_under layers s >>= λ devices.
+    with_good_wires (record { layers = layers; outline = outline; rules = rules; connects = connects; wire = wire; roles = roles; tables = tables; devices = devices })
 
 -- the technology of a file
 abbrev pub technology : List ℕ → Result Tech TechFault

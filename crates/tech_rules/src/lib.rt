@@ -1,7 +1,8 @@
-//! Reads a technology file: its layers, design rules, connections, wire sizes and leaf cells.
+//! Reads a technology file: its layers, design rules, connections, wire sizes, leaf cells and kinds of transistors.
 #![tactic(auto)]
 
 mod connects;
+mod devices;
 mod fault;
 mod layers;
 mod names;
@@ -16,4 +17,4 @@ mod wires;
 pub use fault::TechFault;
 pub use read::read_tech;
 pub use route::{RouteFault, Tap, first_close, via};
-pub use tech::{Connect, Layer, RoleName, RoleRows, Rule, Tech, Wire};
+pub use tech::{Connect, Device, Layer, RoleName, RoleRows, Rule, Tech, Wire};

@@ -11,6 +11,7 @@ ghost use Rattle.toml_keys.specs.Section.{section_of};
 ghost use Rattle.tech_rules.specs.declared.fault.TechFault.TheVariants as tech_fault;
 
 use crate::connects::connects_from;
+use crate::devices::devices_from;
 use crate::fault::TechFault;
 use crate::layers::{layer_at, layers_from};
 use crate::roles::{roles_from, rows_from};
@@ -57,6 +58,7 @@ fn tech_in(document: &KeyTable<TechFault>) -> Result<Tech, TechFault>
     let wire = wire_from(document, layers.as_slice())?;
     let roles = roles_from(document)?;
     let tables = rows_from(document)?;
+    let devices = devices_from(document, layers.as_slice())?;
     let tech = Tech {
         layers,
         outline,
@@ -65,6 +67,7 @@ fn tech_in(document: &KeyTable<TechFault>) -> Result<Tech, TechFault>
         wire,
         roles,
         tables,
+        devices,
     };
     with_good_wires(document.alloc(), tech)
 }

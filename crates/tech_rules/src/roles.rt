@@ -70,7 +70,8 @@ fn cell_at(section: &KeyTable<TechFault>, role: &str) -> Result<RoleName, TechFa
     Ok(RoleName { role, cell })
 }
 
-fn is_cell_name(text: &[u8]) -> bool
+/// Whether the text may name a cell or a model: 1 to 32 printable ASCII characters without spaces.
+pub fn is_cell_name(text: &[u8]) -> bool
     ensures { result ≡ is_cell_name text.now }
 {
     !text.is_empty() && text.len() <= MAX_CELL_LENGTH && are_cell_bytes(text)

@@ -65,6 +65,16 @@ pub struct RoleRows {
     pub rows: Items<Name>,
 }
 
+/// A kind of transistor: the model that a SPICE text names, and the three different layers that its channels lie in.
+/// Where a gate crosses active there is a channel, if the `by` layer, as a select or an implant, is there too.
+#[derive(Debug, Drop)]
+pub struct Device {
+    pub model: Name,
+    pub gate: u16,
+    pub active: u16,
+    pub by: u16,
+}
+
 /// A technology.
 #[derive(Debug, Drop)]
 pub struct Tech {
@@ -75,6 +85,7 @@ pub struct Tech {
     pub wire: Option<Wire>,
     pub roles: Items<RoleName>,
     pub tables: Items<RoleRows>,
+    pub devices: Items<Device>,
 }
 
 fn share<T: Sync>(_shared: &T) {}
