@@ -7,7 +7,7 @@ use Rattle.std.proofs.lemmas.List.Elements.{Contains-push_cases}
 use Rattle.or_geom.specs.declared.shape.Shape.{Shape}
 use Rattle.or_geom.proofs.ListLaws.{contained_at}
 use Rattle.or_geom.specs.ShapeOrder.{shape_order}
-use Rattle.tech_rules.specs.declared.tech.Tech.{Tech}
+use Rattle.tech_rules.specs.declared.tech.Connect.{Connect}
 use Rattle.cell_hierarchy.specs.declared.flat.Label.{Label}
 use Rattle.cell_hierarchy.specs.Plain.{plain_label}
 use Rattle.element_drawing.specs.PlainLabel.{PlainLabel}
@@ -21,7 +21,7 @@ use Rattle.shape_bins.specs.Numbers.{IsOn}
 use Rattle.net_extractor.specs.Numbering.{IsNumbering}
 use Rattle.net_extractor.specs.FirstAppearance.{AppearFrom}
 use Rattle.net_extractor.specs.Entries.{entry, IsNetOf}
-use Rattle.net_extractor.specs.Extraction.{label_of, anchor_of, AreNets}
+use Rattle.net_extractor.specs.Extraction.{label_of, anchor_of, AreNetsUnder}
 use Rattle.net_extractor.proofs.NumberLaws.{on_one}
 use Rattle.net_extractor.proofs.ExtractLaws.{bound_there}
 
@@ -39,8 +39,8 @@ pub record IsHeld (shapes : List Shape) (nets : List (Option ℕ)) (e : NetLabel
   pub on : IsOn nets place number
 
 -- what stands in the entries so far, of the first labels
-pub record AreEntries (tech : Tech) (shapes : List Shape) (labels : List Label) (i : ℕ) (numbering : Numbering) (entries : List NetLabel) : Type 0 where
-  pub numbered : IsNumbering tech shapes numbering
+pub record AreEntries (connections : List Connect) (shapes : List Shape) (labels : List Label) (i : ℕ) (numbering : Numbering) (entries : List NetLabel) : Type 0 where
+  pub numbered : IsNumbering connections shapes numbering
   pub few : numbering.next ≤ i
   pub each : map label_of entries ≡ map plain_label (take i labels)
   pub right : (e : NetLabel) → Contains entries e → IsFree shapes e ⊎ IsHeld shapes numbering.numbers.given e
@@ -50,9 +50,9 @@ net_step : (net : Option ℕ) (entries : List NetLabel) (label : PlainLabel) (mo
 net_step net entries label more =
     ap (λ (ns : List (Option ℕ)). ns ++ more) (map-append (λ (e : NetLabel). e.net) entries (entry label net ∷ [])) ∙ append_assoc (map (λ (e : NetLabel). e.net) entries) (net ∷ []) more
 
-appear_step : (tech : Tech) (shapes : List Shape) (label : Anchor) (old new : Numbering) (net : Option ℕ) (more : List (Option ℕ)) → IsNetOf tech shapes label old net new → AppearFrom new.next more → AppearFrom old.next (net ∷ more)
-appear_step tech shapes label old new None more h a = subst (λ (n : Numbering). AppearFrom n.next more) h.same a
-appear_step tech shapes label old new (Some number) more h a = elim h.numbers.next [
+appear_step : (connections : List Connect) (shapes : List Shape) (label : Anchor) (old new : Numbering) (net : Option ℕ) (more : List (Option ℕ)) → IsNetOf connections shapes label old net new → AppearFrom new.next more → AppearFrom old.next (net ∷ more)
+appear_step connections shapes label old new None more h a = subst (λ (n : Numbering). AppearFrom n.next more) h.same a
+appear_step connections shapes label old new (Some number) more h a = elim h.numbers.next [
   | inl seen ↦ inl (seen.0, subst (λ (n : ℕ). AppearFrom n more) seen.1 a)
   | inr fresh ↦ inr (fresh.0, subst (λ (n : ℕ). AppearFrom n more) fresh.1 a)
 ]
@@ -61,29 +61,29 @@ kept_right : (shapes : List Shape) (old new : List (Option ℕ)) (e : NetLabel) 
 kept_right shapes old new e kept (inl f) = inl f
 kept_right shapes old new e kept (inr h) = inr (record { place = h.place; number = h.number; bound = h.bound; is = h.is; on = kept h.place h.number h.on })
 
-kept_numbers : (tech : Tech) (shapes : List Shape) (label : Anchor) (old new : Numbering) (net : Option ℕ) → IsNetOf tech shapes label old net new → (k m : ℕ) → IsOn old.numbers.given k m → IsOn new.numbers.given k m
-kept_numbers tech shapes label old new None h k m on = subst (λ (n : Numbering). IsOn n.numbers.given k m) (sym h.same) on
-kept_numbers tech shapes label old new (Some number) h k m on = h.numbers.kept k m on
+kept_numbers : (connections : List Connect) (shapes : List Shape) (label : Anchor) (old new : Numbering) (net : Option ℕ) → IsNetOf connections shapes label old net new → (k m : ℕ) → IsOn old.numbers.given k m → IsOn new.numbers.given k m
+kept_numbers connections shapes label old new None h k m on = subst (λ (n : Numbering). IsOn n.numbers.given k m) (sym h.same) on
+kept_numbers connections shapes label old new (Some number) h k m on = h.numbers.kept k m on
 
-numbered_step : (tech : Tech) (shapes : List Shape) (label : Anchor) (old new : Numbering) (net : Option ℕ) → IsNetOf tech shapes label old net new → IsNumbering tech shapes old → IsNumbering tech shapes new
-numbered_step tech shapes label old new None h n = subst (IsNumbering tech shapes) (sym h.same) n
-numbered_step tech shapes label old new (Some number) h n = h.numbers.numbered
+numbered_step : (connections : List Connect) (shapes : List Shape) (label : Anchor) (old new : Numbering) (net : Option ℕ) → IsNetOf connections shapes label old net new → IsNumbering connections shapes old → IsNumbering connections shapes new
+numbered_step connections shapes label old new None h n = subst (IsNumbering connections shapes) (sym h.same) n
+numbered_step connections shapes label old new (Some number) h n = h.numbers.numbered
 
-few_step : (tech : Tech) (shapes : List Shape) (label : Anchor) (old new : Numbering) (net : Option ℕ) (i : ℕ) → IsNetOf tech shapes label old net new → old.next ≤ i → new.next ≤ i + 1
-few_step tech shapes label old new None i h le = let e = ap (λ (n : Numbering). n.next) h.same in omega (arith, e, le)
-few_step tech shapes label old new (Some number) i h le = elim h.numbers.next [
+few_step : (connections : List Connect) (shapes : List Shape) (label : Anchor) (old new : Numbering) (net : Option ℕ) (i : ℕ) → IsNetOf connections shapes label old net new → old.next ≤ i → new.next ≤ i + 1
+few_step connections shapes label old new None i h le = let e = ap (λ (n : Numbering). n.next) h.same in omega (arith, e, le)
+few_step connections shapes label old new (Some number) i h le = elim h.numbers.next [
   | inl seen ↦ let e = seen.1 in omega (arith, e, le)
   | inr fresh ↦ let e = fresh.1 in omega (arith, e, le)
 ]
 
-right_step : (tech : Tech) (shapes : List Shape) (label : PlainLabel) (old new : Numbering) (net : Option ℕ) → IsNetOf tech shapes (anchor_of (entry label net)) old net new
+right_step : (connections : List Connect) (shapes : List Shape) (label : PlainLabel) (old new : Numbering) (net : Option ℕ) → IsNetOf connections shapes (anchor_of (entry label net)) old net new
     → IsFree shapes (entry label net) ⊎ IsHeld shapes new.numbers.given (entry label net)
-right_step tech shapes label old new None h = inl (record { none = h.none; is = refl })
-right_step tech shapes label old new (Some number) h = inr (record { place = h.place; number = number; bound = h.bound; is = refl; on = h.numbers.here })
+right_step connections shapes label old new None h = inl (record { none = h.none; is = refl })
+right_step connections shapes label old new (Some number) h = inr (record { place = h.place; number = number; bound = h.bound; is = refl; on = h.numbers.here })
 
-pub entries_begin : (tech : Tech) (shapes : List Shape) (labels : List Label) (numbering : Numbering) (entries : List NetLabel) → IsNumbering tech shapes numbering → numbering.next ≡ 0 → entries ≡ [] → AreEntries tech shapes labels 0 numbering entries
-entries_begin tech shapes labels numbering entries n zeroth none =
-    subst (AreEntries tech shapes labels 0 numbering) (sym none) (record {
+pub entries_begin : (connections : List Connect) (shapes : List Shape) (labels : List Label) (numbering : Numbering) (entries : List NetLabel) → IsNumbering connections shapes numbering → numbering.next ≡ 0 → entries ≡ [] → AreEntries connections shapes labels 0 numbering entries
+entries_begin connections shapes labels numbering entries n zeroth none =
+    subst (AreEntries connections shapes labels 0 numbering) (sym none) (record {
       numbered = n;
       few = omega (arith, zeroth);
       each = refl;
@@ -91,24 +91,24 @@ entries_begin tech shapes labels numbering entries n zeroth none =
       order = λ more a. subst (λ (k : ℕ). AppearFrom k more) zeroth a;
     })
 
-pub entries_more : (tech : Tech) (shapes : List Shape) (labels : List Label) (i : ℕ) (label : Label) (net : Option ℕ) (old new : Numbering) (entries more : List NetLabel)
-    → i < length labels → label ≡ get_or labels i label → IsNetOf tech shapes (anchor_of (entry (plain_label label) net)) old net new → more ≡ entries ++ entry (plain_label label) net ∷ []
-    → AreEntries tech shapes labels i old entries → AreEntries tech shapes labels (i + 1) new more
-entries_more tech shapes labels i label net old new entries more lt is h grown a =
+pub entries_more : (connections : List Connect) (shapes : List Shape) (labels : List Label) (i : ℕ) (label : Label) (net : Option ℕ) (old new : Numbering) (entries more : List NetLabel)
+    → i < length labels → label ≡ get_or labels i label → IsNetOf connections shapes (anchor_of (entry (plain_label label) net)) old net new → more ≡ entries ++ entry (plain_label label) net ∷ []
+    → AreEntries connections shapes labels i old entries → AreEntries connections shapes labels (i + 1) new more
+entries_more connections shapes labels i label net old new entries more lt is h grown a =
     let anchor = anchor_of (entry (plain_label label) net) in
-    subst (AreEntries tech shapes labels (i + 1) new) (sym grown) (record {
-      numbered = numbered_step tech shapes anchor old new net h a.numbered;
-      few = few_step tech shapes anchor old new net i h a.few;
+    subst (AreEntries connections shapes labels (i + 1) new) (sym grown) (record {
+      numbered = numbered_step connections shapes anchor old new net h a.numbered;
+      few = few_step connections shapes anchor old new net i h a.few;
       each =
           map-append label_of entries (entry (plain_label label) net ∷ [])
           ∙ (ap (λ (ls : List PlainLabel). ls ++ plain_label label ∷ []) a.each
           ∙ (sym (map-append plain_label (take i labels) (label ∷ []))
           ∙ ap (map plain_label) (ap (λ (l : Label). take i labels ++ l ∷ []) is ∙ sym (take_more labels i label lt))));
       right = λ e c. elim (Contains-push_cases entries (entry (plain_label label) net) e c) [
-        | inl earlier ↦ kept_right shapes old.numbers.given new.numbers.given e (kept_numbers tech shapes anchor old new net h) (a.right e earlier)
-        | inr same ↦ subst (λ (f : NetLabel). IsFree shapes f ⊎ IsHeld shapes new.numbers.given f) same (right_step tech shapes (plain_label label) old new net h)
+        | inl earlier ↦ kept_right shapes old.numbers.given new.numbers.given e (kept_numbers connections shapes anchor old new net h) (a.right e earlier)
+        | inr same ↦ subst (λ (f : NetLabel). IsFree shapes f ⊎ IsHeld shapes new.numbers.given f) same (right_step connections shapes (plain_label label) old new net h)
       ];
-      order = λ rest b. subst (AppearFrom 0) (sym (net_step net entries (plain_label label) rest)) (a.order (net ∷ rest) (appear_step tech shapes anchor old new net rest h b));
+      order = λ rest b. subst (AppearFrom 0) (sym (net_step net entries (plain_label label) rest)) (a.order (net ∷ rest) (appear_step connections shapes anchor old new net rest h b));
     })
 
 -- who binds a shape is held
@@ -123,9 +123,9 @@ free_exactly shapes nets e (inr h) = (
   λ n. absurd (n h.bound.shape (contained_at shapes h.place h.bound.shape h.bound.there) h.bound.under),
 )
 
-one_exactly : (tech : Tech) (shapes : List Shape) (numbering : Numbering) (e f : NetLabel) (s t : Shape) → IsStrictlySortedBy shape_order shapes → IsNumbering tech shapes numbering
-    → IsHeld shapes numbering.numbers.given e → IsHeld shapes numbering.numbers.given f → Binds shapes (anchor_of e) s → Binds shapes (anchor_of f) t → (e.net ≡ f.net) ↔ AreOnOneNet tech shapes s t
-one_exactly tech shapes numbering e f s t rises n a b binds_s binds_t =
+one_exactly : (connections : List Connect) (shapes : List Shape) (numbering : Numbering) (e f : NetLabel) (s t : Shape) → IsStrictlySortedBy shape_order shapes → IsNumbering connections shapes numbering
+    → IsHeld shapes numbering.numbers.given e → IsHeld shapes numbering.numbers.given f → Binds shapes (anchor_of e) s → Binds shapes (anchor_of f) t → (e.net ≡ f.net) ↔ AreOnOneNet connections shapes s t
+one_exactly connections shapes numbering e f s t rises n a b binds_s binds_t =
     let nets = numbering.numbers.given in
     let at_s = bound_there shapes (anchor_of e) a.place s rises a.bound binds_s in
     let at_t = bound_there shapes (anchor_of f) b.place t rises b.bound binds_t in
@@ -140,12 +140,12 @@ one_exactly tech shapes numbering e f s t rises n a b binds_s binds_t =
           a.is ∙ (ap (λ (k : ℕ). Some k) equal ∙ sym b.is),
     )
 
-pub entries_all : (tech : Tech) (shapes : List Shape) (labels : List Label) (i : ℕ) (numbering : Numbering) (entries : List NetLabel) → IsStrictlySortedBy shape_order shapes → length labels ≤ i
-    → AreEntries tech shapes labels i numbering entries → AreNets tech shapes (map plain_label labels) entries
-entries_all tech shapes labels i numbering entries rises le a = record {
+pub entries_all : (connections : List Connect) (shapes : List Shape) (labels : List Label) (i : ℕ) (numbering : Numbering) (entries : List NetLabel) → IsStrictlySortedBy shape_order shapes → length labels ≤ i
+    → AreEntries connections shapes labels i numbering entries → AreNetsUnder connections shapes (map plain_label labels) entries
+entries_all connections shapes labels i numbering entries rises le a = record {
   each = a.each ∙ ap (map plain_label) (take_all i labels le);
   unbound = λ e h. free_exactly shapes numbering.numbers.given e (a.right e h);
   one = λ e f s t in_e in_f binds_s binds_t.
-      one_exactly tech shapes numbering e f s t rises a.numbered (held shapes numbering.numbers.given e s (a.right e in_e) binds_s) (held shapes numbering.numbers.given f t (a.right f in_f) binds_t) binds_s binds_t;
+      one_exactly connections shapes numbering e f s t rises a.numbered (held shapes numbering.numbers.given e s (a.right e in_e) binds_s) (held shapes numbering.numbers.given f t (a.right f in_f) binds_t) binds_s binds_t;
   numbered = subst (AppearFrom 0) (append-nil (map (λ (e : NetLabel). e.net) entries)) (a.order [] tt);
 }

@@ -10,7 +10,7 @@ use Rattle.or_geom.proofs.ListLaws.{contained_at, all_contained}
 use Rattle.or_geom.specs.ShapeOrder.{shape_order}
 use Rattle.or_geom.proofs.OneListLaws.{not_both}
 use Rattle.or_geom.proofs.ShapeOrderLaws.{shape_total}
-use Rattle.tech_rules.specs.declared.tech.Tech.{Tech}
+use Rattle.tech_rules.specs.declared.tech.Connect.{Connect}
 use Rattle.net_extractor.specs.declared.label.Anchor.{Anchor}
 use Rattle.tech_rules.specs.Touch.{IsConductor, Touch}
 use Rattle.net_extractor.specs.Binding.{Binds}
@@ -28,16 +28,16 @@ earlier_less {X} cmp (z ∷ zs) zero (suc j) x y rises lt at_i at_j =
 earlier_less cmp (z ∷ zs) (suc i) zero x y rises lt at_i at_j = absurd (omega arith)
 earlier_less cmp (z ∷ zs) (suc i) (suc j) x y rises lt at_i at_j = earlier_less cmp zs i j x y rises.1 (omega arith) at_i at_j
 
-pub touch_turned : (tech : Tech) (a b : Shape) → Touch tech a b → Touch tech b a
-touch_turned tech a b (inl t) =
+pub touch_turned : (connections : List Connect) (a b : Shape) → Touch connections a b → Touch connections b a
+touch_turned connections a b (inl t) =
     let j = t.joined in
     inl (record {
       one_layer = sym t.one_layer;
-      conductor = subst (IsConductor tech) t.one_layer t.conductor;
+      conductor = subst (IsConductor connections) t.one_layer t.conductor;
       joined = record { p = j.p; q = j.q; differ = j.differ; p_in_a = j.p_in_b; p_in_b = j.p_in_a; q_in_a = j.q_in_b; q_in_b = j.q_in_a };
     })
-touch_turned tech a b (inr (inl t)) = inr (inr t)
-touch_turned tech a b (inr (inr t)) = inr (inl t)
+touch_turned connections a b (inr (inl t)) = inr (inr t)
+touch_turned connections a b (inr (inr t)) = inr (inl t)
 
 -- two places of one shape are one
 pub distinct : (shapes : List Shape) (i j : ℕ) (s : Shape) → IsStrictlySortedBy shape_order shapes → slice_get shapes i ≡ Some s → slice_get shapes j ≡ Some s → i ≡ j

@@ -6,7 +6,7 @@ use Rattle.std.proofs.lemmas.List.Elements.{Contains-append_left, Contains-push,
 use Rattle.std.proofs.lemmas.Bool.{cases_eq, cases_lt}
 use Rattle.or_geom.specs.declared.shape.Shape.{Shape}
 use Rattle.or_geom.proofs.ListLaws.{contained_at, contains_none, one_at}
-use Rattle.tech_rules.specs.declared.tech.Tech.{Tech}
+use Rattle.tech_rules.specs.declared.tech.Connect.{Connect}
 use Rattle.shape_bins.specs.Numbers.{IsOn, KeepsNumbers, GivesAll}
 use Rattle.shape_bins.proofs.NumberLaws.{has_kept}
 use Rattle.tech_rules.specs.Touch.{Touch}
@@ -24,17 +24,17 @@ on_within given k m on = elim (cases_lt k (length given)) [
 ]
 
 -- the flood, while shapes at some places wait for what touches them
-pub record IsFlooding (tech : Tech) (shapes : List Shape) (start number : ℕ) (old now : List (Option ℕ)) (waiting : List ℕ) : Type 0 where
+pub record IsFlooding (connections : List Connect) (shapes : List Shape) (start number : ℕ) (old now : List (Option ℕ)) (waiting : List ℕ) : Type 0 where
   pub sized : length now ≡ length old
   pub kept : KeepsNumbers old now
   pub here : IsOn now start number
-  pub only : (place n : ℕ) → IsOn now place n → IsOn old place n ⊎ IsFloodedAt tech shapes start number place n
+  pub only : (place n : ℕ) → IsOn now place n → IsOn old place n ⊎ IsFloodedAt connections shapes start number place n
   pub wait : (place : ℕ) → Contains waiting place → IsOn now place number
-  pub spread : (place : ℕ) → IsOn now place number → Contains waiting place ⊎ IsSpread tech shapes now place
+  pub spread : (place : ℕ) → IsOn now place number → Contains waiting place ⊎ IsSpread connections shapes now place
 
-pub flood_begins : (tech : Tech) (shapes : List Shape) (start number : ℕ) (old now : List (Option ℕ)) (waiting : List ℕ) → start < length shapes → length old ≡ length shapes → get_or old start None ≡ None → IsUnused old number
-    → now ≡ set old start (Some number) → waiting ≡ start ∷ [] → IsFlooding tech shapes start number old now waiting
-flood_begins tech shapes start number old now waiting lt sized none unused is one =
+pub flood_begins : (connections : List Connect) (shapes : List Shape) (start number : ℕ) (old now : List (Option ℕ)) (waiting : List ℕ) → start < length shapes → length old ≡ length shapes → get_or old start None ≡ None → IsUnused old number
+    → now ≡ set old start (Some number) → waiting ≡ start ∷ [] → IsFlooding connections shapes start number old now waiting
+flood_begins connections shapes start number old now waiting lt sized none unused is one =
     let inside : start < length old = omega (arith, lt, sized) in
     let here : IsOn now start number = subst (λ (ns : List (Option ℕ)). IsOn ns start number) (sym is) (get_or-set_same old start (Some number) None inside) in
     let first = exists_at shapes start lt in
@@ -52,7 +52,7 @@ flood_begins tech shapes start number old now waiting lt sized none unused is on
         | inl e ↦
             let there : IsOn now start n = subst (λ (p : ℕ). IsOn now p n) e on in
             let same : ◌≡◌ {A = Option ℕ} (Some n) (Some number) = sym there ∙ here in
-            inr (record { is = cc; first = first.0; shape = first.0; begins = first.1; there = subst (λ (p : ℕ). slice_get shapes p ≡ Some first.0) (sym e) first.1; net = net_of_itself tech shapes first.0 })
+            inr (record { is = cc; first = first.0; shape = first.0; begins = first.1; there = subst (λ (p : ℕ). slice_get shapes p ≡ Some first.0) (sym e) first.1; net = net_of_itself connections shapes first.0 })
         | inr ne ↦ inl (sym (get_or-set_other old start k (Some number) None ne) ∙ subst (λ (ns : List (Option ℕ)). IsOn ns k n) is on)
       ];
       wait = λ k h. elim (Contains-push_cases [] start k (subst (λ (l : List ℕ). Contains l k) one h)) [
@@ -65,9 +65,9 @@ flood_begins tech shapes start number old now waiting lt sized none unused is on
       ];
     }
 
-pub flood_goes_on : (tech : Tech) (shapes : List Shape) (start number next : ℕ) (shape : Shape) (old now new : List (Option ℕ)) (waiting rest after : List ℕ) → IsUnused old number → waiting ≡ rest ++ next ∷ [] → slice_get shapes next ≡ Some shape
-    → GivesAll (TouchesAt tech shapes shape) number now new rest after → IsFlooding tech shapes start number old now waiting → IsFlooding tech shapes start number old new after
-flood_goes_on tech shapes start number next shape old now new waiting rest after unused popped at given f =
+pub flood_goes_on : (connections : List Connect) (shapes : List Shape) (start number next : ℕ) (shape : Shape) (old now new : List (Option ℕ)) (waiting rest after : List ℕ) → IsUnused old number → waiting ≡ rest ++ next ∷ [] → slice_get shapes next ≡ Some shape
+    → GivesAll (TouchesAt connections shapes shape) number now new rest after → IsFlooding connections shapes start number old now waiting → IsFlooding connections shapes start number old new after
+flood_goes_on connections shapes start number next shape old now new waiting rest after unused popped at given f =
     let last : Contains waiting next = subst (λ (l : List ℕ). Contains l next) (sym popped) (Contains-push rest next) in
     let g = given.gives in
     record {
@@ -87,7 +87,7 @@ flood_goes_on tech shapes start number next shape old now new waiting rest after
                 shape = t.other;
                 begins = from.begins;
                 there = t.there;
-                net = net_further tech shapes from.first shape t.other (subst (λ (s : Shape). AreOnOneNet tech shapes from.first s) same from.net) (contained_at shapes k t.other t.there) t.touch;
+                net = net_further connections shapes from.first shape t.other (subst (λ (s : Shape). AreOnOneNet connections shapes from.first s) same from.net) (contained_at shapes k t.other t.there) t.touch;
               })
         ]
       ];
@@ -102,7 +102,7 @@ flood_goes_on tech shapes start number next shape old now new waiting rest after
             | inr e ↦ inr (λ other s t at_k at_other touch.
                 let here : slice_get shapes k ≡ Some shape = subst (λ (p : ℕ). slice_get shapes p ≡ Some shape) e at in
                 let same : s ≡ shape = one_at shapes k s shape at_k here in
-                given.all other (record { other = t; there = at_other; touch = subst (λ (u : Shape). Touch tech u t) same touch }))
+                given.all other (record { other = t; there = at_other; touch = subst (λ (u : Shape). Touch connections u t) same touch }))
           ]
           | inr done ↦ inr (λ other s t at_k at_other touch. has_kept now new other g.kept (done other s t at_k at_other touch))
         ]
@@ -111,16 +111,16 @@ flood_goes_on tech shapes start number next shape old now new waiting rest after
     }
 
 -- a place that waits is one of a shape
-pub wait_inside : (tech : Tech) (shapes : List Shape) (start number next : ℕ) (old now : List (Option ℕ)) (waiting rest : List ℕ) → length old ≡ length shapes → waiting ≡ rest ++ next ∷ [] → IsFlooding tech shapes start number old now waiting
+pub wait_inside : (connections : List Connect) (shapes : List Shape) (start number next : ℕ) (old now : List (Option ℕ)) (waiting rest : List ℕ) → length old ≡ length shapes → waiting ≡ rest ++ next ∷ [] → IsFlooding connections shapes start number old now waiting
     → next < length shapes
-wait_inside tech shapes start number next old now waiting rest sized popped f =
+wait_inside connections shapes start number next old now waiting rest sized popped f =
     let on = f.wait next (subst (λ (l : List ℕ). Contains l next) (sym popped) (Contains-push rest next)) in
     let lt = on_within now next number on in
     let s = f.sized in
     omega (arith, lt, s, sized)
 
-pub flood_ends : (tech : Tech) (shapes : List Shape) (start number : ℕ) (old now : List (Option ℕ)) (waiting : List ℕ) → waiting ≡ [] → IsFlooding tech shapes start number old now waiting → IsFlooded tech shapes start number old now
-flood_ends tech shapes start number old now waiting none f = record {
+pub flood_ends : (connections : List Connect) (shapes : List Shape) (start number : ℕ) (old now : List (Option ℕ)) (waiting : List ℕ) → waiting ≡ [] → IsFlooding connections shapes start number old now waiting → IsFlooded connections shapes start number old now
+flood_ends connections shapes start number old now waiting none f = record {
   sized = f.sized;
   kept = f.kept;
   here = f.here;

@@ -1,13 +1,14 @@
 mod AreaLaws
-mod PlaceLaws
+pub mod PlaceLaws
 mod GivingLaws
 mod NetLaws
 mod LinkLaws
 mod FloodLaws
 mod BindLaws
 mod NumberLaws
-mod ExtractLaws
+pub mod ExtractLaws
 mod EntryLaws
+mod ShapeNetLaws
 mod PinLaws
 mod KeyLaws
 mod MixedLaws

@@ -6,7 +6,7 @@ use Rattle.std.proofs.lemmas.List.{length-replicate}
 use Rattle.or_geom.specs.declared.shape.Shape.{Shape}
 use Rattle.or_geom.specs.ShapeOrder.{shape_order}
 use Rattle.or_geom.proofs.ListLaws.{contained_at, one_at}
-use Rattle.tech_rules.specs.declared.tech.Tech.{Tech}
+use Rattle.tech_rules.specs.declared.tech.Connect.{Connect}
 use Rattle.shape_bins.specs.Numbers.{IsOn, HasNumber}
 use Rattle.net_extractor.specs.declared.numbering.Numbering.{Numbering}
 use Rattle.tech_rules.specs.Net.{AreOnOneNet}
@@ -18,37 +18,37 @@ use Rattle.net_extractor.proofs.NetLaws.{net_of_itself, nets_on, net_further, ne
 pub on_one : (nets : List (Option ℕ)) (k m n : ℕ) → IsOn nets k m → IsOn nets k n → m ≡ n
 on_one nets k m n a b = let e : ◌≡◌ {A = Option ℕ} (Some m) (Some n) = sym a ∙ b in cc
 
-pub old_number : (tech : Tech) (shapes : List Shape) (numbering : Numbering) (place number : ℕ) → IsNumbering tech shapes numbering → IsOn numbering.numbers.given place number → Numbers tech shapes numbering place number numbering
-old_number tech shapes numbering place number n on = record { numbered = n; kept = λ k m h. h; here = on; next = inl (n.below place number on, refl) }
+pub old_number : (connections : List Connect) (shapes : List Shape) (numbering : Numbering) (place number : ℕ) → IsNumbering connections shapes numbering → IsOn numbering.numbers.given place number → Numbers connections shapes numbering place number numbering
+old_number connections shapes numbering place number n on = record { numbered = n; kept = λ k m h. h; here = on; next = inl (n.below place number on, refl) }
 
 -- the next number is new
-pub next_unused : (tech : Tech) (shapes : List Shape) (numbering : Numbering) → IsNumbering tech shapes numbering → IsUnused numbering.numbers.given numbering.next
-next_unused tech shapes numbering n place on = let lt = n.below place numbering.next on in omega (arith, lt)
+pub next_unused : (connections : List Connect) (shapes : List Shape) (numbering : Numbering) → IsNumbering connections shapes numbering → IsUnused numbering.numbers.given numbering.next
+next_unused connections shapes numbering n place on = let lt = n.below place numbering.next on in omega (arith, lt)
 
 -- what a flood gave numbers to, and what had them, have spread
-all_spread : (tech : Tech) (shapes : List Shape) (old new : Numbering) (start : ℕ) → IsNumbering tech shapes old → IsFlooded tech shapes start old.next old.numbers.given new.numbers.given → (k : ℕ) → HasNumber new.numbers.given k
-    → IsSpread tech shapes new.numbers.given k
-all_spread tech shapes old new start n f k has other s t at_k at_other touch = elim (f.only k has.number has.is) [
+all_spread : (connections : List Connect) (shapes : List Shape) (old new : Numbering) (start : ℕ) → IsNumbering connections shapes old → IsFlooded connections shapes start old.next old.numbers.given new.numbers.given → (k : ℕ) → HasNumber new.numbers.given k
+    → IsSpread connections shapes new.numbers.given k
+all_spread connections shapes old new start n f k has other s t at_k at_other touch = elim (f.only k has.number has.is) [
   | inl earlier ↦
-      let net = net_further tech shapes s s t (net_of_itself tech shapes s) (contained_at shapes other t at_other) touch in
+      let net = net_further connections shapes s s t (net_of_itself connections shapes s) (contained_at shapes other t at_other) touch in
       record { number = has.number; is = f.kept other has.number ((n.whole k other has.number s t at_k at_other earlier).1 net) }
   | inr fresh ↦ f.spread k (subst (λ (m : ℕ). IsOn new.numbers.given k m) fresh.is has.is) other s t at_k at_other touch
 ]
 
 -- two shapes that a flood gave the number to
-both_flooded : (tech : Tech) (shapes : List Shape) (start number from to m n : ℕ) (s t : Shape) → slice_get shapes from ≡ Some s → slice_get shapes to ≡ Some t → IsFloodedAt tech shapes start number from m → IsFloodedAt tech shapes start number to n
-    → AreOnOneNet tech shapes s t
-both_flooded tech shapes start number from to m n s t at_from at_to a b =
+both_flooded : (connections : List Connect) (shapes : List Shape) (start number from to m n : ℕ) (s t : Shape) → slice_get shapes from ≡ Some s → slice_get shapes to ≡ Some t → IsFloodedAt connections shapes start number from m → IsFloodedAt connections shapes start number to n
+    → AreOnOneNet connections shapes s t
+both_flooded connections shapes start number from to m n s t at_from at_to a b =
     let first : a.first ≡ b.first = one_at shapes start a.first b.first a.begins b.begins in
     let here : a.shape ≡ s = one_at shapes from a.shape s a.there at_from in
     let there : b.shape ≡ t = one_at shapes to b.shape t b.there at_to in
-    let one : AreOnOneNet tech shapes a.first s = subst (λ (u : Shape). AreOnOneNet tech shapes a.first u) here a.net in
-    let two : AreOnOneNet tech shapes b.first t = subst (λ (u : Shape). AreOnOneNet tech shapes b.first u) there b.net in
-    nets_on tech shapes s a.first t (net_back tech shapes a.first s (contained_at shapes start a.first a.begins) one) (subst (λ (u : Shape). AreOnOneNet tech shapes u t) (sym first) two)
+    let one : AreOnOneNet connections shapes a.first s = subst (λ (u : Shape). AreOnOneNet connections shapes a.first u) here a.net in
+    let two : AreOnOneNet connections shapes b.first t = subst (λ (u : Shape). AreOnOneNet connections shapes b.first u) there b.net in
+    nets_on connections shapes s a.first t (net_back connections shapes a.first s (contained_at shapes start a.first a.begins) one) (subst (λ (u : Shape). AreOnOneNet connections shapes u t) (sym first) two)
 
-pub new_number : (tech : Tech) (shapes : List Shape) (old new : Numbering) (place : ℕ) → IsStrictlySortedBy shape_order shapes → IsNumbering tech shapes old → get_or old.numbers.given place None ≡ None → new.numbers.shapes ≡ shapes
-    → IsFlooded tech shapes place old.next old.numbers.given new.numbers.given → new.next ≡ old.next + 1 → Numbers tech shapes old place old.next new
-new_number tech shapes old new place rises n none same f next =
+pub new_number : (connections : List Connect) (shapes : List Shape) (old new : Numbering) (place : ℕ) → IsStrictlySortedBy shape_order shapes → IsNumbering connections shapes old → get_or old.numbers.given place None ≡ None → new.numbers.shapes ≡ shapes
+    → IsFlooded connections shapes place old.next old.numbers.given new.numbers.given → new.next ≡ old.next + 1 → Numbers connections shapes old place old.next new
+new_number connections shapes old new place rises n none same f next =
     let before = old.numbers.given in
     let after = new.numbers.given in
     record {
@@ -66,16 +66,16 @@ new_number tech shapes old new place rises n none same f next =
           | inr fresh ↦ (
             λ on_to. elim (f.only to number on_to) [
               | inl there ↦ let lt = n.below to number there in let e = fresh.is in absurd (omega (arith, lt, e))
-              | inr there ↦ both_flooded tech shapes place old.next from to number number s t at_from at_to fresh there
+              | inr there ↦ both_flooded connections shapes place old.next from to number number s t at_from at_to fresh there
             ],
             λ net.
-                let has : HasNumber after to = net_numbered tech shapes after from to s t rises (all_spread tech shapes old new place n f) at_from at_to (record { number = number; is = on }) net in
+                let has : HasNumber after to = net_numbered connections shapes after from to s t rises (all_spread connections shapes old new place n f) at_from at_to (record { number = number; is = on }) net in
                 elim (f.only to has.number has.is) [
                   | inl earlier ↦
                       let first = fresh.first in
                       let here : fresh.shape ≡ s = one_at shapes from fresh.shape s fresh.there at_from in
-                      let one : AreOnOneNet tech shapes first s = subst (λ (u : Shape). AreOnOneNet tech shapes first u) here fresh.net in
-                      let back = net_back tech shapes first t (contained_at shapes place first fresh.begins) (nets_on tech shapes first s t one net) in
+                      let one : AreOnOneNet connections shapes first s = subst (λ (u : Shape). AreOnOneNet connections shapes first u) here fresh.net in
+                      let back = net_back connections shapes first t (contained_at shapes place first fresh.begins) (nets_on connections shapes first s t one net) in
                       let clash : IsOn before place has.number = (n.whole to place has.number t first at_to fresh.begins earlier).1 back in
                       let e : ◌≡◌ {A = Option ℕ} None (Some has.number) = sym none ∙ clash in
                       absurd cc
@@ -99,8 +99,8 @@ no_number (suc n) zero m on = absurd cc
 no_number (suc n) (suc k) m on = no_number n k m on
 
 -- no shape has a number yet
-pub numbering_begins : (tech : Tech) (shapes : List Shape) (n : ℕ) (numbering : Numbering) → numbering.numbers.shapes ≡ shapes → numbering.numbers.given ≡ replicate n None → n ≡ length shapes → IsNumbering tech shapes numbering
-numbering_begins tech shapes n numbering same none sized = record {
+pub numbering_begins : (connections : List Connect) (shapes : List Shape) (n : ℕ) (numbering : Numbering) → numbering.numbers.shapes ≡ shapes → numbering.numbers.given ≡ replicate n None → n ≡ length shapes → IsNumbering connections shapes numbering
+numbering_begins connections shapes n numbering same none sized = record {
   same = same;
   sized = ap length none ∙ (length-replicate n None ∙ sized);
   whole = λ from to number s t at_from at_to on. absurd (no_number n from number (subst (λ (ns : List (Option ℕ)). IsOn ns from number) none on));

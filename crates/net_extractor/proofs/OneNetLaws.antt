@@ -6,11 +6,11 @@ use Rattle.or_geom.specs.declared.shape.Shape.{Shape}
 use Rattle.or_geom.proofs.ListLaws.{contained_at}
 use Rattle.or_geom.proofs.NumberingLaws.{one_by, Follows, one_number}
 use Rattle.element_drawing.specs.PlainLabel.{PlainLabel}
-use Rattle.tech_rules.specs.declared.tech.Tech.{Tech}
+use Rattle.tech_rules.specs.declared.tech.Connect.{Connect}
 use Rattle.net_extractor.specs.declared.label.Anchor.{Anchor}
 use Rattle.net_extractor.specs.declared.label.NetLabel.{NetLabel}
 use Rattle.net_extractor.specs.Binding.{Binds, BindsNone}
-use Rattle.net_extractor.specs.Extraction.{label_of, anchor_of, AreNets}
+use Rattle.net_extractor.specs.Extraction.{label_of, anchor_of, AreNetsUnder}
 use Rattle.net_extractor.specs.FirstAppearance.{AppearFrom}
 use Rattle.net_extractor.specs.OneAnswer.{NetsAreUnique}
 use Rattle.net_extractor.proofs.OneBindingLaws.{binds_some}
@@ -83,7 +83,7 @@ twin (x ∷ xs) (y ∷ ys) (suc place) e same h = let t = twin xs ys place e (cc
 one_anchor : (e f : NetLabel) → label_of e ≡ label_of f → anchor_of e ≡ anchor_of f
 one_anchor e f same = ap (λ (l : PlainLabel). let made : Anchor = record { layer = l.layer; at = l.at } in made) same
 
-module _ (tech : Tech) (shapes : List Shape) (labels : List PlainLabel) (a b : List NetLabel) (x : AreNets tech shapes labels a) (y : AreNets tech shapes labels b) where
+module _ (connections : List Connect) (shapes : List Shape) (labels : List PlainLabel) (a b : List NetLabel) (x : AreNetsUnder connections shapes labels a) (y : AreNetsUnder connections shapes labels b) where
   -- where the one has no net the other has none
   none_too : (k : ℕ) (e f : NetLabel) → slice_get a k ≡ Some e → slice_get b k ≡ Some f → label_of e ≡ label_of f → f.net ≡ None → e.net ≡ None
   none_too k e f at_e at_f same none =
@@ -134,17 +134,17 @@ module _ (tech : Tech) (shapes : List Shape) (labels : List PlainLabel) (a b : L
   }
 
 -- of entries of one label neither has a net where the other has none, and the numbers are one
-same_net : (tech : Tech) (shapes : List Shape) (labels : List PlainLabel) (a b : List NetLabel) (k : ℕ) (e f : NetLabel) (m n : Option ℕ) → AreNets tech shapes labels a → AreNets tech shapes labels b → slice_get a k ≡ Some e → slice_get b k ≡ Some f
+same_net : (connections : List Connect) (shapes : List Shape) (labels : List PlainLabel) (a b : List NetLabel) (k : ℕ) (e f : NetLabel) (m n : Option ℕ) → AreNetsUnder connections shapes labels a → AreNetsUnder connections shapes labels b → slice_get a k ≡ Some e → slice_get b k ≡ Some f
     → label_of e ≡ label_of f → e.net ≡ m → f.net ≡ n → e.net ≡ f.net
-same_net tech shapes labels a b k e f None n x y at_e at_f same is_m is_n = is_m ∙ sym (none_too tech shapes labels b a y x k f e at_f at_e (sym same) is_m)
-same_net tech shapes labels a b k e f (Some m) None x y at_e at_f same is_m is_n = none_too tech shapes labels a b x y k e f at_e at_f same is_n ∙ sym is_n
-same_net tech shapes labels a b k e f (Some m) (Some n) x y at_e at_f same is_m is_n =
+same_net connections shapes labels a b k e f None n x y at_e at_f same is_m is_n = is_m ∙ sym (none_too connections shapes labels b a y x k f e at_f at_e (sym same) is_m)
+same_net connections shapes labels a b k e f (Some m) None x y at_e at_f same is_m is_n = none_too connections shapes labels a b x y k e f at_e at_f same is_n ∙ sym is_n
+same_net connections shapes labels a b k e f (Some m) (Some n) x y at_e at_f same is_m is_n =
     let has : HasNumber (nets_of a) k m = net_at a k e at_e ∙ ap (λ (o : Option ℕ). Some o) is_m in
     let other : HasNumber (nets_of b) k n = net_at b k f at_f ∙ ap (λ (o : Option ℕ). Some o) is_n in
-    let one : m ≡ n = one_number (HasNumber (nets_of a)) (HasNumber (nets_of b)) (follows tech shapes labels a b x y) (follows tech shapes labels b a y x) k m n has other in
+    let one : m ≡ n = one_number (HasNumber (nets_of a)) (HasNumber (nets_of b)) (follows connections shapes labels a b x y) (follows connections shapes labels b a y x) k m n has other in
     is_m ∙ (ap (λ (number : ℕ). Some number) one ∙ sym is_n)
 
 pub one_nets : NetsAreUnique
 one_nets tech shapes labels a b x y = one_by label_of a b (x.each ∙ sym y.each) (λ k e f at_e at_f same.
-    let net = same_net tech shapes labels a b k e f e.net f.net x y at_e at_f same refl refl in
+    let net = same_net tech.connects shapes labels a b k e f e.net f.net x y at_e at_f same refl refl in
     λ i. record { path = (same i).path; name = (same i).name; layer = (same i).layer; at = (same i).at; net = net i })

@@ -2,7 +2,7 @@
 use Rattle.std.specs.Prelude.{◌≡◌, ℕ, List, Option, Some, None}
 use Rattle.or_geom.specs.declared.shape.Shape.{Shape}
 use Rattle.element_drawing.specs.PlainLabel.{PlainLabel}
-use Rattle.tech_rules.specs.declared.tech.Tech.{Tech}
+use Rattle.tech_rules.specs.declared.tech.Connect.{Connect}
 use Rattle.net_extractor.specs.declared.label.Anchor.{Anchor}
 use Rattle.net_extractor.specs.declared.label.NetLabel.{NetLabel}
 use Rattle.net_extractor.specs.declared.numbering.Numbering.{Numbering}
@@ -20,11 +20,11 @@ pub record IsUnbound (shapes : List Shape) (label : Anchor) (old new : Numbering
   pub same : new ≡ old
 
 -- the label binds the shape at a place, which has the number
-pub record IsNumbered (tech : Tech) (shapes : List Shape) (label : Anchor) (old : Numbering) (number : ℕ) (new : Numbering) : Type 0 where
+pub record IsNumbered (connections : List Connect) (shapes : List Shape) (label : Anchor) (old : Numbering) (number : ℕ) (new : Numbering) : Type 0 where
   pub place : ℕ
   pub bound : IsBoundAt shapes label place
-  pub numbers : Numbers tech shapes old place number new
+  pub numbers : Numbers connections shapes old place number new
 
-abbrev pub IsNetOf : Tech → List Shape → Anchor → Numbering → Option ℕ → Numbering → Type 0
-IsNetOf tech shapes label old None new = IsUnbound shapes label old new
-IsNetOf tech shapes label old (Some number) new = IsNumbered tech shapes label old number new
+abbrev pub IsNetOf : List Connect → List Shape → Anchor → Numbering → Option ℕ → Numbering → Type 0
+IsNetOf connections shapes label old None new = IsUnbound shapes label old new
+IsNetOf connections shapes label old (Some number) new = IsNumbered connections shapes label old number new

@@ -1,6 +1,7 @@
 -- The nets of the labels.
 use Rattle.std.specs.Prelude.{◌≡◌, ◌↔◌, List, Contains, None, map}
 use Rattle.or_geom.specs.declared.shape.Shape.{Shape}
+use Rattle.tech_rules.specs.declared.tech.Connect.{Connect}
 use Rattle.tech_rules.specs.declared.tech.Tech.{Tech}
 use Rattle.element_drawing.specs.PlainLabel.{PlainLabel}
 use Rattle.net_extractor.specs.declared.label.Anchor.{Anchor}
@@ -17,10 +18,14 @@ label_of entry = record { path = entry.path; name = entry.name; layer = entry.la
 abbrev pub anchor_of : NetLabel → Anchor
 anchor_of entry = record { layer = entry.layer; at = entry.at }
 
--- One entry for each label, in order. Its net is None exactly where it binds no shape, two nets are equal exactly where
+-- Under these connections: one entry for each label, in order. Its net is None exactly where it binds no shape, two nets are equal exactly where
 -- the bound shapes are on one net, and the numbers run from 0 by first appearance.
-pub record AreNets (tech : Tech) (shapes : List Shape) (labels : List PlainLabel) (entries : List NetLabel) : Type 0 where
+pub record AreNetsUnder (connections : List Connect) (shapes : List Shape) (labels : List PlainLabel) (entries : List NetLabel) : Type 0 where
   pub each : map label_of entries ≡ labels
   pub unbound : (e : NetLabel) → Contains entries e → (e.net ≡ None) ↔ BindsNone shapes (anchor_of e)
-  pub one : (e f : NetLabel) (s t : Shape) → Contains entries e → Contains entries f → Binds shapes (anchor_of e) s → Binds shapes (anchor_of f) t → (e.net ≡ f.net) ↔ AreOnOneNet tech shapes s t
+  pub one : (e f : NetLabel) (s t : Shape) → Contains entries e → Contains entries f → Binds shapes (anchor_of e) s → Binds shapes (anchor_of f) t → (e.net ≡ f.net) ↔ AreOnOneNet connections shapes s t
   pub numbered : AreNumberedInOrder (map (λ (e : NetLabel). e.net) entries)
+
+-- under those of the technology
+abbrev pub AreNets : Tech → List Shape → List PlainLabel → List NetLabel → Type 0
+AreNets tech shapes labels entries = AreNetsUnder tech.connects shapes labels entries

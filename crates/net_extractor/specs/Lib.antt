@@ -1,6 +1,7 @@
 pub mod Binding
 pub mod FirstAppearance
 pub mod Extraction
+pub mod ShapeNets
 pub mod Contacts
 pub mod Links
 pub mod Flood

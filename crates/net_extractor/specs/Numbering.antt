@@ -1,22 +1,22 @@
 -- Numbers of nets, given to shapes by their places.
 use Rattle.std.specs.Prelude.{◌≡◌, ◌⊎◌, ◌↔◌, ℕ, ◌+◌, ◌<◌, List, length, slice_get, Some}
 use Rattle.or_geom.specs.declared.shape.Shape.{Shape}
-use Rattle.tech_rules.specs.declared.tech.Tech.{Tech}
+use Rattle.tech_rules.specs.declared.tech.Connect.{Connect}
 use Rattle.shape_bins.specs.Numbers.{IsOn, KeepsNumbers}
 use Rattle.net_extractor.specs.declared.numbering.Numbering.{Numbering}
 use Rattle.tech_rules.specs.Net.{AreOnOneNet}
 
 -- a number for some shapes, the same for another shape exactly where both are on one net
-pub record IsNumbering (tech : Tech) (shapes : List Shape) (numbering : Numbering) : Type 0 where
+pub record IsNumbering (connections : List Connect) (shapes : List Shape) (numbering : Numbering) : Type 0 where
   pub same : numbering.numbers.shapes ≡ shapes
   pub sized : length numbering.numbers.given ≡ length shapes
   pub whole : (from to number : ℕ) (s t : Shape) → slice_get shapes from ≡ Some s → slice_get shapes to ≡ Some t → IsOn numbering.numbers.given from number
-      → IsOn numbering.numbers.given to number ↔ AreOnOneNet tech shapes s t
+      → IsOn numbering.numbers.given to number ↔ AreOnOneNet connections shapes s t
   pub below : (place number : ℕ) → IsOn numbering.numbers.given place number → number < numbering.next
 
 -- the shape at the place now has the number, which is one that was given before or the next one
-pub record Numbers (tech : Tech) (shapes : List Shape) (old : Numbering) (place number : ℕ) (new : Numbering) : Type 0 where
-  pub numbered : IsNumbering tech shapes new
+pub record Numbers (connections : List Connect) (shapes : List Shape) (old : Numbering) (place number : ℕ) (new : Numbering) : Type 0 where
+  pub numbered : IsNumbering connections shapes new
   pub kept : KeepsNumbers old.numbers.given new.numbers.given
   pub here : IsOn new.numbers.given place number
   pub next : ((number < old.next) × (new.next ≡ old.next)) ⊎ ((number ≡ old.next) × (new.next ≡ old.next + 1))

@@ -10,7 +10,7 @@ ghost use Rattle.net_extractor.specs.Flood.{IsFlooded, IsUnused};
 use crate::links::{add_links, is_conductor};
 use or_geom::{Memory, Shape};
 use shape_bins::{Query, ShapeNumbers};
-use tech_rules::Tech;
+use tech_rules::Connect;
 
 /// Lists that the flood uses again for each net.
 #[derive(Drop)]
@@ -21,16 +21,16 @@ pub struct Scratch {
 
 /// Gives the number to the shapes that are joined with this one on its conductor layer and have none.
 fn give_joined(
-    tech: &Tech,
+    connections: &[Connect],
     shape: Shape,
     number: u32,
     numbers: &mut ShapeNumbers,
     out: &mut Vec<usize>,
 ) -> Result<(), Memory>
     ensures shapes { numbers.new.shapes ≡ numbers.old.shapes }
-    ensures gives { OnOk result (GivesAll (TouchesOnLayerAt tech.now numbers.old.shapes shape) number numbers.old.given numbers.new.given out.old.items out.new.items) }
+    ensures gives { OnOk result (GivesAll (TouchesOnLayerAt connections.now numbers.old.shapes shape) number numbers.old.given numbers.new.given out.old.items out.new.items) }
 {
-    if !is_conductor(tech.connects.as_slice(), shape.layer) {
+    if !is_conductor(connections, shape.layer) {
         return Ok(());
     }
     numbers.give(shape.layer, Query::Joins(shape.rect), number, out)
@@ -55,7 +55,7 @@ fn give_overlapping(
 
 /// Gives the number to the shapes that touch this one and have none. `layers` is a list to use again.
 fn give_touching(
-    tech: &Tech,
+    connections: &[Connect],
     shape: Shape,
     number: u32,
     numbers: &mut ShapeNumbers,
@@ -63,11 +63,11 @@ fn give_touching(
     out: &mut Vec<usize>,
 ) -> Result<(), Memory>
     ensures shapes { numbers.new.shapes ≡ numbers.old.shapes }
-    ensures gives { OnOk result (GivesAll (TouchesAt tech.now numbers.old.shapes shape) number numbers.old.given numbers.new.given out.old.items out.new.items) }
+    ensures gives { OnOk result (GivesAll (TouchesAt connections.now numbers.old.shapes shape) number numbers.old.given numbers.new.given out.old.items out.new.items) }
 {
     layers.clear();
-    add_links(tech.connects.as_slice(), shape.layer, layers)?;
-    give_joined(tech, shape, number, numbers, out)?;
+    add_links(connections, shape.layer, layers)?;
+    give_joined(connections, shape, number, numbers, out)?;
     give_overlapping(shape, layers, number, numbers, out)?;
     Ok(())
 }
@@ -82,7 +82,7 @@ fn shape_at(shapes: &[Shape], place: usize) -> Shape
 
 /// Gives the number, which no shape has, to all shapes on the net of the one at the place.
 pub fn flood(
-    tech: &Tech,
+    connections: &[Connect],
     shapes: &[Shape],
     place: usize,
     number: u32,
@@ -95,7 +95,7 @@ pub fn flood(
     requires none { slice_index_or numbers.old.given place None ≡ None }
     requires unused { IsUnused numbers.old.given number }
     ensures same { numbers.new.shapes ≡ shapes.now }
-    ensures flooded { OnOk result (IsFlooded tech.now shapes.now place number numbers.old.given numbers.new.given) }
+    ensures flooded { OnOk result (IsFlooded connections.now shapes.now place number numbers.old.given numbers.new.given) }
 {
     numbers.set(place, number);
     scratch.pending.clear();
@@ -103,7 +103,7 @@ pub fn flood(
     while let Some(next) = scratch.pending.pop() {
         let shape = shape_at(shapes, next);
         give_touching(
-            tech,
+            connections,
             shape,
             number,
             numbers,

@@ -1,6 +1,6 @@
 use or_geom::{Items, Name, Point};
 
-/// Where a label stands: the place of its layer in the technology's list, and its point in nanometres.
+/// Where a label stands: the index of its layer in the technology's list, and its point in nanometres.
 #[derive(Clone, Copy)]
 pub struct Anchor {
     pub layer: u16,

@@ -1,4 +1,4 @@
-//! Which labels of a layout are on one net, and what they and a netlist differ in.
+//! Which shapes and labels of a layout are on one net, and what labels and a netlist differ in.
 #![tactic(auto)]
 
 mod bind;
@@ -11,13 +11,16 @@ mod keys;
 mod label;
 mod laws;
 mod links;
+mod net_numbers;
 mod nets;
 mod numbering;
 mod pins;
 mod strangers;
 
+pub use bind::bound_shape;
 pub use comparison::compare;
 pub use difference::{NetDiff, PinName};
-pub use label::{NetLabel, Nets};
+pub use label::{Anchor, NetLabel, Nets};
 pub use laws::{differences_are_unique, differences_exclude_alike, nets_are_unique};
+pub use net_numbers::shape_nets;
 pub use nets::extract;

@@ -3,10 +3,10 @@ ghost use Rattle.std.specs.List.Sorted.{IsStrictlySortedBy};
 ghost use Rattle.or_geom.specs.ShapeOrder.{shape_order};
 ghost use Rattle.cell_hierarchy.specs.Plain.{plain_label};
 ghost use Rattle.net_extractor.specs.Entries.{entry, IsNetOf};
-ghost use Rattle.net_extractor.specs.Extraction.{AreNets};
+ghost use Rattle.net_extractor.specs.Extraction.{AreNets, AreNetsUnder};
 ghost use Rattle.net_extractor.specs.Numbering.{IsNumbering};
 
-use crate::bind::bound_place;
+use crate::bind::bound_shape;
 use crate::flood::Scratch;
 use crate::label::{Anchor, NetLabel, Nets};
 use crate::numbering::{Numbering, number_at};
@@ -15,25 +15,25 @@ use or_geom::{Items, Memory, Name};
 use shape_bins::{Bins, ShapeNumbers};
 use std::alloc::Global;
 use std::thread::Threads;
-use tech_rules::Tech;
+use tech_rules::{Connect, Tech};
 
 /// The number of the net of the shape that a label binds, if it binds one.
 fn net_of(
-    tech: &Tech,
+    connections: &[Connect],
     bins: &Bins,
     label: Anchor,
     numbering: &mut Numbering,
     scratch: &mut Scratch,
 ) -> Result<Option<u32>, Memory>
     requires rises { IsStrictlySortedBy shape_order bins.now }
-    requires numbered { IsNumbering tech.now bins.now numbering.old }
+    requires numbered { IsNumbering connections.now bins.now numbering.old }
     requires few { numbering.old.next + 1 < 2 ^ 32 }
-    ensures { IfOk result (λ net. IsNetOf tech.now bins.now label numbering.old net numbering.new) }
+    ensures { IfOk result (λ net. IsNetOf connections.now bins.now label numbering.old net numbering.new) }
 {
-    let Some(place) = bound_place(bins, label) else {
+    let Some(place) = bound_shape(bins, label) else {
         return Ok(None);
     };
-    let number = number_at(tech, bins.shapes(), place, numbering, scratch)?;
+    let number = number_at(connections, bins.shapes(), place, numbering, scratch)?;
     Ok(Some(number))
 }
 
@@ -59,10 +59,15 @@ fn entry_of(alloc: Global, label: &Label, net: Option<u32>) -> Result<NetLabel, 
 }
 
 /// The nets of the labels, over the shapes of the bins.
-fn nets_of(alloc: Global, tech: &Tech, bins: &Bins, labels: &[Label]) -> Result<Nets, Memory>
+fn nets_of(
+    alloc: Global,
+    connections: &[Connect],
+    bins: &Bins,
+    labels: &[Label],
+) -> Result<Nets, Memory>
     requires rises { IsStrictlySortedBy shape_order bins.now }
     requires few { length labels.now ≤ 2 ^ 22 }
-    ensures { IfOk result (λ nets. AreNets tech.now bins.now (map plain_label labels.now) nets.labels) }
+    ensures { IfOk result (λ nets. AreNetsUnder connections.now bins.now (map plain_label labels.now) nets.labels) }
 {
     let mut numbering = Numbering {
         numbers: ShapeNumbers::new(alloc, bins)?,
@@ -79,7 +84,7 @@ fn nets_of(alloc: Global, tech: &Tech, bins: &Bins, labels: &[Label]) -> Result<
             layer: label.layer,
             at: label.at,
         };
-        let net = net_of(tech, bins, anchor, &mut numbering, &mut scratch)?;
+        let net = net_of(connections, bins, anchor, &mut numbering, &mut scratch)?;
         entries.push(entry_of(alloc, &label, net)?)?;
     }
     Ok(Nets { labels: entries })
@@ -102,5 +107,5 @@ pub fn extract<R: Threads + Sync>(
     requires few { length flat.now.labels.now ≤ 2 ^ 22 }
     ensures { IfOk result (λ nets. AreNets tech.now flat.now.shapes.now (map plain_label flat.now.labels.now) nets.labels) }
 {
-    nets_of(alloc, tech, bins, flat.labels)
+    nets_of(alloc, tech.connects.as_slice(), bins, flat.labels)
 }

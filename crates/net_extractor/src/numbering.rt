@@ -6,7 +6,7 @@ ghost use Rattle.net_extractor.specs.Numbering.{IsNumbering, Numbers};
 use crate::flood::{Scratch, flood};
 use or_geom::{Memory, Shape};
 use shape_bins::ShapeNumbers;
-use tech_rules::Tech;
+use tech_rules::Connect;
 
 /// The numbers of nets so far: for each shape its net's, where it has one, and the number of the next net.
 #[derive(Drop)]
@@ -17,7 +17,7 @@ pub struct Numbering<'b> {
 
 /// The number of the net of the shape at a place. A net that has none gets the next number, at all its shapes.
 pub fn number_at(
-    tech: &Tech,
+    connections: &[Connect],
     shapes: &[Shape],
     place: usize,
     numbering: &mut Numbering,
@@ -25,15 +25,22 @@ pub fn number_at(
 ) -> Result<u32, Memory>
     requires rises { IsStrictlySortedBy shape_order shapes.now }
     requires inside { place < length shapes.now }
-    requires numbered { IsNumbering tech.now shapes.now numbering.old }
+    requires numbered { IsNumbering connections.now shapes.now numbering.old }
     requires few { numbering.old.next + 1 < 2 ^ 32 }
-    ensures { IfOk result (λ number. Numbers tech.now shapes.now numbering.old place number numbering.new) }
+    ensures { IfOk result (λ number. Numbers connections.now shapes.now numbering.old place number numbering.new) }
 {
     if let Some(number) = numbering.numbers.get(place) {
         return Ok(number);
     }
     let number = numbering.next;
-    flood(tech, shapes, place, number, &mut numbering.numbers, scratch)?;
+    flood(
+        connections,
+        shapes,
+        place,
+        number,
+        &mut numbering.numbers,
+        scratch,
+    )?;
     numbering.next = number + 1;
     Ok(number)
 }

@@ -78,7 +78,7 @@ on_rects layer (t ∷ ts) s one on = elim (contains_cases t ts s one) [
 ]
 
 -- a shape of the layer that has the cell
-record IsShapeOver (layer : ℕ) (shapes : List Shape) (x y : ℤ) : Type 0 where
+pub record IsShapeOver (layer : ℕ) (shapes : List Shape) (x y : ℤ) : Type 0 where
   pub shape : Shape
   pub there : Contains shapes shape
   pub on : shape.layer ≡ layer
@@ -93,7 +93,7 @@ over_first layer s ss x y true e more (inl here) = record { shape = s; there = c
 over_first layer s ss x y true e more (inr there) = later layer s ss x y (more there)
 over_first layer s ss x y false e more h = later layer s ss x y (more h)
 
-shape_over : (layer : ℕ) (shapes : List Shape) (x y : ℤ) → HasCellInSome (rects_on layer shapes) x y → IsShapeOver layer shapes x y
+pub shape_over : (layer : ℕ) (shapes : List Shape) (x y : ℤ) → HasCellInSome (rects_on layer shapes) x y → IsShapeOver layer shapes x y
 shape_over layer [] x y h = absurd h
 shape_over layer (s ∷ ss) x y h = over_first layer s ss x y (s.layer == layer) refl (shape_over layer ss x y) h
 

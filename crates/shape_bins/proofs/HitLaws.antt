@@ -49,6 +49,11 @@ first_hit shapes layer query from nodes (Some place) f least = record {
   first = λ other above hit. least.least other above (hit_gives shapes layer query nodes other f hit);
 }
 
+pub some_hit : (shapes : List Shape) (layer : ℕ) (query : Query) (nodes : List Node) (found : Option ℕ) → IsForest shapes nodes → MatchOption found (NoneFrom layer query 0 nodes) (SomeGives (IsLeafNear layer query) nodes)
+    → MatchOption found (NoHitFrom shapes layer query 0) (IsHit shapes layer query)
+some_hit shapes layer query nodes None f none = λ place above hit. none place above (hit_gives shapes layer query nodes place f hit)
+some_hit shapes layer query nodes (Some place) f gives = gives_hit shapes layer query nodes place f.leaves gives
+
 -- shapes of the layer stand up to the next place
 pub run_begins : (shapes : List Shape) (layer begin : ℕ) → IsPlaceOn shapes layer begin → (place : ℕ) → begin ≤ place → place < begin + 1 → IsPlaceOn shapes layer place
 run_begins shapes layer begin on place above below = subst (λ (p : ℕ). IsPlaceOn shapes layer p) (omega (arith, above, below)) on

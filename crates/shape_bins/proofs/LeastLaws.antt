@@ -83,3 +83,9 @@ sought_ends layer query from all rest None e s =
 sought_ends layer query from all rest (Some place) e s =
     let w : IsSought layer query from all [] (Some place) = subst (λ (r : List Node). IsSought layer query from all r (Some place)) e s in
     record { from_there = w.hit.0; gives = w.hit.1; least = λ other above g. elim (w.left other above g) [ inl h ↦ absurd h | inr h ↦ h ] }
+
+-- a leaf of the rest is one of all
+pub sought_here : (layer : ℕ) (query : Query) (all rest ns : List Node) (n : Node) → rest ≡ n ∷ ns → n.size ≡ 1 → IsNodeNear layer query n → IsSought layer query 0 all rest None → SomeGives (IsLeafNear layer query) all n.place
+sought_here layer query all rest ns n e leaf near s =
+    let w : IsSought layer query 0 all (n ∷ ns) None = subst (λ (r : List Node). IsSought layer query 0 all r None) e s in
+    w.among n.place (inl (record { leaf = leaf; is = refl; near = near }))

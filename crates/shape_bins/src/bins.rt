@@ -4,14 +4,14 @@ ghost use Rattle.or_geom.specs.Covered.{HasCellInSome, IsCovered};
 ghost use Rattle.or_geom.specs.Row.{IsFound};
 ghost use Rattle.shape_bins.specs.Layers.{rects_on};
 ghost use Rattle.shape_bins.specs.Forest.{IsForest};
-ghost use Rattle.shape_bins.specs.Hits.{IsNearShape, NoHitFrom, IsFirstHit};
-ghost use Rattle.shape_bins.specs.declared.query.Query.TheVariants.{Meets, At};
+ghost use Rattle.shape_bins.specs.Hits.{IsHit, IsNearShape, NoHitFrom, IsFirstHit};
+ghost use Rattle.shape_bins.specs.declared.query.Query.TheVariants.{Meets, Overlaps, At};
 
 use crate::cover::{box_covered, rect_at};
 use crate::layers::forest;
 use crate::node::Node;
 use crate::query::Query;
-use crate::walk::{add_near, least_near};
+use crate::walk::{add_near, least_near, some_near};
 use bumpalo::Bump;
 use bumpalo::collections::into_bump_slice;
 use cell_hierarchy::Flat;
@@ -69,6 +69,13 @@ impl<'b> Bins<'b> {
         least_near(self.nodes, layer, Query::At(point), 0)
     }
 
+    /// The place of one of the layer's shapes that share area with the area.
+    pub fn some_over(&self, layer: u16, area: Rect) -> Option<usize>
+        ensures { MatchOption result (NoHitFrom self.now layer (Overlaps area) 0) (IsHit self.now layer (Overlaps area)) }
+    {
+        some_near(self.nodes, layer, Query::Overlaps(area))
+    }
+
     /// One of the layer's rectangles that hold the unit cell with this lower left corner.
     pub fn rect_at(&self, layer: u16, cell: Point) -> Option<Rect>
         ensures { MatchOption result (HasCellInSome (rects_on layer self.now) cell.x cell.y → ⊥) (IsFound (rects_on layer self.now) cell) }
@@ -93,7 +100,7 @@ impl<'b> Bins<'b> {
 
 /// The bins of a flat layout's shapes, in the arena.
 pub fn index<'b>(alloc: Global, bump: &'b Bump, flat: &Flat<'b>) -> Result<Bins<'b>, Memory>
-    requires { length flat.now.shapes.now ≤ 16777216 }
+    requires { length flat.now.shapes.now ≤ 4294967295 }
     ensures { IfOk result (λ bins. bins ≡ flat.now.shapes.now) }
 {
     let nodes = forest(alloc, bump, flat.shapes)?;

@@ -74,3 +74,22 @@ pub fn least_near(nodes: &[Node], layer: u16, query: Query, from: usize) -> Opti
     }
     found
 }
+
+/// The place of one of the layer's shapes that are looked for.
+pub fn some_near(nodes: &[Node], layer: u16, query: Query) -> Option<usize>
+    requires { AreBoxNodes nodes.now }
+    ensures { MatchOption result (NoneFrom layer query 0 nodes.now) (SomeGives (IsLeafNear layer query) nodes.now) }
+{
+    let mut rest = nodes;
+    while let Some((node, below)) = rest.split_first() {
+        if !is_wanted(*node, layer, query) {
+            (_, rest) = below.split_at(node.size - 1);
+            continue;
+        }
+        if node.size == 1 {
+            return Some(node.place);
+        }
+        rest = below;
+    }
+    None
+}

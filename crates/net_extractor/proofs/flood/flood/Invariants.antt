@@ -6,7 +6,7 @@ use Rattle.net_extractor.proofs.flood.flood.Given as goal
 abbrev pub invariant-loop-next : goal.invariant-loop-next
 invariant-loop-next l = record {
   same : l.numbers.shapes ≡ l.shapes;
-  flooding : IsFlooding l.tech l.shapes l.place l.number l.fn.numbers.given l.numbers.given l.scratch.pending.items;
+  flooding : IsFlooding l.connections l.shapes l.place l.number l.fn.numbers.given l.numbers.given l.scratch.pending.items;
 }
 
 abbrev pub decreases-loop-next : goal.decreases-loop-next

@@ -1,8 +1,5 @@
-use Rattle.std.proofs.Common.{List, refl, sym, subst}
-use Rattle.std.specs.Prelude.{Contains}
+use Rattle.std.proofs.Common.{refl}
 use Rattle.std.proofs.lemmas.Result.{on_ok_weaker}
-use Rattle.or_geom.specs.Gathering.{SomeHas}
-use Rattle.tech_rules.specs.declared.tech.Connect.{Connect}
 use Rattle.shape_bins.specs.declared.query.Query.TheVariants.{Joins}
 use Rattle.shape_bins.specs.Hits.{IsHit}
 use Rattle.net_extractor.specs.Contacts.{TouchesOnLayerAt}
@@ -12,16 +9,16 @@ use Rattle.net_extractor.proofs.flood.give_joined.Goals as goal
 
 pub returns-then-not-is_conductor-clause-gives : goal.returns-then-not-is_conductor-clause-gives
 returns-then-not-is_conductor-clause-gives c =
-    given_none (TouchesOnLayerAt c.args.tech.now c.args.numbers.now.shapes c.args.shape) _ _ _
+    given_none (TouchesOnLayerAt c.args.connections.now c.args.numbers.now.shapes c.args.shape) _ _ _
     (λ p t.
-    let yes = c.if-not-is_conductor.ensures.1 (subst (λ (cs : List Connect). SomeHas (λ (k : Connect). Contains k.to c.args.shape.layer) cs) (sym c.as_slice.ensures) t.touch.conductor) in
+    let yes = c.if-not-is_conductor.ensures.1 t.touch.conductor in
     absurd cc)
 
 pub returns-clause-gives : goal.returns-clause-gives
 returns-clause-gives c =
-    let conductor = subst (λ (cs : List Connect). SomeHas (λ (k : Connect). Contains k.to c.args.shape.layer) cs) c.as_slice.ensures (c.if-not-is_conductor.ensures.0 refl) in
+    let conductor = c.if-not-is_conductor.ensures.0 refl in
     on_ok_weaker _
-    (λ a. given_as (IsHit c.args.numbers.now.shapes c.args.shape.layer (Joins c.args.shape.rect)) (TouchesOnLayerAt c.args.tech.now c.args.numbers.now.shapes c.args.shape) _ _ _ _ _
-    (λ p hit. joined_hit c.args.tech.now c.args.numbers.now.shapes c.args.shape p conductor hit)
-    (λ p t. hit_joined c.args.tech.now c.args.numbers.now.shapes c.args.shape p t) a)
+    (λ a. given_as (IsHit c.args.numbers.now.shapes c.args.shape.layer (Joins c.args.shape.rect)) (TouchesOnLayerAt c.args.connections.now c.args.numbers.now.shapes c.args.shape) _ _ _ _ _
+    (λ p hit. joined_hit c.args.connections.now c.args.numbers.now.shapes c.args.shape p conductor hit)
+    (λ p t. hit_joined c.args.connections.now c.args.numbers.now.shapes c.args.shape p t) a)
     c.give.ensures.gives

@@ -2,4 +2,4 @@ use Rattle.net_extractor.proofs.EntryLaws.{AreEntries}
 use Rattle.net_extractor.proofs.nets.nets_of.Given as goal
 
 abbrev pub invariant-loop-index : goal.invariant-loop-index
-invariant-loop-index l = AreEntries l.tech l.bins l.labels l.index l.numbering l.entries
+invariant-loop-index l = AreEntries l.connections l.bins l.labels l.index l.numbering l.entries
