@@ -1,0 +1,15 @@
+pub mod NeighbourLaws
+pub mod SortedLaws
+pub mod PlaceLaws
+pub mod LookupLaws
+pub mod EntryLaws
+pub mod CompareLaws
+pub mod NearLaws
+pub mod FindLaws
+pub mod RoleLaws
+pub mod TerminalLaws
+pub mod OneWayLaws
+pub mod MovedLaws
+pub mod OneStepLaws
+pub mod OneRoleLaws
+pub mod OneAnswerLaws

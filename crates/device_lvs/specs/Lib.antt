@@ -1,0 +1,11 @@
+pub mod NetNames
+pub mod Sorted
+pub mod Lookup
+pub mod ChannelEntries
+pub mod EntrySteps
+pub mod Difference
+pub mod CompareSteps
+pub mod Roles
+pub mod Answer
+pub mod RoleSteps
+pub mod OneAnswer
