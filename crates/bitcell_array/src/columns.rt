@@ -13,10 +13,10 @@ ghost use Rattle.part_edges.specs.PartPins.{edge_at};
 ghost use Rattle.bitcell_array.specs.Columns.{column_edges, AreColumnEdges};
 
 use cell_roles::Role;
-use leaf_tables::{Edge, Kit, LeafPin};
+use leaf_tables::{Edge, Kit, LeafPin, leaf_of};
 use macro_wires::LeafSides;
 use or_geom::{Items, Memory};
-use part_edges::{edge_at, leaf_of, sorted_edges};
+use part_edges::{edge_at, sorted_edges};
 use port_lists::{Spelling, spell};
 use sram_plan::Plan;
 use std::alloc::Global;

@@ -2,3 +2,4 @@ mod FindLaws
 mod LeafLaws
 mod StepLaws
 mod AlignLaws
+pub mod RoleLaws

@@ -4,3 +4,4 @@ pub mod Steps
 pub mod Alignment
 pub mod Faults
 pub mod Kits
+pub mod NearLeaf

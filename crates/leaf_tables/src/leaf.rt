@@ -166,7 +166,7 @@ fn flat_of<'b>(
 }
 
 /// The leaf of a cell that plays the role.
-fn leaf_of(
+fn drawn_leaf(
     alloc: Global,
     tech: &Tech,
     wire: &Wire,
@@ -221,7 +221,7 @@ fn read_leaf(
     let Some(cell) = cell_named_for(tech.roles.as_slice(), role) else {
         unreachable!();
     };
-    leaf_of(alloc, tech, wire, lib, deck, role, cell)
+    drawn_leaf(alloc, tech, wire, lib, deck, role, cell)
 }
 
 /// The role at an index.

@@ -8,6 +8,7 @@ mod fault;
 mod kit;
 mod leaf;
 mod lookup;
+mod of_role;
 mod part;
 mod read;
 
@@ -16,6 +17,7 @@ pub use fault::KitFault;
 pub use kit::{Kit, Leaf};
 pub use leaf_shapes::LeafPin;
 pub use lookup::role_number;
+pub use of_role::{leaf_of, wire_of};
 pub use part::{Edge, Edges, PartFault};
 pub use read::read_kit;
 pub use role_tables::{TableFault, read_tables};

@@ -1,4 +1,6 @@
-mod SideLaws
+pub mod SideLaws
 mod PlaceLaws
 mod WidthLaws
 mod LogicLaws
+pub mod DemandLaws
+pub mod UprightLaws

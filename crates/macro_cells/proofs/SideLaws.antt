@@ -1,51 +1,14 @@
 -- The sides of leaf cells.
-use Rattle.std.proofs.Common.{◌≡◌, ℕ, ◌<◌, ◌≤◌, ℤ, pos, negsuc, ◌<ℤ◌, ◌≤ℤ◌, length, Option, Some, slice_get, option_map, refl, ap, subst, sym, arith, nat_abs, to_z, of_z, w64}
+use Rattle.std.proofs.Common.{◌≡◌, ℕ, ◌<◌, ◌≤◌, ℤ, pos, negsuc, ◌<ℤ◌, ◌≤ℤ◌, Option, Some, option_map, refl, ap, subst, sym, arith, nat_abs, to_z, of_z, w64}
 use Rattle.std.proofs.lemmas.Int.{ints}
 use Rattle.cell_roles.specs.declared.role.Role.{Role}
-use Rattle.cell_roles.specs.declared.role.Role.TheVariants.{Bitcell, Precharge, Mux, Tie, Sense, Write, RowNand2, RowNand3, Driver, Nand2, Nand3, Inv, Dff, Delay}
-use Rattle.cell_roles.specs.Roles.{all_roles}
 use Rattle.leaf_tables.specs.declared.kit.Kit.{Kit}
 use Rattle.leaf_tables.specs.declared.kit.Leaf.{Leaf}
 use Rattle.leaf_tables.specs.Leaves.{LeafSource, IsLeaf}
 use Rattle.leaf_tables.specs.Kits.{IsKit, source_of}
-use Rattle.leaf_tables.specs.Alignment.{role_number, leaf_in}
+use Rattle.leaf_tables.specs.Alignment.{leaf_in}
+use Rattle.leaf_tables.proofs.RoleLaws.{in_kit}
 use Rattle.macro_cells.specs.LeafSides.{side_of, leaf_width, leaf_height}
-
-role_there : (role : Role) → slice_get all_roles (role_number role) ≡ Some role
-role_there Bitcell = refl
-role_there Precharge = refl
-role_there Mux = refl
-role_there Tie = refl
-role_there Sense = refl
-role_there Write = refl
-role_there RowNand2 = refl
-role_there RowNand3 = refl
-role_there Driver = refl
-role_there Nand2 = refl
-role_there Nand3 = refl
-role_there Inv = refl
-role_there Dff = refl
-role_there Delay = refl
-
-few_roles : (role : Role) → role_number role < 14
-few_roles Bitcell = omega arith
-few_roles Precharge = omega arith
-few_roles Mux = omega arith
-few_roles Tie = omega arith
-few_roles Sense = omega arith
-few_roles Write = omega arith
-few_roles RowNand2 = omega arith
-few_roles RowNand3 = omega arith
-few_roles Driver = omega arith
-few_roles Nand2 = omega arith
-few_roles Nand3 = omega arith
-few_roles Inv = omega arith
-few_roles Dff = omega arith
-few_roles Delay = omega arith
-
--- each role has a leaf
-pub role_below : (kit : Kit) → IsKit kit → (place : ℕ) (role : Role) → place ≡ role_number role → place < length kit.leaves
-role_below kit is place role at = let few = few_roles role in let sized : length kit.leaves ≡ 14 = is.leaves.sized in omega (arith, few, sized, at)
 
 -- a side between 1 and 65,536
 pub record IsSide (z : ℤ) (n : ℕ) : Type 0 where
@@ -56,9 +19,6 @@ pub record IsSide (z : ℤ) (n : ℕ) : Type 0 where
 side_is : (z : ℤ) → pos 0 <ℤ z → z ≤ℤ pos 65536 → IsSide z (side_of (Some z))
 side_is (pos n) some few = record { is = refl; some = omega (arith, ints, some); few = omega (arith, ints, few) }
 side_is (negsuc n) some few = absurd (omega (arith, ints, some))
-
-pub leaf_of : (kit : Kit) (is : IsKit kit) (role : Role) (leaf : Leaf) → leaf_in kit.leaves role ≡ Some leaf → IsLeaf (source_of kit is.wire) role leaf
-leaf_of kit is role leaf there = is.leaves.each (role_number role) role leaf (role_there role) there
 
 wide_leaf : (source : LeafSource) (role : Role) (leaf : Leaf) → IsLeaf source role leaf → IsSide leaf.width (side_of (Some leaf.width))
 wide_leaf source role leaf is =
@@ -78,11 +38,11 @@ tall_leaf source role leaf is =
 
 pub width_is : (kit : Kit) → IsKit kit → (role : Role) (leaf : Leaf) → leaf_in kit.leaves role ≡ Some leaf → IsSide leaf.width (leaf_width kit role)
 width_is kit is role leaf there =
-    subst (IsSide leaf.width) (ap (λ (found : Option Leaf). side_of (option_map (λ (l : Leaf). l.width) found)) (sym there)) (wide_leaf (source_of kit is.wire) role leaf (leaf_of kit is role leaf there))
+    subst (IsSide leaf.width) (ap (λ (found : Option Leaf). side_of (option_map (λ (l : Leaf). l.width) found)) (sym there)) (wide_leaf (source_of kit is.wire) role leaf (in_kit kit role leaf is there))
 
 pub height_is : (kit : Kit) → IsKit kit → (role : Role) (leaf : Leaf) → leaf_in kit.leaves role ≡ Some leaf → IsSide leaf.height (leaf_height kit role)
 height_is kit is role leaf there =
-    subst (IsSide leaf.height) (ap (λ (found : Option Leaf). side_of (option_map (λ (l : Leaf). l.height) found)) (sym there)) (tall_leaf (source_of kit is.wire) role leaf (leaf_of kit is role leaf there))
+    subst (IsSide leaf.height) (ap (λ (found : Option Leaf). side_of (option_map (λ (l : Leaf). l.height) found)) (sym there)) (tall_leaf (source_of kit is.wire) role leaf (in_kit kit role leaf is there))
 
 -- as it is read
 pub side_read : (z : ℤ) (n : ℕ) → IsSide z n → to_z w64 (of_z w64 z) ≡ pos n

@@ -16,7 +16,7 @@ use Rattle.leaf_tables.specs.Kits.{IsKit, source_of}
 use Rattle.leaf_tables.specs.Alignment.{role_number, leaf_in}
 use Rattle.port_lists.specs.Cells.{cell_in}
 use Rattle.macro_cells.specs.LeafSides.{side_of, leaf_width}
-use Rattle.macro_cells.proofs.SideLaws.{role_below, leaf_of}
+use Rattle.leaf_tables.proofs.RoleLaws.{role_below, in_kit}
 
 abbrev text_of : Option (List ℕ) → List ℕ
 text_of None = []
@@ -57,7 +57,7 @@ width_of kit is role = ap (λ (found : Option Leaf). side_of (option_map (λ (l 
 pub same_width : (kit : Kit) → IsKit kit → (a b : Role) → cell_in kit.tech.roles a ≡ cell_in kit.tech.roles b → leaf_width kit a ≡ leaf_width kit b
 same_width kit is a b same =
     width_of kit is a
-    ∙ (ap (λ z. side_of (Some z)) (leaves_same (source_of kit is.wire) a b _ _ (leaf_of kit is a _ (leaf_there kit is a)) (leaf_of kit is b _ (leaf_there kit is b)) same)
+    ∙ (ap (λ z. side_of (Some z)) (leaves_same (source_of kit is.wire) a b _ _ (in_kit kit a _ is (leaf_there kit is a)) (in_kit kit b _ is (leaf_there kit is b)) same)
     ∙ sym (width_of kit is b))
 
 -- all roles are among the roles

@@ -1,2 +1,3 @@
 pub mod LeafSides
 pub mod LayoutOfKit
+pub mod Demanded

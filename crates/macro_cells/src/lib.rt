@@ -14,5 +14,6 @@ pub use array::{array_cell, pre_cell};
 pub use data::data_cell;
 pub use logic::logic_row_cell;
 pub use row::row_cell;
+pub use sides::{leaf_height, leaf_width};
 pub use top::macro_cell;
 pub use total::sides_of;

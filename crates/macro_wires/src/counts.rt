@@ -11,7 +11,7 @@ use sram_plan::Plan;
 use tech_rules::Wire;
 
 /// How many lines so many bits have: none where there are no bits.
-fn choices(bits: u32) -> u32
+pub fn choices(bits: u32) -> u32
     requires { bits ≤ 3 }
     ensures value { result ≡ choice_count bits }
     ensures few { result ≤ 8 }
@@ -38,8 +38,8 @@ fn pitch(wire: &Wire) -> u64
     (wire.width + wire.space) as u64
 }
 
-/// So many pitches.
-pub(crate) fn pitches(count: u32, wire: &Wire) -> u64
+/// So many pitches, in nanometres.
+pub fn pitches(count: u32, wire: &Wire) -> u64
     requires sizes { AreSizes wire.now }
     requires few { count ≤ 4096 }
     ensures value { pos result ≡ pos count *ℤ pitch wire.now }

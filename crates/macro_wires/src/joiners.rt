@@ -1,4 +1,4 @@
-ghost use Rattle.std.specs.Prelude.{◌≡◌, ◌⊎◌, ◌<◌, OnOk, length};
+ghost use Rattle.std.specs.Prelude.{◌≡◌, ◌⊎◌, ◌<◌, ◌^◌, OnOk, length};
 ghost use Rattle.or_geom.specs.Adds.{Adds};
 ghost use Rattle.tech_rules.specs.Facts.{AreSizes};
 ghost use Rattle.sram_netlist.specs.Numbers.{ArePlanNumbers};
@@ -6,7 +6,7 @@ ghost use Rattle.sram_plan.specs.PlanNumbers.{numbers_of, organization};
 ghost use Rattle.macro_layout.specs.LayoutKit.{LayoutKit};
 ghost use Rattle.macro_layout.specs.Wires.{IsWriteJoiner, IsCornerJoiner};
 ghost use Rattle.macro_wires.specs.Sides.{AreLeafSides, AreSidesOf};
-ghost use Rattle.macro_wires.specs.FloorplanNumbers.{floorplan_of, IsNearFloorplan, columns_from};
+ghost use Rattle.macro_wires.specs.FloorplanNumbers.{floorplan_of, IsNearFloorplan, IsUpTo, columns_from};
 ghost use Rattle.macro_wires.specs.Lowered.{IsLowered};
 
 use crate::counts::extent;
@@ -17,11 +17,12 @@ use or_geom::{Memory, Rect, Shape};
 use sram_plan::Plan;
 use tech_rules::Wire;
 
-/// The left end of the first bank's columns.
-pub(crate) fn columns_x(sides: &LeafSides, floorplan: &FloorplanNumbers) -> i64
+/// The left end of the first bank's columns, in nanometres.
+pub fn columns_x(sides: &LeafSides, floorplan: &FloorplanNumbers) -> i64
     requires sides { AreLeafSides sides.now }
     requires near { IsNearFloorplan floorplan.now }
-    ensures { result ≡ columns_from sides.now floorplan.now }
+    ensures is { result ≡ columns_from sides.now floorplan.now }
+    ensures near { IsUpTo (2 ^ 24) result }
 {
     floorplan.row_x + (sides.gate_width + sides.driver_width) as i64
 }

@@ -8,7 +8,8 @@ mod shapes;
 mod sides;
 mod supplies;
 
-pub use joiners::add_bank_joiners;
+pub use counts::{choices, pitches};
+pub use joiners::{add_bank_joiners, columns_x};
 pub use numbers::{FloorplanNumbers, floorplan};
 pub use sides::LeafSides;
 pub use supplies::{add_ground_wires, add_power_wires};

@@ -8,7 +8,7 @@ use Rattle.cell_roles.specs.Roles.{role_ports}
 use Rattle.leaf_shapes.specs.Demands.{PinDemand}
 use Rattle.leaf_shapes.specs.declared.pins.LeafPin.{LeafPin}
 use Rattle.leaf_tables.specs.declared.part.Edge.{Edge}
-use Rattle.row_decoder.specs.RowTaps.{ArePinsReachable}
+use Rattle.leaf_tables.specs.NearLeaf.{ArePinsReachable}
 use Rattle.part_edges.specs.declared.side.Side.{Side}
 use Rattle.part_edges.specs.PartPins.{PartPin, placed_pin, is_at_side, net_of, side_pins, edge_of, meets, edges_at}
 

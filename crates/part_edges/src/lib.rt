@@ -2,13 +2,11 @@
 #![tactic(auto)]
 
 mod edge;
-mod leaf;
 mod part;
 mod pins;
 mod side;
 
 pub use edge::{edge_at, sorted_edges};
-pub use leaf::leaf_of;
 pub use part::add_part;
 pub use pins::{edges_of, side_edges};
 pub use side::Side;

@@ -8,12 +8,11 @@ ghost use Rattle.leaf_tables.specs.Kits.{IsKit};
 ghost use Rattle.part_edges.specs.PartPins.{placed_pin, port_place, net_of, side_pins, leaf_pins, part_pins, edges_at, AreInOrder, AreEdgesOf};
 
 use crate::edge::{edge_at, sorted_edges};
-use crate::leaf::leaf_of;
 use crate::side::{Side, is_at_side};
 use cell_builder::PlacedInstance;
 use cell_roles::Role;
 use leaf_shapes::{Demand, LeafPin, demands};
-use leaf_tables::{Edge, Edges, Kit};
+use leaf_tables::{Edge, Edges, Kit, leaf_of};
 use netlist::Instance;
 use or_geom::{Items, Memory, Name, Place};
 use std::alloc::Global;
@@ -151,8 +150,8 @@ fn add_part_edges(
     Ok(())
 }
 
-/// The edges at a side of a part that is made of leaf cells, in order: the roles that they play, their instances in the part's
-/// subcircuit, and their places in the part's cell, each list in the same order.
+/// The edges at a side of a part that is made of leaf cells, in the order of the cells: the roles that they play, their instances
+/// in the part's subcircuit, and their places in the part's cell, each list in the same order. Lengths are nanometres.
 pub fn side_edges(
     alloc: Global,
     kit: &Kit,

@@ -1,2 +1,1 @@
-pub mod NearLaws
 pub mod TapLaws

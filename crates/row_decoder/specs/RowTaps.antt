@@ -1,10 +1,9 @@
 -- The taps of a memory's rows: where the inputs of a row's gate and the enable of its driver join their rails.
-use Rattle.std.specs.Prelude.{◌≡◌, ℕ, ◌+◌, ◌%◌, ◌==◌, ℤ, pos, ◌+ℤ◌, ◌*ℤ◌, ◌≤ℤ◌, List, [], ◌∷◌, ◌++◌, cond, slice_get, Some}
+use Rattle.std.specs.Prelude.{◌≡◌, ℕ, ◌+◌, ◌%◌, ◌==◌, ℤ, pos, ◌+ℤ◌, ◌*ℤ◌, List, [], ◌∷◌, ◌++◌, cond, slice_get, Some}
 use Rattle.std.specs.Int.{int_max, int_min}
 use Rattle.or_geom.specs.declared.shape.Point.{Point}
 use Rattle.or_geom.specs.declared.shape.Rect.{Rect}
 use Rattle.or_geom.specs.declared.place.Place.{Place}
-use Rattle.or_geom.specs.Distance.{IsReachable}
 use Rattle.or_geom.specs.Place.{placed, low_corner, high_corner}
 use Rattle.cell_roles.specs.declared.role.Role.TheVariants.{Bitcell, Driver}
 use Rattle.tech_rules.specs.declared.route.Tap.{Tap}
@@ -77,17 +76,3 @@ pub record AreTapsOfRows (kit : List Leaf) (plan : Organization) (corner : Point
   pub leaves : RowLeaves
   pub of : AreRowLeaves kit plan.groups leaves
   pub are : taps ≡ tabulate_lists (bank_rows plan) (row_taps plan.groups leaves corner)
-
--- a length in a leaf cell: a side of it, or 0
-pub record IsLeafLength (z : ℤ) : Type 0 where
-  pub above : pos 0 ≤ℤ z
-  pub below : z ≤ℤ pos 65536
-
-abbrev pub ArePinsReachable : List LeafPin → Type 0
-ArePinsReachable pins = (k : ℕ) (pin : LeafPin) → slice_get pins k ≡ Some pin → IsReachable pin.rect
-
--- the width and the height are such, and pins lie near
-pub record IsNearLeaf (leaf : Leaf) : Type 0 where
-  pub width : IsLeafLength leaf.width
-  pub height : IsLeafLength leaf.height
-  pub pins : ArePinsReachable leaf.pins

@@ -1,7 +1,6 @@
 //! The row decoder of a memory: the gates of its column choices and predecode lines, and the taps of its rows.
 #![tactic(auto)]
 
-mod leaves;
 mod lines;
 mod rows;
 

@@ -7,11 +7,11 @@ ghost use Rattle.sram_netlist.specs.Numbers.{ArePlanNumbers};
 ghost use Rattle.sram_plan.specs.PlanNumbers.{numbers_of, organization};
 ghost use Rattle.leaf_tables.specs.Kits.{IsKit};
 ghost use Rattle.macro_layout.specs.Floorplan.{line_count};
-ghost use Rattle.row_decoder.specs.RowTaps.{corner_at, pin_tap, row_place, input_taps, row_taps, row_leaves_of, AreTapsOfRows, IsLeafLength, ArePinsReachable, IsNearLeaf};
+ghost use Rattle.row_decoder.specs.RowTaps.{corner_at, pin_tap, row_place, input_taps, row_taps, row_leaves_of, AreTapsOfRows};
+ghost use Rattle.leaf_tables.specs.NearLeaf.{IsLeafLength, ArePinsReachable, IsNearLeaf};
 
-use crate::leaves::leaf_of;
 use cell_roles::Role;
-use leaf_tables::{Kit, Leaf, LeafPin};
+use leaf_tables::{Kit, Leaf, LeafPin, leaf_of};
 use or_geom::{Memory, Orient, Place, Point};
 use port_lists::{groups_of, lines_of};
 use sram_plan::Plan;

@@ -32,8 +32,10 @@ use Rattle.macro_cells.specs.LayoutOfKit.{layout_kit, unit_square, pin_shape}
 use Rattle.view_cover.proofs.PlaceLaws.{LiesWithin, LiesInCell}
 use Rattle.view_cover.proofs.LayerLaws.{IsFirst, flat_numbered, numbered_first, cut_first}
 use Rattle.view_cover.proofs.FitLaws.{IsLogicRole, FitsWires}
-use Rattle.view_cover.proofs.RoleLaws.{wire_there, seven_in_kit, metal_there, HasRole, role_leaf, leaf_has, width_is, height_is, shape_inside, IsPinAt, demand_at, shape_of, pin_inside, square_or, IsFoundPin, found_pin, cell_is}
+use Rattle.macro_cells.proofs.DemandLaws.{wire_there, seven_in_kit}
+use Rattle.view_cover.proofs.RoleLaws.{metal_there, HasRole, role_leaf, width_is, height_is, shape_inside, IsPinAt, demand_at, shape_of, pin_inside, square_or, IsFoundPin, found_pin, cell_is}
 use Rattle.view_cover.proofs.WholeLaws.{AreLayers}
+use Rattle.leaf_tables.proofs.RoleLaws.{in_kit}
 
 -- Which fits stand on which metal
 
@@ -258,7 +260,7 @@ module _ (kit : Kit) (is : IsKit kit) where
   sense_metal k d at =
       let l = role_leaf kit is Sense in
       let p = demand_at kit is Sense l.leaf l.there k d at in
-      let h = leaf_has kit is Sense l.leaf l.there in
+      let h = in_kit kit Sense l.leaf is l.there in
       let flat = (h.sized.flat.flat.shapes_exact (shape_of p.0)).0 p.1.drawn.is.bound.binds.listed in
       subst (IsFirst kit.tech.layers) p.1.drawn.is.has.0 (numbered_first kit.tech.layers p.0.layer (flat_numbered kit.tech.layers kit.lib.structs h.cell (shape_of p.0) flat))
 
@@ -275,7 +277,7 @@ module _ (kit : Kit) (is : IsKit kit) where
   leaf_inside : (role : Role) (metal : ℕ) (s : Shape) → metal < 4 → IsFlatShape kit.tech.layers kit.lib.structs ((layout_kit kit).cell role) s → s.layer ≡ slice_index is.wire.metals metal → LiesInCell (leaf_width kit role) (leaf_height kit role) s.rect
   leaf_inside role metal s lt flat on =
       let l = role_leaf kit is role in
-      let h = leaf_has kit is role l.leaf l.there in
+      let h = in_kit kit role l.leaf is l.there in
       let named = cell_is kit.tech.roles role h.cell h.sized.flat.plays in
       let listed = (h.sized.flat.flat.shapes_exact s).1 (subst (λ (c : List ℕ). IsFlatShape kit.tech.layers kit.lib.structs c s) named flat) in
       shape_inside kit is role l.leaf s l.there listed (subst (Contains is.wire.metals) (sym on) (metal_there is.wire metal (wire_there kit is).four lt))

@@ -10,16 +10,13 @@ use Rattle.or_geom.specs.declared.shape.Rect.{Rect}
 use Rattle.or_geom.specs.declared.shape.Shape.{Shape}
 use Rattle.or_geom.proofs.ListLaws.{contained_at}
 use Rattle.cell_roles.specs.declared.role.Role.{Role}
-use Rattle.cell_roles.specs.declared.role.Role.TheVariants.{Bitcell, Precharge, Mux, Tie, Sense, Write, RowNand2, RowNand3, Driver, Nand2, Nand3, Inv, Dff, Delay}
 use Rattle.cell_roles.specs.Roles.{all_roles, role_name}
 use Rattle.tech_rules.specs.declared.tech.RoleName.{RoleName}
 use Rattle.tech_rules.specs.declared.tech.Wire.{Wire}
 use Rattle.tech_rules.specs.Facts.{IsWire}
 use Rattle.channel_router.specs.Apart.{AreSevenLayers}
-use Rattle.leaf_shapes.specs.declared.demand.Metal.{Metal}
-use Rattle.leaf_shapes.specs.declared.demand.Metal.TheVariants.{M1, M2, M3, M4}
 use Rattle.leaf_shapes.specs.declared.pins.LeafPin.{LeafPin}
-use Rattle.leaf_shapes.specs.Demands.{PinDemand, metal_layer, role_demands}
+use Rattle.leaf_shapes.specs.Demands.{PinDemand, role_demands}
 use Rattle.leaf_shapes.specs.Pins.{IsPinFor}
 use Rattle.leaf_shapes.proofs.PinLaws.{exists_at}
 use Rattle.leaf_tables.specs.declared.kit.Kit.{Kit}
@@ -31,51 +28,15 @@ use Rattle.port_lists.specs.Cells.{cell_in}
 use Rattle.macro_cells.specs.LeafSides.{side_of, leaf_width, leaf_height}
 use Rattle.macro_cells.specs.LayoutOfKit.{layout_kit, unit_square, shape_or_square, pin_shape, pin_on, port_name, layer_of_metal, shape_on}
 use Rattle.view_cover.proofs.PlaceLaws.{LiesWithin, LiesInCell}
+use Rattle.leaf_tables.proofs.RoleLaws.{role_there, layer_at, metal_listed, in_kit}
+use Rattle.macro_cells.proofs.DemandLaws.{wire_there}
 
 -- The wires of a kit
-
-pub wire_there : (kit : Kit) (is : IsKit kit) → IsWire kit.tech.layers is.wire
-wire_there kit is = subst (λ (w : Option Wire). IfSome w (IsWire kit.tech.layers)) is.wired is.tech.wire
-
-seven_layers : (wire : Wire) (layers : List _) → IsWire layers wire → AreSevenLayers wire
-seven_layers wire layers is = record {
-  metals = λ i j lt below e. is.metals_differ i j 0 lt (let four = is.four in omega (arith, four, below)) e;
-  cuts = λ i j lt below e. is.cuts_differ i j 0 lt (let three = is.three in omega (arith, three, below)) e;
-  others = λ i j lt below e. is.apart i 0 (let three = is.three in omega (arith, three, lt)) j 0 (let four = is.four in omega (arith, four, below)) e;
-}
-
-pub seven_in_kit : (kit : Kit) (is : IsKit kit) → AreSevenLayers is.wire
-seven_in_kit kit is = seven_layers is.wire kit.tech.layers (wire_there kit is)
-
-layer_at : (layers : List ℕ) (k : ℕ) → k < length layers → Contains layers (slice_index layers k)
-layer_at layers k lt = contained_at layers k (slice_index layers k) (slice_get-get_or layers k 0 lt)
 
 pub metal_there : (wire : Wire) (k : ℕ) → length wire.metals ≡ 4 → k < 4 → Contains wire.metals (slice_index wire.metals k)
 metal_there wire k four lt = layer_at wire.metals k (omega (arith, four, lt))
 
-pub metal_listed : (wire : Wire) (metal : Metal) → length wire.metals ≡ 4 → Contains wire.metals (metal_layer wire metal)
-metal_listed wire M1 four = metal_there wire 0 four (omega arith)
-metal_listed wire M2 four = metal_there wire 1 four (omega arith)
-metal_listed wire M3 four = metal_there wire 2 four (omega arith)
-metal_listed wire M4 four = metal_there wire 3 four (omega arith)
-
 -- The leaf of a role
-
-role_there : (role : Role) → slice_get all_roles (role_number role) ≡ Some role
-role_there Bitcell = refl
-role_there Precharge = refl
-role_there Mux = refl
-role_there Tie = refl
-role_there Sense = refl
-role_there Write = refl
-role_there RowNand2 = refl
-role_there RowNand3 = refl
-role_there Driver = refl
-role_there Nand2 = refl
-role_there Nand3 = refl
-role_there Inv = refl
-role_there Dff = refl
-role_there Delay = refl
 
 pub record HasRole (kit : Kit) (is : IsKit kit) (role : Role) : Type 0 where
   pub leaf : Leaf
@@ -89,10 +50,6 @@ role_leaf kit is role =
     let leaf = exists_at kit.leaves (role_number role) (omega (arith, within, sized)) in
     record { leaf = leaf.0; there = leaf.1; has = is.leaves.each (role_number role) role leaf.0 (role_there role) leaf.1 }
 
--- the same leaf
-pub leaf_has : (kit : Kit) (is : IsKit kit) (role : Role) (leaf : Leaf) → leaf_in kit.leaves role ≡ Some leaf → IsLeaf (source_of kit is.wire) role leaf
-leaf_has kit is role leaf there = is.leaves.each (role_number role) role leaf (role_there role) there
-
 positive_side : (z : ℤ) → pos 0 <ℤ z → pos (side_of (Some z)) ≡ z
 positive_side (pos n) some = refl
 positive_side (negsuc n) some = absurd (omega (arith, ints, some))
@@ -102,21 +59,21 @@ some_width x1 x2 w lt a b = omega (arith, ints, lt, a, b)
 
 pub width_is : (kit : Kit) (is : IsKit kit) (role : Role) (leaf : Leaf) → leaf_in kit.leaves role ≡ Some leaf → pos (leaf_width kit role) ≡ leaf.width
 width_is kit is role leaf there =
-    let o = (leaf_has kit is role leaf there).sized.outline in
+    let o = (in_kit kit role leaf is there).sized.outline in
     ap (λ (found : Option Leaf). pos (side_of (option_map (λ (l : Leaf). l.width) found))) there ∙ positive_side leaf.width (some_width o.shape.rect.x1 o.shape.rect.x2 leaf.width o.shape.rect.wide o.is.left o.is.right)
 
 pub height_is : (kit : Kit) (is : IsKit kit) (role : Role) (leaf : Leaf) → leaf_in kit.leaves role ≡ Some leaf → pos (leaf_height kit role) ≡ leaf.height
 height_is kit is role leaf there =
-    let o = (leaf_has kit is role leaf there).sized.outline in
+    let o = (in_kit kit role leaf is there).sized.outline in
     ap (λ (found : Option Leaf). pos (side_of (option_map (λ (l : Leaf). l.height) found))) there ∙ positive_side leaf.height (some_width o.shape.rect.y1 o.shape.rect.y2 leaf.height o.shape.rect.tall o.is.low o.is.high)
 
 within_sides : (w h w2 h2 : ℤ) (outer r : Rect) → outer.x1 ≡ pos 0 → outer.y1 ≡ pos 0 → outer.x2 ≡ w → outer.y2 ≡ h → w2 ≡ w → h2 ≡ h → outer.x1 ≤ℤ r.x1 → outer.y1 ≤ℤ r.y1 → r.x2 ≤ℤ outer.x2 → r.y2 ≤ℤ outer.y2 → LiesWithin (pos 0) (pos 0) w2 h2 r
 within_sides w h w2 h2 outer r a b c d e k l m n o = record { from = omega (arith, ints, a, l); above = omega (arith, ints, b, m); to = omega (arith, ints, c, e, n); below = omega (arith, ints, d, k, o) }
 
 -- a shape of the leaf's cell on a metal lies in the cell
-pub shape_inside : (kit : Kit) (is : IsKit kit) (role : Role) (leaf : Leaf) (s : Shape) (there : leaf_in kit.leaves role ≡ Some leaf) → Contains (leaf_has kit is role leaf there).lists.shapes s → Contains is.wire.metals s.layer → LiesInCell (leaf_width kit role) (leaf_height kit role) s.rect
+pub shape_inside : (kit : Kit) (is : IsKit kit) (role : Role) (leaf : Leaf) (s : Shape) (there : leaf_in kit.leaves role ≡ Some leaf) → Contains (in_kit kit role leaf is there).lists.shapes s → Contains is.wire.metals s.layer → LiesInCell (leaf_width kit role) (leaf_height kit role) s.rect
 shape_inside kit is role leaf s there listed metal =
-    let o = (leaf_has kit is role leaf there).sized.outline in
+    let o = (in_kit kit role leaf is there).sized.outline in
     let inside = o.inside s listed (inl metal) in
     within_sides leaf.width leaf.height (pos (leaf_width kit role)) (pos (leaf_height kit role)) o.shape.rect s.rect o.is.left o.is.low o.is.right o.is.high (width_is kit is role leaf there) (height_is kit is role leaf there)
     inside.left inside.low inside.right inside.high
@@ -127,11 +84,11 @@ shape_inside kit is role leaf s there listed metal =
 pub record IsPinAt (kit : Kit) (is : IsKit kit) (role : Role) (leaf : Leaf) (there : leaf_in kit.leaves role ≡ Some leaf) (demand : PinDemand) (pin : LeafPin) : Type 0 where
   pub k : ℕ
   pub demanded : slice_get (role_demands role) k ≡ Some demand
-  pub drawn : IsPinFor (drawing_in (source_of kit is.wire) (size_of leaf) (leaf_has kit is role leaf there).lists) demand pin
+  pub drawn : IsPinFor (drawing_in (source_of kit is.wire) (size_of leaf) (in_kit kit role leaf is there).lists) demand pin
 
 pub pin_at : (kit : Kit) (is : IsKit kit) (role : Role) (leaf : Leaf) (there : leaf_in kit.leaves role ≡ Some leaf) (k : ℕ) (pin : LeafPin) → slice_get leaf.pins k ≡ Some pin → (demand : PinDemand) × IsPinAt kit is role leaf there demand pin
 pin_at kit is role leaf there k pin at =
-    let pins = (leaf_has kit is role leaf there).pins in
+    let pins = (in_kit kit role leaf is there).pins in
     let sized = pins.sized in
     let within = slice_get_within leaf.pins k pin at in
     let demand = exists_at (role_demands role) k (omega (arith, sized, within)) in
@@ -139,7 +96,7 @@ pin_at kit is role leaf there k pin at =
 
 pub demand_at : (kit : Kit) (is : IsKit kit) (role : Role) (leaf : Leaf) (there : leaf_in kit.leaves role ≡ Some leaf) (k : ℕ) (demand : PinDemand) → slice_get (role_demands role) k ≡ Some demand → (pin : LeafPin) × IsPinAt kit is role leaf there demand pin
 demand_at kit is role leaf there k demand at =
-    let pins = (leaf_has kit is role leaf there).pins in
+    let pins = (in_kit kit role leaf is there).pins in
     let sized = pins.sized in
     let within = slice_get_within (role_demands role) k demand at in
     let pin = exists_at leaf.pins k (omega (arith, sized, within)) in

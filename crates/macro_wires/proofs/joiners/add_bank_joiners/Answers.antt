@@ -17,7 +17,7 @@ returns c kit are =
     let wire = c.args.wire.now in
     let plan = organization c.args.plan.now in
     let fl = floorplan_of c.args.floorplan.now in
-    let left = c.columns_x-left.ensures in
+    let left = c.columns_x-left.ensures.is in
     let gate = are.gate_width in
     let drive = are.driver_width in
     let far : c.extent.result ≡ columns_of plan * bit_width kit = rows_high _ _ _ _ _ c.extent.ensures.value (columns_are (numbers_of c.args.plan.now) c.requires.plan) are.bit_width in
@@ -41,7 +41,7 @@ pub invariant_of-along_write : goal.invariant_of-along_write
 invariant_of-along_write c =
     let columns = some_columns (numbers_of c.args.plan.now) c.requires.plan in
     record {
-      wide = wide_from c.args.floorplan.now.row_x c.columns_x-left.result c.columns_x-left.result (c.args.sides.now.gate_width + c.args.sides.now.driver_width) c.extent.result c.requires.near.row_x c.columns_x-left.ensures (omega arith) (c.extent.ensures.some columns c.requires.sides.bit_width.from) c.extent.ensures.few refl;
+      wide = wide_from c.args.floorplan.now.row_x c.columns_x-left.result c.columns_x-left.result (c.args.sides.now.gate_width + c.args.sides.now.driver_width) c.extent.result c.requires.near.row_x c.columns_x-left.ensures.is (omega arith) (c.extent.ensures.some columns c.requires.sides.bit_width.from) c.extent.ensures.few refl;
       tall = sunk_less _ _ _ c.requires.near.sense_y c.requires.near.write_y c.requires.sizes.width;
     }
 
@@ -49,6 +49,6 @@ pub invariant_of-along_ends : goal.invariant_of-along_ends
 invariant_of-along_ends c =
     let columns = some_columns (numbers_of c.args.plan.now) c.requires.plan in
     record {
-      wide = wide_rows c.args.floorplan.now.row_x c.columns_x-left.result (c.args.sides.now.gate_width + c.args.sides.now.driver_width) c.extent.result c.requires.near.row_x c.columns_x-left.ensures (omega arith) (c.extent.ensures.some columns c.requires.sides.bit_width.from) c.extent.ensures.few;
+      wide = wide_rows c.args.floorplan.now.row_x c.columns_x-left.result (c.args.sides.now.gate_width + c.args.sides.now.driver_width) c.extent.result c.requires.near.row_x c.columns_x-left.ensures.is (omega arith) (c.extent.ensures.some columns c.requires.sides.bit_width.from) c.extent.ensures.few;
       tall = sunk_less _ _ _ c.requires.near.array_y c.requires.near.write_y c.requires.sizes.width;
     }

@@ -15,7 +15,7 @@ returns c kit are at =
     let plan = organization c.args.plan.now in
     let fl = floorplan_of c.args.floorplan.now in
     let rows : c.args.plan.now.rows ≡ bank_rows plan = rows_are (numbers_of c.args.plan.now) c.requires.plan in
-    let left = c.columns_x-columns.ensures in
+    let left = c.columns_x-columns.ensures.is in
     let gate = are.gate_width in
     let drive = are.driver_width in
     let pre = are.precharge_height in
@@ -43,7 +43,7 @@ pub add_bar-requires-2-clause-room_x : goal.add_bar-requires-2-clause-room_x
 add_bar-requires-2-clause-room_x c = room_trunk c.args.floorplan.now.logic_x c.args.trunk c.requires.near.logic_x c.requires.behind.logic c.requires.behind.near
 
 pub add_bar-requires-2-clause-before : goal.add_bar-requires-2-clause-before
-add_bar-requires-2-clause-before c = columns_before c.columns_x-columns.result c.args.floorplan.now.row_x c.args.trunk c.args.wire.now.width (c.args.sides.now.gate_width + c.args.sides.now.driver_width) c.columns_x-columns.ensures c.requires.near.row_x c.requires.behind.columns c.requires.behind.near c.requires.sizes.width.from
+add_bar-requires-2-clause-before c = columns_before c.columns_x-columns.result c.args.floorplan.now.row_x c.args.trunk c.args.wire.now.width (c.args.sides.now.gate_width + c.args.sides.now.driver_width) c.columns_x-columns.ensures.is c.requires.near.row_x c.requires.behind.columns c.requires.behind.near c.requires.sizes.width.from
 
 pub add_bar-requires-2-clause-room_y : goal.add_bar-requires-2-clause-room_y
 add_bar-requires-2-clause-room_y c = room_placed c.args.floorplan.now.sense_y c.requires.near.sense_y

@@ -2,7 +2,8 @@
 use Rattle.std.proofs.Common.{sym, subst, arith}
 use Rattle.std.proofs.lemmas.Int.{ints}
 use Rattle.or_geom.proofs.PlaceLaws.{same_point}
-use Rattle.row_decoder.specs.RowTaps.{ArePinsReachable, row_leaves_of}
+use Rattle.row_decoder.specs.RowTaps.{row_leaves_of}
+use Rattle.leaf_tables.specs.NearLeaf.{ArePinsReachable}
 use Rattle.row_decoder.proofs.TapLaws.{row_done}
 use Rattle.row_decoder.proofs.rows.add_row_taps.Goals as goal
 

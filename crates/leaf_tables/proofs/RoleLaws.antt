@@ -1,4 +1,4 @@
--- The pins of a kit's leaf cells lie near the origin.
+-- The leaf of each role of a kit: where it stands, and how far it and its pins reach.
 use Rattle.std.proofs.Common.{◌≡◌, inl, ℕ, ◌<◌, List, length, get_or, Some, Option, refl, ap, sym, subst, arith}
 use Rattle.std.specs.Prelude.{slice_get, slice_index, Contains, IfSome}
 use Rattle.std.proofs.lemmas.Int.{ints}
@@ -22,12 +22,12 @@ use Rattle.leaf_tables.specs.Alignment.{role_number, leaf_in}
 use Rattle.leaf_tables.specs.Kits.{IsKit, source_of}
 use Rattle.leaf_tables.specs.Leaves.{LeafSource, IsLeaf}
 use Rattle.tech_rules.specs.Facts.{IsWire}
-use Rattle.row_decoder.specs.RowTaps.{IsNearLeaf}
+use Rattle.leaf_tables.specs.NearLeaf.{IsNearLeaf}
 
-layer_at : (layers : List ℕ) (k : ℕ) → k < length layers → Contains layers (slice_index layers k)
+pub layer_at : (layers : List ℕ) (k : ℕ) → k < length layers → Contains layers (slice_index layers k)
 layer_at layers k lt = contained_at layers k (slice_index layers k) (slice_get-get_or layers k 0 lt)
 
-metal_listed : (wire : Wire) (metal : Metal) → length wire.metals ≡ 4 → Contains wire.metals (metal_layer wire metal)
+pub metal_listed : (wire : Wire) (metal : Metal) → length wire.metals ≡ 4 → Contains wire.metals (metal_layer wire metal)
 metal_listed wire M1 four = layer_at wire.metals 0 (omega (arith, four))
 metal_listed wire M2 four = layer_at wire.metals 1 (omega (arith, four))
 metal_listed wire M3 four = layer_at wire.metals 2 (omega (arith, four))
@@ -80,7 +80,7 @@ near_leaf source role leaf four is =
     }
 
 -- the roles stand in the order of their numbers
-role_there : (role : Role) → slice_get all_roles (role_number role) ≡ Some role
+pub role_there : (role : Role) → slice_get all_roles (role_number role) ≡ Some role
 role_there Bitcell = refl
 role_there Precharge = refl
 role_there Mux = refl
@@ -96,10 +96,26 @@ role_there Inv = refl
 role_there Dff = refl
 role_there Delay = refl
 
-four_metals : (kit : Kit) (is : IsKit kit) → length is.wire.metals ≡ 4
+pub few_roles : (role : Role) → role_number role < 14
+few_roles Bitcell = omega arith
+few_roles Precharge = omega arith
+few_roles Mux = omega arith
+few_roles Tie = omega arith
+few_roles Sense = omega arith
+few_roles Write = omega arith
+few_roles RowNand2 = omega arith
+few_roles RowNand3 = omega arith
+few_roles Driver = omega arith
+few_roles Nand2 = omega arith
+few_roles Nand3 = omega arith
+few_roles Inv = omega arith
+few_roles Dff = omega arith
+few_roles Delay = omega arith
+
+pub four_metals : (kit : Kit) (is : IsKit kit) → length is.wire.metals ≡ 4
 four_metals kit is = (subst (λ (w : Option Wire). IfSome w (IsWire kit.tech.layers)) is.wired is.tech.wire).four
 
-in_kit : (kit : Kit) (role : Role) (leaf : Leaf) (is : IsKit kit) → leaf_in kit.leaves role ≡ Some leaf → IsLeaf (source_of kit is.wire) role leaf
+pub in_kit : (kit : Kit) (role : Role) (leaf : Leaf) (is : IsKit kit) → leaf_in kit.leaves role ≡ Some leaf → IsLeaf (source_of kit is.wire) role leaf
 in_kit kit role leaf is there = is.leaves.each (role_number role) role leaf (role_there role) there
 
 pub near_in_kit : (kit : Kit) (role : Role) (leaf : Leaf) → IsKit kit → leaf_in kit.leaves role ≡ Some leaf → IsNearLeaf leaf
@@ -116,3 +132,7 @@ leaf_there kit role leaf leaves n is same number at =
     let long = ap length same in
     let within : n < length leaves = omega (arith, below, sized, long, number) in
     subst (λ (l : List Leaf). slice_get l (role_number role) ≡ Some leaf) same (subst (λ (k : ℕ). slice_get leaves k ≡ Some leaf) number (slice_get_read leaves (length leaves) n leaf refl within at))
+
+-- each role has a leaf
+pub role_below : (kit : Kit) → IsKit kit → (place : ℕ) (role : Role) → place ≡ role_number role → place < length kit.leaves
+role_below kit is place role at = let few = few_roles role in let sized : length kit.leaves ≡ 14 = is.leaves.sized in omega (arith, few, sized, at)

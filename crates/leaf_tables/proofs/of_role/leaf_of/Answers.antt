@@ -1,8 +1,8 @@
 -- The leaf of a kit.
 use Rattle.std.proofs.Common.{◌≡◌, Some}
 use Rattle.leaf_tables.specs.Alignment.{leaf_in}
-use Rattle.row_decoder.proofs.NearLaws.{leaf_there, near_in_kit, pins_in_kit}
-use Rattle.part_edges.proofs.leaf.leaf_of.Goals as goal
+use Rattle.leaf_tables.proofs.RoleLaws.{leaf_there, near_in_kit, pins_in_kit}
+use Rattle.leaf_tables.proofs.of_role.leaf_of.Goals as goal
 
 pub returns-clause-near : goal.returns-clause-near
 returns-clause-near c =

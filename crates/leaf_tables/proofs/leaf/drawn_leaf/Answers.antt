@@ -1,7 +1,7 @@
 use Rattle.cell_hierarchy.specs.Plain.{lists_of}
 use Rattle.leaf_tables.specs.Steps.{source_in}
 use Rattle.leaf_tables.proofs.StepLaws.{pins_fault}
-use Rattle.leaf_tables.proofs.leaf.leaf_of.Goals as goal
+use Rattle.leaf_tables.proofs.leaf.drawn_leaf.Goals as goal
 
 pub returns-clause-fault : goal.returns-clause-fault
 returns-clause-fault c =
