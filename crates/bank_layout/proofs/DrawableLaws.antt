@@ -23,6 +23,7 @@ use Rattle.macro_layout.specs.Floorplan.{rail_x}
 use Rattle.macro_layout.specs.Stated.{IsShifted}
 use Rattle.macro_wires.specs.FloorplanNumbers.{IsUpTo}
 use Rattle.macro_wires.specs.Lowered.{IsLowered}
+use Rattle.leaf_tables.proofs.RoleLaws.{layer_at}
 use Rattle.bank_layout.specs.Near.{IsWireWithin, IsDrawableWire}
 use Rattle.bank_layout.specs.Outputs.{output_x, IsOutputBelow}
 use Rattle.bank_layout.proofs.ListLaws.{IsTabulated, in_tabulate, at_tabulated, tabulated_long, all_items}
@@ -45,9 +46,6 @@ box_drawable wire layer x1 y1 x2 y2 s on is a b c d = record {
     high = record { x = subst (FitsSigned w32) (sym is.right) (fits x2 c); y = subst (FitsSigned w32) (sym is.high) (fits y2 d) };
   };
 }
-
-layer_at : (layers : List ℕ) (k : ℕ) → k < length layers → Contains layers (slice_index layers k)
-layer_at layers k lt = contained_at layers k (slice_index layers k) (slice_get-get_or layers k 0 lt)
 
 metal : (layers : List Layer) (wire : Wire) (k : ℕ) → IsWire layers wire → k < 4 → IsWireLayer wire (slice_index wire.metals k)
 metal layers wire k is lt = let four = is.four in inl (layer_at wire.metals k (omega (arith, four, lt)))

@@ -38,7 +38,8 @@ use Rattle.part_edges.proofs.PinLaws.{other_numbers}
 use Rattle.bank_layout.specs.BankTaps.{IsLeafPin, AreBankTaps, sense_tap, precharge_tap, choice_tap, channel_low}
 use Rattle.bank_layout.specs.BankPart.{highest_tap, rail_pin}
 use Rattle.bank_layout.specs.BankEdges.{rail_edge}
-use Rattle.bank_layout.proofs.PinLaws.{inside_leaf, in_kit}
+use Rattle.leaf_tables.proofs.RoleLaws.{in_kit}
+use Rattle.bank_layout.proofs.PinLaws.{inside_leaf}
 use Rattle.bank_layout.proofs.ListLaws.{in_tabulate, IsInLists, in_lists}
 use Rattle.bank_layout.proofs.LineLaws.{IsInputTap, input_of, line_below, line_at}
 use Rattle.bank_layout.proofs.GoodLaws.{pos_of}

@@ -20,8 +20,6 @@ pub mod SameTapLaws
 pub mod ShownLaws
 pub mod WithinLaws
 pub mod HighestLaws
-pub mod TrackLaws
 pub mod BankEdgeLaws
 pub mod BuiltLaws
-pub mod DataLaws
 pub mod EdgeListLaws

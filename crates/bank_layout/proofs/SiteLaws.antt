@@ -29,7 +29,7 @@ use Rattle.macro_layout.specs.Cells.{slice_x}
 use Rattle.macro_layout.specs.Floorplan.{line_count, choice_count, rail_count, rail_x}
 use Rattle.macro_cells.specs.LayoutOfKit.{layout_kit}
 use Rattle.row_decoder.specs.RowTaps.{AreTapsOfRows, corner_at, pin_tap, row_place, input_taps, row_taps}
-use Rattle.row_decoder.proofs.NearLaws.{near_in_kit, pins_in_kit}
+use Rattle.leaf_tables.proofs.RoleLaws.{near_in_kit, pins_in_kit}
 use Rattle.row_decoder.proofs.TapLaws.{enough_inputs}
 use Rattle.bank_layout.specs.Near.{HasTracks}
 use Rattle.bank_layout.specs.BankTaps.{IsLeafPin, sense_tap, precharge_tap, choice_tap, channel_low, AreBankTaps}

@@ -28,7 +28,7 @@ use Rattle.macro_layout.specs.Wires.{IsPinTap, IsChoiceTap, IsTapOfNet, IsTapAt}
 use Rattle.macro_layout.specs.RailLists.{HasTap, AreRailLists}
 use Rattle.macro_cells.specs.LayoutOfKit.{layout_kit}
 use Rattle.row_decoder.specs.RowTaps.{AreTapsOfRows, corner_at, pin_tap, row_place, input_taps, row_taps}
-use Rattle.row_decoder.proofs.NearLaws.{pins_in_kit}
+use Rattle.leaf_tables.proofs.RoleLaws.{pins_in_kit}
 use Rattle.row_decoder.proofs.TapLaws.{enough_inputs}
 use Rattle.bank_layout.specs.BankTaps.{IsLeafPin, sense_tap, precharge_tap, choice_tap, channel_low, AreBankTaps}
 use Rattle.bank_layout.proofs.ListLaws.{tabulate_has, at_tabulated, tabulated_at, lists_have}

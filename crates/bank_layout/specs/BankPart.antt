@@ -2,7 +2,9 @@
 -- corner, which is the macro's left end at the lower edge of the write cells.
 use Rattle.std.specs.Prelude.{◌≡◌, ◌⊎◌, ℕ, ◌==◌, ℤ, pos, ◌+ℤ◌, ◌-ℤ◌, List, [], ◌∷◌, ◌++◌, cond, map, Contains, Some, slice_index_or, codes}
 use Rattle.std.specs.Int.{int_max}
+use Rattle.std.specs.List.Sorted.{IsStrictlySortedBy}
 use Rattle.or_geom.specs.declared.shape.Shape.{Shape}
+use Rattle.or_geom.specs.ShapeOrder.{shape_order}
 use Rattle.cell_roles.specs.declared.role.Role.{Role}
 use Rattle.cell_roles.specs.declared.role.Role.TheVariants.{Precharge, Sense}
 use Rattle.tech_rules.specs.declared.route.Tap.{Tap}
@@ -28,10 +30,10 @@ use Rattle.macro_cells.specs.LayoutOfKit.{layout_kit}
 use Rattle.part_edges.specs.Additions.{with_subckt}
 use Rattle.part_edges.specs.PartPins.{PartPin, part_pins, AreEdgesOf}
 use Rattle.bitcell_array.specs.ArrayPart.{with_array_cells, with_array_subckts, array_pins}
-use Rattle.port_data.specs.Column.{AreWideSlices}
-use Rattle.port_data.specs.DataPart.{data_part_subckt, data_pins, IsRoutedColumn, IsDataRefused}
+use Rattle.port_data.specs.Column.{AreWideSlices, IsColumnOf}
+use Rattle.port_data.specs.DataPart.{data_part_subckt, data_pins, IsDataRefused}
 use Rattle.bank_layout.specs.Near.{IsDrawableWire}
-use Rattle.bank_layout.specs.BankTaps.{IsLeafPin, AreBankTaps, AreTapsApart, IsBankFault}
+use Rattle.bank_layout.specs.BankTaps.{IsLeafPin, AreBankTaps, AreTapsApart, AreTapsRefused}
 use Rattle.bank_layout.specs.Outputs.{output_x}
 use Rattle.bank_layout.specs.StatedWires.{AreWiresOfCell}
 
@@ -87,10 +89,11 @@ pub record AreBankPins (kit : Kit) (plan : Organization) (wire : Wire) (floorpla
       ++ (map (pin_moved (columns_x plan (layout_kit kit) floorplan) (floorplan.precharge_y -ℤ floorplan.write_y)) (pre_pins kit plan n)
       ++ map (pin_moved floorplan.row_x (floorplan.array_y -ℤ floorplan.write_y)) (array_pins kit plan))))
 
--- The cells were added with exactly the stated wires, which fit 32 bits. The edges are those of the pins. The bank ends where its
+-- The cells were added with exactly the stated wires, each once and in order, which fit 32 bits. The edges are those of the pins. The bank ends where its
 -- columns do, and at the upper end of the precharge cells.
 pub record IsBankDrawn (kit : Kit) (plan : Organization) (wire : Wire) (n : List ℕ) (routed : Routed) (floorplan : Floorplan) (old new : CellList) (edges : Edges) : Type 0 where
   pub wires : List Shape
+  pub rises : IsStrictlySortedBy shape_order wires
   pub cells : new ≡ with_bank_cells plan (layout_kit kit) floorplan n wires old
   pub stated : AreWiresOfCell plan (layout_kit kit) wire routed.tracks floorplan wires
   pub near : (s : Shape) → Contains wires s → IsDrawableWire wire s
@@ -100,30 +103,21 @@ pub record IsBankDrawn (kit : Kit) (plan : Organization) (wire : Wire) (n : List
   pub width : edges.width ≡ floorplan.bank_width
   pub height : edges.height ≡ upper_y (layout_kit kit) floorplan -ℤ floorplan.write_y
 
--- So on the floorplan of a macro whose column channel has the tracks that were routed, and whose main channel, of which a bank knows
--- nothing, has none. No slice is too narrow, and no taps are too close.
+-- So on the floorplan of a macro whose column channel is routed so, and whose main channel, of which a bank knows nothing, has no
+-- tracks. No slice is too narrow, and no pins of the column channel and no taps are too close.
 pub record IsBankBuilt (kit : Kit) (plan : Organization) (n : List ℕ) (old new : CellList) (edges : Edges) : Type 0 where
   pub wire : Wire
   pub wired : kit.tech.wire ≡ Some wire
+  pub wide : AreWideSlices plan (layout_kit kit)
   pub routed : Routed
-  pub column : IsRoutedColumn kit plan wire routed
+  pub column : IsColumnOf kit plan routed
   pub floorplan : Floorplan
   pub stands : IsFloorplan plan (layout_kit kit) wire (record { main = 0; column = routed.tracks }) floorplan
   pub drawn : IsBankDrawn kit plan wire n routed floorplan old new edges
-  pub wide : AreWideSlices plan (layout_kit kit)
   pub apart : AreTapsApart kit.leaves plan (layout_kit kit) wire floorplan routed.track
 
--- slices are wide and the column channel is routed, and taps of the bank are too close
-pub record AreTapsRefused (kit : Kit) (plan : Organization) (fault : PartFault) : Type 0 where
-  pub wide : AreWideSlices plan (layout_kit kit)
-  pub wire : Wire
-  pub wired : kit.tech.wire ≡ Some wire
-  pub routed : Routed
-  pub column : IsRoutedColumn kit plan wire routed
-  pub floorplan : Floorplan
-  pub stands : IsFloorplan plan (layout_kit kit) wire (record { main = 0; column = routed.tracks }) floorplan
-  pub is : IsBankFault kit.leaves plan (layout_kit kit) wire floorplan routed.track fault
-
--- a slice is too narrow, or else pins of the column channel are too close, or else taps of the bank
+-- a slice is too narrow, or else pins of the column channel are too close, or else, where it is routed, taps of the bank
 abbrev pub IsBankPartRefused : Kit → Organization → PartFault → Type 0
-IsBankPartRefused kit plan fault = IsDataRefused kit plan fault ⊎ AreTapsRefused kit plan fault
+IsBankPartRefused kit plan fault =
+    IsDataRefused kit plan fault
+    ⊎ (AreWideSlices plan (layout_kit kit) × ((column : Routed) × IsColumnOf kit plan column × ((wire : Wire) × (kit.tech.wire ≡ Some wire) × AreTapsRefused kit plan wire column fault)))

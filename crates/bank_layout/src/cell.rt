@@ -5,9 +5,8 @@ ghost use Rattle.macro_layout.specs.Cells.{bank_cell, part_at};
 ghost use Rattle.macro_wires.specs.Sides.{AreLeafSides, AreSidesOf};
 ghost use Rattle.macro_wires.specs.FloorplanNumbers.{floorplan_of, IsNearFloorplan};
 
-use crate::numbers::columns_x;
 use cell_builder::{DrawnCell, PlacedInstance};
-use macro_wires::{FloorplanNumbers, LeafSides};
+use macro_wires::{FloorplanNumbers, LeafSides, columns_x};
 use or_geom::{Items, Memory, Name, Orient, Place, Point, Shape};
 use port_lists::{Spelling, part_name, spell};
 use std::alloc::Global;

@@ -18,12 +18,12 @@ ghost use Rattle.part_edges.specs.PartPins.{edges_at};
 ghost use Rattle.bank_layout.specs.BankPart.{pre_pins};
 ghost use Rattle.bank_layout.specs.BankEdges.{rail_edge, output_edge, edge_moved, AddsClockEdge, AreTopEdges, AreBottomEdges, AreBankEdges};
 
-use crate::leaves::{pin_of, wire_of};
-use crate::numbers::{choice_count, column_offset, columns_x, first_column, line_count, rail_x};
+use crate::leaves::pin_of;
+use crate::numbers::{choice_count, column_offset, first_column, line_count, rail_x};
 use cell_roles::Role;
-use leaf_tables::{Edge, Edges, Kit};
+use leaf_tables::{Edge, Edges, Kit, wire_of};
 use macro_cells::pre_cell;
-use macro_wires::{FloorplanNumbers, LeafSides};
+use macro_wires::{FloorplanNumbers, LeafSides, columns_x};
 use or_geom::{Items, Memory, Name};
 use part_edges::{Side, edge_at, side_edges, sorted_edges};
 use port_lists::{Spelling, spell};

@@ -1,37 +1,14 @@
-ghost use Rattle.std.specs.Prelude.{◌≡◌, ◌<◌, Some, length};
+ghost use Rattle.std.specs.Prelude.{◌≡◌, ◌<◌, length};
 ghost use Rattle.or_geom.specs.Place.{IsNearPoint};
 ghost use Rattle.leaf_shapes.specs.Demands.{role_demands};
-ghost use Rattle.leaf_tables.specs.Alignment.{leaf_in};
 ghost use Rattle.leaf_tables.specs.Kits.{IsKit};
 ghost use Rattle.row_decoder.specs.RowTaps.{pin_tap};
-ghost use Rattle.tech_rules.specs.Facts.{IsWire};
 ghost use Rattle.bank_layout.specs.BankTaps.{IsInCell, IsLeafPin};
 
 use cell_roles::Role;
-use leaf_tables::{Kit, Leaf, LeafPin, role_number};
+use leaf_tables::{Kit, LeafPin, leaf_of};
 use or_geom::Place;
-use tech_rules::{Tap, Wire};
-
-/// What wires are drawn with.
-pub fn wire_of(kit: &Kit) -> &Wire
-    requires { IsKit kit.now }
-    ensures is { kit.now.tech.wire ≡ Some result.now }
-    ensures wire { IsWire kit.now.tech.layers result.now }
-{
-    match &kit.tech.wire {
-        Some(wire) => wire,
-        None => unreachable!(),
-    }
-}
-
-/// The role's leaf.
-fn leaf_of(kit: &Kit, role: Role) -> &Leaf
-    requires { IsKit kit.now }
-    ensures is { leaf_in kit.now.leaves role ≡ Some result.now }
-    ensures pins { length result.now.pins ≡ length (role_demands role) }
-{
-    &kit.leaves.as_slice()[role_number(role)]
-}
+use tech_rules::Tap;
 
 /// The pin at a place among the pins of the role's leaf.
 pub fn pin_of(kit: &Kit, role: Role, place: usize) -> &LeafPin

@@ -1,39 +1,17 @@
-ghost use Rattle.std.specs.Prelude.{◌≡◌, ◌<◌, ◌≤◌, ◌^◌, ◌*◌, ◌*ℤ◌, IfOk, pos};
+ghost use Rattle.std.specs.Prelude.{◌≡◌, ◌<◌, ◌≤◌, ◌^◌, ◌*◌, IfOk, pos};
 ghost use Rattle.tech_rules.specs.Facts.{AreSizes};
-ghost use Rattle.tech_rules.specs.Drawing.{pitch};
 ghost use Rattle.sram_netlist.specs.Organization.{words_per_row};
 ghost use Rattle.sram_netlist.specs.InstanceList.{tabulate};
 ghost use Rattle.sram_netlist.specs.Numbers.{ArePlanNumbers};
 ghost use Rattle.sram_plan.specs.PlanNumbers.{numbers_of, organization};
 ghost use Rattle.macro_layout.specs.Floorplan.{line_count, choice_count, rail_x};
-ghost use Rattle.macro_wires.specs.Sides.{AreLeafSides};
-ghost use Rattle.macro_wires.specs.FloorplanNumbers.{IsNearFloorplan, IsUpTo, columns_from};
+ghost use Rattle.macro_wires.specs.FloorplanNumbers.{IsUpTo};
 
-use macro_wires::{FloorplanNumbers, LeafSides};
+use macro_wires::{choices, pitches};
 use or_geom::Memory;
-use port_lists::lines_of;
 use sram_plan::Plan;
 use std::alloc::Global;
 use tech_rules::Wire;
-
-/// The left end of the first bank's columns.
-pub fn columns_x(sides: &LeafSides, floorplan: &FloorplanNumbers) -> i64
-    requires sides { AreLeafSides sides.now }
-    requires near { IsNearFloorplan floorplan.now }
-    ensures is { result ≡ columns_from sides.now floorplan.now }
-    ensures near { IsUpTo (2 ^ 24) result }
-{
-    floorplan.row_x + (sides.gate_width + sides.driver_width) as i64
-}
-
-/// How many lines so many bits have: none where there are no bits.
-fn choices(bits: u32) -> u32
-    requires { bits ≤ 3 }
-    ensures value { result ≡ choice_count bits }
-    ensures few { result ≤ 8 }
-{
-    if bits == 0 { 0 } else { lines_of(bits) }
-}
 
 /// How many column choices there are.
 pub fn choice_count(plan: &Plan) -> u32
@@ -51,25 +29,6 @@ pub fn line_count(plan: &Plan) -> u32
     ensures few { result ≤ 24 }
 {
     choices(plan.groups[0]) + choices(plan.groups[1]) + choices(plan.groups[2])
-}
-
-/// So many pitches.
-pub fn pitches(count: u32, wire: &Wire) -> u64
-    requires sizes { AreSizes wire.now }
-    requires few { count ≤ 1024 }
-    ensures value { pos result ≡ pos count *ℤ pitch wire.now }
-    ensures few { result ≤ count * 131072 }
-{
-    count as u64 * pitch(wire)
-}
-
-/// The distance from a wire's edge to the same edge of the next wire.
-fn pitch(wire: &Wire) -> u64
-    requires { AreSizes wire.now }
-    ensures value { pos result ≡ pitch wire.now }
-    ensures few { result ≤ 131072 }
-{
-    (wire.width + wire.space) as u64
 }
 
 /// Where a rail stands.

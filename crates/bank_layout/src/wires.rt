@@ -1,5 +1,7 @@
 ghost use Rattle.std.specs.Prelude.{◌≡◌, ◌<ℤ◌, IfErr, IfOk, OnOk, Some, Contains};
+ghost use Rattle.std.specs.List.Sorted.{IsStrictlySortedBy};
 ghost use Rattle.or_geom.specs.declared.shape.Shape.{Shape};
+ghost use Rattle.or_geom.specs.ShapeOrder.{shape_order};
 ghost use Rattle.tech_rules.specs.declared.tech.Wire.{Wire};
 ghost use Rattle.leaf_tables.specs.declared.part.PartFault.{PartFault};
 ghost use Rattle.leaf_tables.specs.Kits.{IsKit};
@@ -16,24 +18,24 @@ ghost use Rattle.bank_layout.specs.Outputs.{AddsOutputs};
 ghost use Rattle.bank_layout.specs.Near.{IsBankGiven, IsDrawableWire};
 
 use crate::channel::add_moved;
-use crate::leaves::{pin_of, wire_of};
-use crate::numbers::{choice_count, columns_x, line_count, rail_xs};
+use crate::leaves::pin_of;
+use crate::numbers::{choice_count, line_count, rail_xs};
 use crate::outputs::add_outputs;
 use crate::taps::bank_taps;
 use cell_roles::Role;
 use channel_router::Routed;
-use leaf_tables::{Kit, PartFault};
-use macro_wires::{FloorplanNumbers, LeafSides, add_bank_joiners};
-use or_geom::{Memory, Shape};
+use leaf_tables::{Kit, PartFault, wire_of};
+use macro_wires::{FloorplanNumbers, LeafSides, add_bank_joiners, columns_x};
+use or_geom::{Memory, Shape, sort_distinct};
 use rail_bus::rails;
 use sram_plan::Plan;
 use std::alloc::Global;
 use tech_rules::Wire;
 
-/// The wires of a bank: its column channel, its rails and their taps, its outputs, and its joiners, in nanometres from the
-/// lower left corner of the write cells' row in the macro's first bank. `routed` is the column channel, routed from the left
-/// end of the columns and the lower edge of the write cells. `TapsClose` names two taps that are nearer to each other than
-/// the pitch.
+/// The wires of a bank: its column channel, its rails and their taps, its outputs, and its joiners, each once and in order, in
+/// nanometres from the lower left corner of the write cells' row in the macro's first bank. `routed` is the column channel,
+/// routed from the left end of the columns and the lower edge of the write cells. `TapsClose` names two taps that are nearer to
+/// each other than the pitch. `Memory`.
 pub fn bank_wires(
     alloc: Global,
     kit: &Kit,
@@ -48,6 +50,7 @@ pub fn bank_wires(
     requires sides_of { AreSidesOf (organization plan.now) (layout_kit kit.now) sides.now }
     requires near { IsNearFloorplan floorplan.now }
     requires given { (wire : Wire) → kit.now.tech.wire ≡ Some wire → IsBankGiven (organization plan.now) (layout_kit kit.now) wire (floorplan_of floorplan.now) routed.now }
+    ensures rises { IfOk result (λ shapes. IsStrictlySortedBy shape_order shapes.items) }
     ensures near { IfOk result (λ shapes. (wire : Wire) → kit.now.tech.wire ≡ Some wire → (s : Shape) → Contains shapes.items s → IsDrawableWire wire s) }
     ensures stated { IfOk result (λ shapes. (wire : Wire) → kit.now.tech.wire ≡ Some wire → IsColumnRouted (organization plan.now) (layout_kit kit.now) wire (floorplan_of floorplan.now) routed.now → AreWiresOfCell (organization plan.now) (layout_kit kit.now) wire routed.now.tracks (floorplan_of floorplan.now) shapes.items) }
     ensures apart { IfOk result (λ shapes. (wire : Wire) → kit.now.tech.wire ≡ Some wire → AreTapsApart kit.now.leaves (organization plan.now) (layout_kit kit.now) wire (floorplan_of floorplan.now) routed.now.track) }
@@ -59,6 +62,7 @@ pub fn bank_wires(
     add_moved(left, routed.shapes.as_slice(), &mut shapes)?;
     add_output_wires(kit, plan, sides, floorplan, wire, &mut shapes)?;
     add_bank_joiners(plan, sides, wire, floorplan, &mut shapes)?;
+    sort_distinct(&mut shapes);
     Ok(shapes)
 }
 

@@ -2,6 +2,7 @@
 use Rattle.std.proofs.Common.{◌≡◌, ◌⊎◌, inl, inr, ℕ, ◌<◌, ℤ, pos, ◌+ℤ◌, List, Contains, Some, refl, sym, ap, subst, ◌∙◌, arith}
 use Rattle.std.proofs.lemmas.Option.{same_Some}
 use Rattle.std.specs.Prelude.{◌↔◌, Option, IfSome}
+use Rattle.std.specs.List.Sorted.{IsStrictlySortedBy}
 use Rattle.or_geom.specs.declared.shape.Shape.{Shape}
 use Rattle.or_geom.specs.ShapeOrder.{shape_order}
 use Rattle.or_geom.proofs.OneListLaws.{one_list}
@@ -23,23 +24,26 @@ use Rattle.macro_layout.specs.Layout.{Drawing}
 use Rattle.macro_layout.specs.Wires.{IsPowerWire, IsGroundWire}
 use Rattle.macro_layout.specs.Channels.{IsMainChannel, IsChannelWire}
 use Rattle.macro_layout.specs.Stated.{IsWireOfCell}
+use Rattle.macro_layout.proofs.MovedLaws.{main_channels_are_drawn}
 use Rattle.macro_cells.specs.LayoutOfKit.{layout_kit}
 use Rattle.macro_wires.specs.FloorplanNumbers.{floorplan_of}
 use Rattle.macro_wires.specs.Sides.{AreSidesOf}
+use Rattle.port_data.specs.Column.{IsColumnOf}
 use Rattle.bank_layout.specs.StatedWires.{AreWiresOfCell}
 use Rattle.sram_macro.specs.declared.assembly.Macro.{Macro}
 use Rattle.sram_macro.specs.declared.layout.Layout.{Layout}
 use Rattle.sram_macro.specs.declared.library.Wires.{Wires}
 use Rattle.sram_macro.specs.declared.extents.Extents.{Extents}
 use Rattle.sram_macro.specs.Extents.{AreExtents}
-use Rattle.sram_macro.specs.Layout.{IsColumnOf, IsMainRouted}
+use Rattle.sram_macro.specs.Layout.{IsMainRouted}
 use Rattle.sram_macro.specs.Library.{drawing_with, macro_list}
 use Rattle.sram_macro.specs.Macro.{IsMacro, IsLaidOut, IsDrawnFrom, AreWiresOf, layout_pins, macro_deck}
 use Rattle.sram_macro.specs.Signals.{macro_labels, signals_on_tracks, signal_names, input_count}
 use Rattle.sram_macro.specs.View.{macro_view}
+use Rattle.sram_macro.proofs.MainChannelLaws.{main_wires}
 use Rattle.macro_laws.specs.OneMacro.{MacrosAreUnique}
 use Rattle.macro_laws.proofs.RouteLaws.{IsOneRouting}
-use Rattle.macro_laws.proofs.LayoutLaws.{one_floorplan, one_column_routing, one_main_routing, main_wires}
+use Rattle.macro_laws.proofs.LayoutLaws.{one_floorplan, one_column_routing, one_main_routing}
 use Rattle.macro_laws.proofs.LibraryLaws.{one_library}
 
 one_ends : (plan : Organization) (kit : LayoutKit) (wire : Wire) (floorplan : Floorplan) (a b : Extents) → AreExtents plan kit wire floorplan a → AreExtents plan kit wire floorplan b → a ≡ b
@@ -57,7 +61,7 @@ record IsOneLayout (plan : Organization) (kit : LayoutKit) (wire : Wire) (a b : 
   row : a.sides.inv_height ≡ b.sides.inv_height
   track : a.main.track ≡ b.main.track
   tracks : a.main.tracks ≡ b.main.tracks
-  bank : (s : Shape) → Contains a.bank.items s ↔ Contains b.bank.items s
+  bank : a.bank.items ≡ b.bank.items
   main : (s : Shape) → Contains a.main.shapes s ↔ Contains b.main.shapes s
 
 both_ways : {A B C : Type 0} → A ↔ B → C ↔ B → A ↔ C
@@ -68,6 +72,7 @@ record StandsSo (kit : Kit) (plan : Organization) (wire : Wire) (column : Routed
   of : IsColumnOf kit plan column
   stands : IsFloorplan plan (layout_kit kit) wire (record { main = a.main.tracks; column = column.tracks }) (floorplan_of a.floorplan)
   ends : AreExtents plan (layout_kit kit) wire (floorplan_of a.floorplan) a.ends
+  rises : IsStrictlySortedBy shape_order a.bank.items
   bank : AreWiresOfCell plan (layout_kit kit) wire column.tracks (floorplan_of a.floorplan) a.bank.items
   main : IsMainRouted plan (layout_kit kit) wire a.main
   sides : AreSidesOf plan (layout_kit kit) a.sides
@@ -82,6 +87,7 @@ stands_so kit plan wire a wired laid =
       of = laid.of;
       stands = subst (λ (w : Wire). IsFloorplan plan lk w (record { main = a.main.tracks; column = laid.column.tracks }) fl) same is.stands;
       ends = subst (λ (w : Wire). AreExtents plan lk w fl a.ends) same is.ends;
+      rises = is.bank_rises;
       bank = subst (λ (w : Wire). AreWiresOfCell plan lk w laid.column.tracks fl a.bank.items) same is.bank_wires;
       main = subst (λ (w : Wire). IsMainRouted plan lk w a.main) same is.main;
       sides = is.sides_of;
@@ -112,14 +118,16 @@ one_layout kit plan wire c d a b one p q =
     let fl = floorplan_of a.floorplan in
     let same = floorplans kit plan wire c d a b one p q in
     let tracks : Tracks = record { main = a.main.tracks; column = c.tracks } in
+    let banks : (s : Shape) → Contains a.bank.items s ↔ Contains b.bank.items s =
+    λ s. both_ways (p.bank 0 s) (subst (λ (f : Floorplan). Contains b.bank.items s ↔ IsWireOfCell plan lk wire (record { main = 0; column = c.tracks }) f s) (sym same) (subst (λ (n : ℕ). Contains b.bank.items s ↔ IsWireOfCell plan lk wire (record { main = 0; column = n }) (floorplan_of b.floorplan) s) (sym one.column) (q.bank 0 s))) in
     record {
       floorplan = same;
       ends = one_ends plan lk wire fl a.ends b.ends p.ends (subst (λ (f : Floorplan). AreExtents plan lk wire f b.ends) (sym same) q.ends);
       row = p.sides.inv_height ∙ sym q.sides.inv_height;
       track = one.main.tracks;
       tracks = one.main.count;
-      bank = λ s. both_ways (p.bank 0 s) (subst (λ (f : Floorplan). Contains b.bank.items s ↔ IsWireOfCell plan lk wire (record { main = 0; column = c.tracks }) f s) (sym same) (subst (λ (n : ℕ). Contains b.bank.items s ↔ IsWireOfCell plan lk wire (record { main = 0; column = n }) (floorplan_of b.floorplan) s) (sym one.column) (q.bank 0 s)));
-      main = λ s. both_ways (main_wires plan lk wire tracks fl a.main p.stands p.main s) (subst (λ (n : ℕ). Contains b.main.shapes s ↔ IsChannelWire (IsMainChannel plan lk wire fl) wire n s) (sym one.main.count) (main_wires plan lk wire tracks fl b.main p.stands q.main s));
+      bank = one_list shape_order shape_total a.bank.items b.bank.items p.rises q.rises (record { there = λ s. (banks s).0; back = λ s. (banks s).1 });
+      main = λ s. both_ways (main_wires main_channels_are_drawn plan lk wire tracks fl a.main p.main p.stands s) (subst (λ (n : ℕ). Contains b.main.shapes s ↔ IsChannelWire (IsMainChannel plan lk wire fl) wire n s) (sym one.main.count) (main_wires main_channels_are_drawn plan lk wire tracks fl b.main q.main p.stands s));
     }
 
 -- wires and labels
@@ -140,14 +148,11 @@ turned plan kit wire a b one = record {
   row = sym one.row;
   track = sym one.track;
   tracks = sym one.tracks;
-  bank = λ s. ((one.bank s).1, (one.bank s).0);
+  bank = sym one.bank;
   main = λ s. ((one.main s).1, (one.main s).0);
 }
 
 -- the wires of one layout are those of the other
-bank_there : (plan : Organization) (kit : LayoutKit) (wire : Wire) (a b : Layout) (ps qs : List SignalPin) (v w : Wires) → IsOneLayout plan kit wire a b → AreWiresOf plan kit wire a ps v → AreWiresOf plan kit wire b qs w → (s : Shape) → Contains v.bank.items s → Contains w.bank.items s
-bank_there plan kit wire a b ps qs v w one p q s h = (q.bank s).1 ((one.bank s).0 ((p.bank s).0 h))
-
 top_there : (plan : Organization) (kit : LayoutKit) (wire : Wire) (a b : Layout) (ps qs : List SignalPin) (v w : Wires) → IsOneLayout plan kit wire a b → AreWiresOf plan kit wire a ps v → AreWiresOf plan kit wire b qs w → (s : Shape) → Contains v.top.items s → Contains w.top.items s
 top_there plan kit wire a b ps qs v w one p q s h = (q.top s).1 (top_of plan kit wire a b one s ((p.top s).0 h))
 
@@ -157,7 +162,7 @@ same_drawing plan kit wire a b v w one p q =
     let back = turned plan kit wire a b one in
     let ps = layout_pins plan wire a in
     let qs = layout_pins plan wire b in
-    let bank = one_list shape_order shape_total v.bank.items w.bank.items p.bank_rises q.bank_rises (record { there = bank_there plan kit wire a b ps qs v w one p q; back = bank_there plan kit wire b a qs ps w v back q p }) in
+    let bank = p.bank ∙ one.bank ∙ sym q.bank in
     let top = one_list shape_order shape_total v.top.items w.top.items p.top_rises q.top_rises (record { there = top_there plan kit wire a b ps qs v w one p q; back = top_there plan kit wire b a qs ps w v back q p }) in
     let pins = same_pins plan kit wire a b one in
     let labels = p.labels ∙ (λ i. macro_labels wire (one.ends i) (pins i)) ∙ sym q.labels in

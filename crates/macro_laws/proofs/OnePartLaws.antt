@@ -31,15 +31,15 @@ use Rattle.macro_layout.specs.Cells.{slice_x}
 use Rattle.macro_layout.specs.Floorplan.{Tracks, IsFloorplan, line_count, choice_count}
 use Rattle.macro_cells.specs.LayoutOfKit.{layout_kit}
 use Rattle.macro_wires.specs.FloorplanNumbers.{floorplan_of}
-use Rattle.port_data.specs.Column.{AreWideSlices, IsNarrowFault, AreColumnPinsApart, IsColumnFault}
+use Rattle.port_data.specs.Column.{AreWideSlices, IsNarrowFault, AreColumnPinsApart, IsColumnOf, IsColumnFault}
 use Rattle.port_data.specs.DataPart.{IsDataRefused}
 use Rattle.port_data.specs.Pins.{column_channel}
 use Rattle.row_decoder.specs.RowTaps.{corner_at, pin_tap, AreTapsOfRows}
 use Rattle.bank_layout.proofs.SameTapLaws.{same_taps}
-use Rattle.bank_layout.specs.BankTaps.{AreBankTaps, AreTapsApart, AreTapsClose, IsBankFault, choice_tap, channel_low}
+use Rattle.bank_layout.specs.BankTaps.{AreBankTaps, AreTapsApart, AreTapsClose, AreTapsRefused, IsBankFault, choice_tap, channel_low}
 use Rattle.sram_macro.specs.declared.assembly.Macro.{Macro}
 use Rattle.sram_macro.specs.declared.layout.Layout.{Layout}
-use Rattle.sram_macro.specs.Layout.{IsColumnOf, IsMainOf, IsMainRouted, IsMainFault, IsMacroLayout, IsBankRefused, IsMainRefused, IsMacroLayoutFault}
+use Rattle.sram_macro.specs.Layout.{IsMainOf, IsMainRouted, IsMainFault, IsMacroLayout, IsMainRefused, IsMacroLayoutFault}
 use Rattle.sram_macro.specs.Macro.{IsMacro, IsMacroFault, IsPartsFault, IsLaidOut}
 use Rattle.sram_macro.specs.Names.{macro_names, first_taken, IsTakenFault}
 use Rattle.macro_laws.specs.OneMacro.{MacroFaultsAreUnique, MacroFaultsExcludeMacros}
@@ -228,7 +228,7 @@ lasting_route x r s e m = s (e ∙ ap of_route m)
 -- a bank or the main channel
 
 abbrev IsRefused : Kit → Organization → Wire → Routed → PartFault → Type 0
-IsRefused kit plan wire column x = IsBankRefused kit plan wire column x ⊎ IsMainRefused kit plan wire column x
+IsRefused kit plan wire column x = AreTapsRefused kit plan wire column x ⊎ IsMainRefused kit plan wire column x
 
 refused_at : (kit : Kit) (plan : Organization) (wire : Wire) (column : Routed) (x : PartFault) → kit.tech.wire ≡ Some wire → IsMacroLayoutFault kit plan column x → IsRefused kit plan wire column x
 refused_at kit plan wire column x wired p = subst (λ (w : Wire). IsRefused kit plan w column x) (same_Some p.0 wire (sym p.1 ∙ wired)) p.2

@@ -9,30 +9,17 @@ use Rattle.tech_rules.specs.declared.tech.Wire.{Wire}
 use Rattle.tech_rules.specs.Drawing.{pitch}
 use Rattle.tech_rules.specs.Facts.{AreSizes}
 use Rattle.channel_router.specs.declared.channel.Channel.{Channel}
-use Rattle.channel_router.specs.declared.channel.ChannelPin.{ChannelPin}
 use Rattle.channel_router.specs.declared.channel.Interval.{Interval}
-use Rattle.channel_router.specs.Channel.{IsPinOf}
 use Rattle.channel_router.specs.Intervals.{AreIntervals}
 use Rattle.channel_router.specs.Tracks.{AreAssigned}
 use Rattle.channel_router.specs.Wires.{channel_height}
-use Rattle.macro_layout.specs.Channels.{ArePins}
-use Rattle.macro_layout.specs.Moved.{ArePinsMoved, IsChannelMoved}
+use Rattle.macro_layout.specs.Moved.{IsChannelMoved}
 use Rattle.macro_layout.proofs.RoutingLaws.{item_at, AreTwo, intervals_move, same_track}
 
 -- lists with the same at each place
 pub same_by_places : {X : Type 0} (xs ys : List X) → length xs ≡ length ys → ((k : ℕ) → k < length xs → slice_get xs k ≡ slice_get ys k) → xs ≡ ys
 same_by_places {X} xs ys sized each =
     same_lists xs ys sized (λ k d lt. sym (unwrap_or-slice_get xs k d) ∙ (ap (λ (o : Option X). unwrap_or o d) (each k lt) ∙ unwrap_or-slice_get ys k d))
-
-nowhere : (x : ℤ) → x +ℤ pos 0 ≡ x
-nowhere x = omega (arith, ints)
-
--- pins that are meant so
-pub one_set : (xs ys : List ChannelPin) (M : ℕ → ℤ → Type 0) → ArePins xs M → ArePins ys M → ArePinsMoved (pos 0) xs ys
-one_set xs ys M a b net x = (
-  λ p. (a net x).1 ((b net x).0 (subst (IsPinOf ys net) (nowhere x) p)),
-  λ p. subst (IsPinOf ys net) (sym (nowhere x)) ((b net x).1 ((a net x).0 p)),
-)
 
 pub one_end : (a b z : ℤ) → a ≡ z → b ≡ z → b ≡ a +ℤ pos 0
 one_end a b z e f = omega (arith, ints, e, f)

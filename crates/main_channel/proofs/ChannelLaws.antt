@@ -16,7 +16,7 @@ use Rattle.leaf_tables.specs.declared.kit.Kit.{Kit}
 use Rattle.leaf_tables.specs.declared.kit.Leaf.{Leaf}
 use Rattle.leaf_tables.specs.Alignment.{leaf_in}
 use Rattle.macro_cells.specs.LeafSides.{side_of, leaf_height}
-use Rattle.main_channel.specs.Leaves.{IsInLeaf}
+use Rattle.leaf_tables.specs.NearLeaf.{IsLeafLength}
 use Rattle.main_channel.specs.Main.{IsNearMainChannel}
 use Rattle.main_channel.specs.Names.{channel_names, port_count}
 use Rattle.main_channel.specs.Numbers.{IsNetNumbering}
@@ -82,7 +82,7 @@ met ch ports sides net less = by (split net ports) where
       let has = sides.outputs (net - ports) (omega (arith, output, less, count)) in
       moved ch.bottom (places ch) net (λ pin is. Contains-append_left (ch.top ++ ch.bottom) ch.exits pin (Contains-append_right ch.top ch.bottom pin is)) (subst (HasPinOfNet ch.bottom) whole has)
 
-pub is_channel : (ch : Channel) (ports : ℕ) → IsInLeaf ch.low → AreSides ch.nets ports ch.top ch.bottom ch.exits → IsChannel ch
+pub is_channel : (ch : Channel) (ports : ℕ) → IsLeafLength ch.low → AreSides ch.nets ports ch.top ch.bottom ch.exits → IsChannel ch
 is_channel ch ports low sides =
     let a = low.above in
     let b = low.below in
@@ -94,7 +94,7 @@ is_channel ch ports low sides =
       met = met ch ports sides;
     }
 
-pub is_near : (ch : Channel) (ports : ℕ) → IsInLeaf ch.low → AreSides ch.nets ports ch.top ch.bottom ch.exits → IsNearMainChannel ch
+pub is_near : (ch : Channel) (ports : ℕ) → IsLeafLength ch.low → AreSides ch.nets ports ch.top ch.bottom ch.exits → IsNearMainChannel ch
 is_near ch ports low sides = record {
   top = in_macro ch.nets ch.top sides.top_pins;
   bottom = in_macro ch.nets ch.bottom sides.bottom_pins;
@@ -133,9 +133,9 @@ sides_are nets ports look names gates plan top_start bottom_start tops bottoms t
     }
 
 -- the height of a leaf
-height_read : (z : ℤ) → IsInLeaf z → to_z w64 (of_z w64 z) ≡ pos (side_of (Some z))
+height_read : (z : ℤ) → IsLeafLength z → to_z w64 (of_z w64 z) ≡ pos (side_of (Some z))
 height_read (pos n) is = let b = is.below in omega (arith, ints, b)
 height_read (negsuc n) is = let a = is.above in absurd (omega (arith, ints, a))
 
-pub height_is : (kit : Kit) (role : Role) (leaf : Leaf) → leaf_in kit.leaves role ≡ Some leaf → IsInLeaf leaf.height → to_z w64 (of_z w64 leaf.height) ≡ pos (leaf_height kit role)
+pub height_is : (kit : Kit) (role : Role) (leaf : Leaf) → leaf_in kit.leaves role ≡ Some leaf → IsLeafLength leaf.height → to_z w64 (of_z w64 leaf.height) ≡ pos (leaf_height kit role)
 height_is kit role leaf there is = height_read leaf.height is ∙ ap (λ (found : Option Leaf). pos (side_of (option_map (λ (l : Leaf). l.height) found))) (sym there)

@@ -27,8 +27,8 @@ use Rattle.macro_cells.specs.LeafSides.{leaf_width}
 use Rattle.macro_cells.specs.LayoutOfKit.{layout_kit}
 use Rattle.main_channel.specs.Leaves.{pin_begin}
 use Rattle.main_channel.specs.Pins.{numbered_net}
-use Rattle.main_channel.specs.Row.{port_pin, cell_pins, row_pins}
-use Rattle.main_channel.specs.Banks.{bank_rail_pins, bit_begin, bit_pins, columns_begin, bank_pins}
+use Rattle.main_channel.specs.Row.{port_channel_pin, cell_channel_pins, row_pins}
+use Rattle.main_channel.specs.Banks.{bank_rail_pins, bit_begin, bit_channel_pins, columns_begin, bank_pins}
 use Rattle.main_channel.specs.Formula.{main_number, port_begin, main_top, main_bottom, main_exit, main_channel}
 use Rattle.main_channel.proofs.PinLaws.{lists_same}
 use Rattle.main_channel.proofs.StepLaws.{from_none}
@@ -43,7 +43,7 @@ module _ (kit : Kit) (is : IsKit kit) (plan : Organization) where
   abbrev below : Role → ℕ → ℤ
   below role port = port_begin (layout_kit kit) 1 role port
 
-  bit_same : (look : List ℕ → Option ℕ) (bank : ℕ) (from : ℤ) (bit : ℕ) → bit_pins (pin_begin kit) (leaf_width kit) look plan bank from bit ≡ bit_pins above (leaf_width kit) look plan bank from bit
+  bit_same : (look : List ℕ → Option ℕ) (bank : ℕ) (from : ℤ) (bit : ℕ) → bit_channel_pins (pin_begin kit) (leaf_width kit) look plan bank from bit ≡ bit_channel_pins above (leaf_width kit) look plan bank from bit
   bit_same look bank from bit =
       let at = bit_begin (leaf_width kit) plan from bit in
       let din = begins_as_stated kit is Write 0 3 0 write_din in
@@ -58,7 +58,7 @@ module _ (kit : Kit) (is : IsKit kit) (plan : Organization) where
       let at : ℤ = (pos bank *ℤ bank_width) in
       let from = at +ℤ columns_begin (leaf_width kit) plan row_x in
       ap (λ (l : List ChannelPin). bank_rail_pins look (map (net_name plan) (rail_nets plan bank)) at step ++ l)
-      (lists_same plan.word_size (bit_pins (pin_begin kit) (leaf_width kit) look plan bank from) (bit_pins above (leaf_width kit) look plan bank from) (λ bit less. bit_same look bank from bit))
+      (lists_same plan.word_size (bit_channel_pins (pin_begin kit) (leaf_width kit) look plan bank from) (bit_channel_pins above (leaf_width kit) look plan bank from) (λ bit less. bit_same look bank from bit))
 
   pub top_formula : (wire : Wire) (floorplan : Floorplan) (look : List ℕ → Option ℕ) (row_x bank_width : ℤ) (banks : ℕ) (none tops top : List ChannelPin) → ((name : List ℕ) → look name ≡ main_number plan name) → none ≡ []
       → tops ≡ none ++ tabulate_lists banks (bank_pins (pin_begin kit) (leaf_width kit) look plan (pitch wire) row_x bank_width) → top ≡ tops → banks ≡ banks_of plan → row_x ≡ floorplan.row_x → bank_width ≡ floorplan.bank_width
@@ -70,12 +70,12 @@ module _ (kit : Kit) (is : IsKit kit) (plan : Organization) where
       (bank_pins above (leaf_width kit) (main_number plan) plan (pitch wire) floorplan.row_x floorplan.bank_width) (λ bank less. bank_same (main_number plan) (pitch wire) floorplan.row_x floorplan.bank_width bank))
 
   cell_same : (p : IsBuildable plan) (look : List ℕ → Option ℕ) (cell : Role → List ℕ) (c : LogicCell) (from : ℤ) → HasLogicCell plan c
-      → cell_pins (pin_begin kit) look (logic_role plan c) (logic_cell plan cell c) from ≡ cell_pins below look (logic_role plan c) (logic_cell plan cell c) from
+      → cell_channel_pins (pin_begin kit) look (logic_role plan c) (logic_cell plan cell c) from ≡ cell_channel_pins below look (logic_role plan c) (logic_cell plan cell c) from
   cell_same p look cell c from has =
       let nodes = map (net_name plan) (logic_cell_ports plan c) in
       let long = length-map (logic_cell_ports plan c) (net_name plan) in
       let sized = ports_sized plan c p has in
-      lists_same (length nodes - 2) (port_pin (pin_begin kit (logic_role plan c)) look nodes from) (port_pin (below (logic_role plan c)) look nodes from)
+      lists_same (length nodes - 2) (port_channel_pin (pin_begin kit (logic_role plan c)) look nodes from) (port_channel_pin (below (logic_role plan c)) look nodes from)
       (λ k less. ap (λ (z : ℤ). numbered_net look (get_or nodes k []) (from +ℤ z)) (begins_as_stated kit is (logic_role plan c) k 1 k (logic_demand plan c k (omega (arith, less, long, sized)))))
 
   row_same : (p : IsBuildable plan) (look : List ℕ → Option ℕ) (cell : Role → List ℕ) (cs : List LogicCell) (from : ℤ) → AllByRecursion (HasLogicCell plan) cs

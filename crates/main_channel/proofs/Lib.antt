@@ -1,11 +1,8 @@
 pub mod TableLaws
 pub mod ListLaws
 pub mod ColumnLaws
-pub mod DemandLaws
 pub mod LeafLaws
 pub mod CountLaws
-pub mod PinListLaws
-pub mod PlaceLaws
 pub mod PinLaws
 pub mod StepLaws
 pub mod LineLaws

@@ -13,9 +13,9 @@ use Rattle.channel_router.specs.Channel.{IsPinOf}
 use Rattle.leaf_shapes.specs.Demands.{role_demands}
 use Rattle.sram_netlist.specs.InstanceList.{numbers_from, tabulate, tabulate_lists}
 use Rattle.port_lists.proofs.TabulateLaws.{tabulate_lists_more}
-use Rattle.main_channel.proofs.PinListLaws.{pin_first, pin_none, pin_cases, pin_in_both, pin_left, pin_right}
+use Rattle.channel_router.proofs.PinListLaws.{pin_first, pin_none, pin_cases, pin_in_both, pin_left, pin_right}
 use Rattle.main_channel.specs.Pins.{IsMainPin, AreMainPins, pin_of, numbered_net}
-use Rattle.main_channel.specs.Leaves.{IsInLeaf}
+use Rattle.leaf_tables.specs.NearLeaf.{IsLeafLength}
 use Rattle.main_channel.specs.Row.{FitRoles}
 
 pub pushed_main : (nets : ℕ) (old new : List ChannelPin) (pin : ChannelPin) → AreMainPins nets old → new ≡ old ++ pin ∷ [] → IsMainPin nets pin → AreMainPins nets new
@@ -121,14 +121,14 @@ three_demands Dff = omega arith
 three_demands Delay = omega arith
 
 -- a length in a leaf, as it is read
-pub in_leaf_read : (z : ℤ) → IsInLeaf z → IsInLeaf (to_z w64 (of_z w64 z))
+pub in_leaf_read : (z : ℤ) → IsLeafLength z → IsLeafLength (to_z w64 (of_z w64 z))
 in_leaf_read z is =
     let a = is.above in
     let b = is.below in
     record { above = omega (arith, ints, a, b); below = omega (arith, ints, a, b) }
 
 -- a width more, as it is read
-pub sum_read : (x w : ℤ) → pos 0 ≤ℤ x → x ≤ℤ pos 268435456 → IsInLeaf w → to_z w64 (of_z w64 (x +ℤ to_z w64 (of_z w64 w))) ≡ x +ℤ w
+pub sum_read : (x w : ℤ) → pos 0 ≤ℤ x → x ≤ℤ pos 268435456 → IsLeafLength w → to_z w64 (of_z w64 (x +ℤ to_z w64 (of_z w64 w))) ≡ x +ℤ w
 sum_read x w a b is =
     let d = is.above in
     let e = is.below in

@@ -10,7 +10,7 @@ use Rattle.sram_netlist.specs.Organization.{Organization}
 use Rattle.sram_netlist.specs.Nets.{Net, Clk0, Csb0, Web0, Clkb, Csq, Weq, Cs, We, Wlb, Wlen, Wrb, Wen, Rdb, Rd, Dly, Seb, Sen, Vdd, Gnd, Control, Addr, Din, Wmask, A, Na, D, M, LineB, Line, WlenB, WlenAt, SenB, SenAt, WenB, WenAt}
 use Rattle.sram_netlist.specs.Instances.{LogicCell, Clki, Csd, Wed, Csi, Wei, Wln, Wli, Wrn, Wri, Rdn, Rdi, Dlay, Senn, Seni, Ad, Ai, Dd, Dm, Pn, Pi, Ln, Li, Kn, Ki, Gn, Gi}
 use Rattle.sram_netlist.specs.Netlist.{gate_of, logic_role, picks, enable_inputs, bank_line, supply_nets, logic_cell_ports}
-use Rattle.main_channel.proofs.DemandLaws.{IsPortDemand}
+use Rattle.macro_cells.specs.Demanded.{IsDemandOf}
 use Rattle.main_channel.proofs.ListLaws.{split_at}
 
 pub three_ports : (plan : Organization) (c : LogicCell) → 3 ≤ length (logic_cell_ports plan c)
@@ -86,7 +86,7 @@ role_logic plan (Pn o b k) = gate_logic b
 role_logic plan (Gn bank m) = gate_logic (length (enable_inputs plan bank m))
 role_logic plan c = tt
 
-demand_of : (role : Role) → IsLogicRole role → (k : ℕ) → k + 2 < length (role_ports role) → IsPortDemand role k 1 k
+demand_of : (role : Role) → IsLogicRole role → (k : ℕ) → k + 2 < length (role_ports role) → IsDemandOf role k 1 k
 demand_of Nand2 is zero few = record { name = codes "a"; named = refl; on = M2; number = refl; first = refl; there = omega arith }
 demand_of Nand2 is (suc zero) few = record { name = codes "b"; named = refl; on = M2; number = refl; first = refl; there = omega arith }
 demand_of Nand2 is (suc (suc zero)) few = record { name = codes "z"; named = refl; on = M2; number = refl; first = refl; there = omega arith }
@@ -116,15 +116,15 @@ demand_of RowNand2 is k few = absurd is
 demand_of RowNand3 is k few = absurd is
 demand_of Driver is k few = absurd is
 
-pub logic_demand : (plan : Organization) (c : LogicCell) (k : ℕ) → k + 2 < length (role_ports (logic_role plan c)) → IsPortDemand (logic_role plan c) k 1 k
+pub logic_demand : (plan : Organization) (c : LogicCell) (k : ℕ) → k + 2 < length (role_ports (logic_role plan c)) → IsDemandOf (logic_role plan c) k 1 k
 logic_demand plan c k few = demand_of (logic_role plan c) (role_logic plan c) k few
 
 -- The pins of write and sense cells
-pub write_din : IsPortDemand Write 0 3 0
+pub write_din : IsDemandOf Write 0 3 0
 write_din = record { name = codes "din"; named = refl; on = M4; number = refl; first = refl; there = omega arith }
 
-pub write_en : IsPortDemand Write 3 3 3
+pub write_en : IsDemandOf Write 3 3 3
 write_en = record { name = codes "en"; named = refl; on = M4; number = refl; first = refl; there = omega arith }
 
-pub sense_dout : IsPortDemand Sense 2 3 2
+pub sense_dout : IsDemandOf Sense 2 3 2
 sense_dout = record { name = codes "dout"; named = refl; on = M4; number = refl; first = refl; there = omega arith }

@@ -20,14 +20,14 @@ use Rattle.macro_layout.specs.LayoutKit.{LayoutKit}
 use Rattle.macro_layout.specs.Places.{Floorplan, upright, total_width, StandsInRow}
 use Rattle.macro_layout.specs.Pins.{port_nets, output_of, main_nets}
 use Rattle.macro_layout.specs.Channels.{Numbered, MeetsMainBottom}
-use Rattle.main_channel.proofs.PlaceLaws.{begins_at, begins_only}
+use Rattle.macro_cells.proofs.UprightLaws.{begins_at, begins_only}
 use Rattle.main_channel.specs.Pins.{HasPinOfNet}
-use Rattle.main_channel.specs.Row.{port_pin, cell_pins, row_pins}
+use Rattle.main_channel.specs.Row.{port_channel_pin, cell_channel_pins, row_pins}
 use Rattle.main_channel.specs.Formula.{port_begin}
 use Rattle.main_channel.proofs.ListLaws.{comes_from, behind_all, all_at, exists_in}
 use Rattle.main_channel.proofs.NetLaws.{before_at, has_output, not_vdd, not_gnd}
 use Rattle.main_channel.proofs.LookLaws.{IsNumbering}
-use Rattle.main_channel.proofs.PinListLaws.{pin_none, pin_in_both, pin_left, pin_right}
+use Rattle.channel_router.proofs.PinListLaws.{pin_none, pin_in_both, pin_left, pin_right}
 use Rattle.main_channel.proofs.PinLaws.{named_is, named_there, in_one, of_one}
 use Rattle.main_channel.proofs.PortLaws.{three_ports, which_port}
 
@@ -71,7 +71,7 @@ module _ (plan : Organization) (kit : LayoutKit) (floorplan : Floorplan) (look :
   begin_in c q = port_begin kit 1 (logic_role plan c) q
 
   abbrev cell_at : LogicCell → ℤ → List ChannelPin
-  cell_at c z = cell_pins (port_begin kit 1) look (logic_role plan c) (logic_cell plan cell c) z
+  cell_at c z = cell_channel_pins (port_begin kit 1) look (logic_role plan c) (logic_cell plan cell c) z
 
   abbrev row_at : List LogicCell → ℤ → List ChannelPin
   row_at cs from = row_pins (port_begin kit 1) kit.width look (map (logic_cell plan cell) cs) (map (logic_role plan) cs) from
@@ -113,7 +113,7 @@ module _ (plan : Organization) (kit : LayoutKit) (floorplan : Floorplan) (look :
   -- a pin of a cell is stated
   cell_meets : (i : ℕ) (c : LogicCell) (number : ℕ) (x : ℤ) → slice_get cells i ≡ Some c → IsPinOf (cell_at c (place_x i)) number x → Numbered (main_nets plan) (MeetsMainBottom plan kit floorplan) number x
   cell_meets i c number x at is =
-      let r = in_one (length (names c) - 2) (port_pin (begin_in c) look (names c) (place_x i)) number x is in
+      let r = in_one (length (names c) - 2) (port_channel_pin (begin_in c) look (names c) (place_x i)) number x is in
       let below = r.below in
       let name = get_or (names c) r.at [] in
       let named = named_is look name (place_x i +ℤ begin_in c r.at) number x r.is in
@@ -132,7 +132,7 @@ module _ (plan : Organization) (kit : LayoutKit) (floorplan : Floorplan) (look :
       let listed : slice_get (names c) q ≡ Some (net_name plan y) = slice_get-map (net_name plan) (ports c) q ∙ ap (option_map (net_name plan)) on in
       let named = get_or_from_slice_get (names c) q (net_name plan y) [] listed in
       of_row cells floorplan.logic_x number x i c at
-      (of_one (length (names c) - 2) (port_pin (begin_in c) look (names c) (place_x i)) number x q (omega (arith, long, few))
+      (of_one (length (names c) - 2) (port_channel_pin (begin_in c) look (names c) (place_x i)) number x q (omega (arith, long, few))
       (named_there look (get_or (names c) q []) (place_x i +ℤ begin_in c q) number x (ap look named ∙ numbering.there y number numbered) here))
 
   pin_there : (i : ℕ) (c : LogicCell) (q : ℕ) (y : Net) (number : ℕ) (x : ℤ) → slice_get cells i ≡ Some c → slice_get (ports c) q ≡ Some y → slice_get (main_nets plan) number ≡ Some y → x ≡ begin_in c q +ℤ place_x i → IsPinOf whole_row number x

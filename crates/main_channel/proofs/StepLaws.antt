@@ -14,9 +14,9 @@ use Rattle.sram_netlist.specs.InstanceList.{tabulate, tabulate_lists}
 use Rattle.macro_layout.specs.Pins.{rail_nets}
 use Rattle.port_lists.proofs.TabulateLaws.{tabulate_more, grown_by_list}
 use Rattle.main_channel.specs.Pins.{numbered_net}
-use Rattle.main_channel.specs.Row.{port_pin, cell_pins, row_pins}
+use Rattle.main_channel.specs.Row.{port_channel_pin, cell_channel_pins, row_pins}
 use Rattle.main_channel.specs.Formula.{main_exit}
-use Rattle.main_channel.specs.Banks.{rail_pin, bank_rail_pins, write_pins, bit_begin, bit_pins, slice_pins, columns_begin, bank_pins}
+use Rattle.main_channel.specs.Banks.{rail_channel_pin, bank_rail_pins, write_pins, bit_begin, bit_channel_pins, slice_pins, columns_begin, bank_pins}
 
 -- two lists more
 pub two_lists : {A : Type 0} (old mid new first second : List A) → mid ≡ old ++ first → new ≡ mid ++ second → new ≡ old ++ (first ++ second)
@@ -37,14 +37,14 @@ name_read names same k item name e less at is =
     is ∙ (at ∙ (get_or_default names k item [] (omega (arith, long, less)) ∙ ap (λ (l : List (List ℕ)). get_or l k []) e))
 
 -- a port more
-pub port_more : (begin : ℕ → ℤ) (look : List ℕ → Option ℕ) (nodes : List (List ℕ)) (from here : ℤ) (old now new : List ChannelPin) (k : ℕ) (name : List ℕ) → now ≡ old ++ tabulate_lists k (port_pin begin look nodes from)
-    → new ≡ now ++ numbered_net look name (here +ℤ begin k) → name ≡ get_or nodes k [] → here ≡ from → new ≡ old ++ tabulate_lists (k + 1) (port_pin begin look nodes from)
+pub port_more : (begin : ℕ → ℤ) (look : List ℕ → Option ℕ) (nodes : List (List ℕ)) (from here : ℤ) (old now new : List ChannelPin) (k : ℕ) (name : List ℕ) → now ≡ old ++ tabulate_lists k (port_channel_pin begin look nodes from)
+    → new ≡ now ++ numbered_net look name (here +ℤ begin k) → name ≡ get_or nodes k [] → here ≡ from → new ≡ old ++ tabulate_lists (k + 1) (port_channel_pin begin look nodes from)
 port_more begin look nodes from here old now new k name before more named at =
-    grown_by_list old now new k (port_pin begin look nodes from) before (more ∙ (λ i. now ++ numbered_net look (named i) (at i +ℤ begin k)))
+    grown_by_list old now new k (port_channel_pin begin look nodes from) before (more ∙ (λ i. now ++ numbered_net look (named i) (at i +ℤ begin k)))
 
-pub all_ports : (begin : ℕ → ℤ) (look : List ℕ → Option ℕ) (nodes : List (List ℕ)) (from to : ℤ) (k n : ℕ) (old new : List ChannelPin) → new ≡ old ++ tabulate_lists k (port_pin begin look nodes from) → from ≡ to → k ≡ n
-    → new ≡ old ++ tabulate_lists n (port_pin begin look nodes to)
-all_ports begin look nodes from to k n old new is e f = is ∙ (λ i. old ++ tabulate_lists (f i) (port_pin begin look nodes (e i)))
+pub all_ports : (begin : ℕ → ℤ) (look : List ℕ → Option ℕ) (nodes : List (List ℕ)) (from to : ℤ) (k n : ℕ) (old new : List ChannelPin) → new ≡ old ++ tabulate_lists k (port_channel_pin begin look nodes from) → from ≡ to → k ≡ n
+    → new ≡ old ++ tabulate_lists n (port_channel_pin begin look nodes to)
+all_ports begin look nodes from to k n old new is e f = is ∙ (λ i. old ++ tabulate_lists (f i) (port_channel_pin begin look nodes (e i)))
 
 -- the widths of the cells of roles, added up
 abbrev pub widths_of : (Role → ℕ) → List Role → ℕ
@@ -68,26 +68,26 @@ module _ (begin : Role → ℕ → ℤ) (width : Role → ℕ) (look : List ℕ 
   row_to gates roles from k = row_pins begin width look (take k gates) (take k roles) from
 
   row_suc : (gates : List Instance) (roles : List Role) (from : ℤ) (k : ℕ) (gate : Instance) (role : Role) → slice_get gates k ≡ Some gate → slice_get roles k ≡ Some role
-      → row_to gates roles from (suc k) ≡ row_to gates roles from k ++ cell_pins begin look role gate (from +ℤ pos (widths_of width (take k roles)))
+      → row_to gates roles from (suc k) ≡ row_to gates roles from k ++ cell_channel_pins begin look role gate (from +ℤ pos (widths_of width (take k roles)))
   row_suc [] roles from k gate role there plays = absurd cc
   row_suc (g ∷ gs) [] from k gate role there plays = absurd cc
   row_suc (g ∷ gs) (r ∷ rs) from zero gate role there plays =
       let e : g ≡ gate = cc in
       let f : r ≡ role = cc in
       let here : from ≡ from +ℤ pos 0 = omega (arith, ints) in
-      append-nil (cell_pins begin look r g from) ∙ (λ i. cell_pins begin look (f i) (e i) (here i))
+      append-nil (cell_channel_pins begin look r g from) ∙ (λ i. cell_channel_pins begin look (f i) (e i) (here i))
   row_suc (g ∷ gs) (r ∷ rs) from (suc k) gate role there plays =
-      let first = cell_pins begin look r g from in
+      let first = cell_channel_pins begin look r g from in
       let rest = row_to gs rs (from +ℤ pos (width r)) k in
       let here : (from +ℤ pos (width r)) +ℤ pos (widths_of width (take k rs)) ≡ from +ℤ pos (width r + widths_of width (take k rs)) = omega (arith, ints) in
-      ap (λ (l : List ChannelPin). first ++ l) (row_suc gs rs (from +ℤ pos (width r)) k gate role there plays ∙ ap (λ (z : ℤ). rest ++ cell_pins begin look role gate z) here)
-      ∙ sym (append_assoc first rest (cell_pins begin look role gate (from +ℤ pos (width r + widths_of width (take k rs)))))
+      ap (λ (l : List ChannelPin). first ++ l) (row_suc gs rs (from +ℤ pos (width r)) k gate role there plays ∙ ap (λ (z : ℤ). rest ++ cell_channel_pins begin look role gate z) here)
+      ∙ sym (append_assoc first rest (cell_channel_pins begin look role gate (from +ℤ pos (width r + widths_of width (take k rs)))))
 
   pub cell_more : (gates : List Instance) (roles : List Role) (from here : ℤ) (old now new : List ChannelPin) (k : ℕ) (gate : Instance) (role : Role) → slice_get gates k ≡ Some gate → slice_get roles k ≡ Some role
-      → here ≡ from +ℤ pos (widths_of width (take k roles)) → now ≡ old ++ row_to gates roles from k → new ≡ now ++ cell_pins begin look role gate here → new ≡ old ++ row_to gates roles from (k + 1)
+      → here ≡ from +ℤ pos (widths_of width (take k roles)) → now ≡ old ++ row_to gates roles from k → new ≡ now ++ cell_channel_pins begin look role gate here → new ≡ old ++ row_to gates roles from (k + 1)
   cell_more gates roles from here old now new k gate role there plays at before more =
       let next : suc k ≡ k + 1 = omega arith in
-      two_lists old now new (row_to gates roles from k) (cell_pins begin look role gate (from +ℤ pos (widths_of width (take k roles)))) before (more ∙ ap (λ (z : ℤ). now ++ cell_pins begin look role gate z) at)
+      two_lists old now new (row_to gates roles from k) (cell_channel_pins begin look role gate (from +ℤ pos (widths_of width (take k roles)))) before (more ∙ ap (λ (z : ℤ). now ++ cell_channel_pins begin look role gate z) at)
       ∙ (ap (λ (l : List ChannelPin). old ++ l) (sym (row_suc gates roles from k gate role there plays)) ∙ ap (λ (n : ℕ). old ++ row_to gates roles from n) next)
 
   pub all_cells : (gates : List Instance) (roles : List Role) (from to : ℤ) (k : ℕ) (old new : List ChannelPin) → new ≡ old ++ row_to gates roles from k → from ≡ to → take k gates ≡ gates → take k roles ≡ roles → new ≡ old ++ row_pins begin width look gates roles to
@@ -95,30 +95,30 @@ module _ (begin : Role → ℕ → ℤ) (width : Role → ℕ) (look : List ℕ 
 
 -- a rail more
 module _ (look : List ℕ → Option ℕ) (names : List (List ℕ)) where
-  pub rail_more : (from step at left : ℤ) (old now new : List ChannelPin) (k : ℕ) (name : List ℕ) → now ≡ old ++ tabulate_lists k (rail_pin look names from step) → new ≡ now ++ numbered_net look name at
-      → name ≡ get_or names k [] → at ≡ from +ℤ left → left ≡ pos (k + 1) *ℤ step → new ≡ old ++ tabulate_lists (k + 1) (rail_pin look names from step)
+  pub rail_more : (from step at left : ℤ) (old now new : List ChannelPin) (k : ℕ) (name : List ℕ) → now ≡ old ++ tabulate_lists k (rail_channel_pin look names from step) → new ≡ now ++ numbered_net look name at
+      → name ≡ get_or names k [] → at ≡ from +ℤ left → left ≡ pos (k + 1) *ℤ step → new ≡ old ++ tabulate_lists (k + 1) (rail_channel_pin look names from step)
   rail_more from step at left old now new k name before more named from_left left_is =
       let here = from_left ∙ ap (λ (z : ℤ). from +ℤ z) left_is in
-      grown_by_list old now new k (rail_pin look names from step) before (more ∙ (λ i. now ++ numbered_net look (named i) (here i)))
+      grown_by_list old now new k (rail_channel_pin look names from step) before (more ∙ (λ i. now ++ numbered_net look (named i) (here i)))
 
-  pub all_rails : (from to step pitch : ℤ) (k n : ℕ) (old new : List ChannelPin) → new ≡ old ++ tabulate_lists k (rail_pin look names from step) → from ≡ to → step ≡ pitch → k ≡ n → new ≡ old ++ tabulate_lists n (rail_pin look names to pitch)
-  all_rails from to step pitch k n old new is e f g = is ∙ (λ i. old ++ tabulate_lists (g i) (rail_pin look names (e i) (f i)))
+  pub all_rails : (from to step pitch : ℤ) (k n : ℕ) (old new : List ChannelPin) → new ≡ old ++ tabulate_lists k (rail_channel_pin look names from step) → from ≡ to → step ≡ pitch → k ≡ n → new ≡ old ++ tabulate_lists n (rail_channel_pin look names to pitch)
+  all_rails from to step pitch k n old new is e f g = is ∙ (λ i. old ++ tabulate_lists (g i) (rail_channel_pin look names (e i) (f i)))
 
 -- a bit more
 module _ (begin : Role → ℕ → ℤ) (width : Role → ℕ) (look : List ℕ → Option ℕ) (plan : Organization) where
   abbrev one_bit : ℕ → ℕ → ℤ → List ChannelPin
   one_bit bank k at = write_pins begin look plan bank k at ++ numbered_net look (net_name plan (Dout k)) (at +ℤ begin Sense 2)
 
-  pub bit_more : (bank : ℕ) (from at columns wide : ℤ) (old now mid new : List ChannelPin) (k words : ℕ) → now ≡ old ++ tabulate_lists k (bit_pins begin width look plan bank from)
+  pub bit_more : (bank : ℕ) (from at columns wide : ℤ) (old now mid new : List ChannelPin) (k words : ℕ) → now ≡ old ++ tabulate_lists k (bit_channel_pins begin width look plan bank from)
       → mid ≡ now ++ write_pins begin look plan bank k at → new ≡ mid ++ numbered_net look (net_name plan (Dout k)) (at +ℤ begin Sense 2)
-      → at ≡ from +ℤ columns → columns ≡ pos (k * words) *ℤ wide → words ≡ words_per_row plan → wide ≡ pos (width Bitcell) → new ≡ old ++ tabulate_lists (k + 1) (bit_pins begin width look plan bank from)
+      → at ≡ from +ℤ columns → columns ≡ pos (k * words) *ℤ wide → words ≡ words_per_row plan → wide ≡ pos (width Bitcell) → new ≡ old ++ tabulate_lists (k + 1) (bit_channel_pins begin width look plan bank from)
   bit_more bank from at columns wide old now mid new k words before write sense from_columns columns_are words_are sized =
       let is : at ≡ bit_begin width plan from k = from_columns ∙ ap (λ (z : ℤ). from +ℤ z) (columns_are ∙ (λ i. pos (k * words_are i) *ℤ sized i)) in
-      grown_by_list old now new k (bit_pins begin width look plan bank from) before
+      grown_by_list old now new k (bit_channel_pins begin width look plan bank from) before
       (two_lists now mid new (write_pins begin look plan bank k at) (numbered_net look (net_name plan (Dout k)) (at +ℤ begin Sense 2)) write sense ∙ ap (λ (z : ℤ). now ++ one_bit bank k z) is)
 
-  pub all_bits : (bank : ℕ) (from to : ℤ) (k n : ℕ) (old new : List ChannelPin) → new ≡ old ++ tabulate_lists k (bit_pins begin width look plan bank from) → from ≡ to → k ≡ n → new ≡ old ++ tabulate_lists n (bit_pins begin width look plan bank to)
-  all_bits bank from to k n old new is e f = is ∙ (λ i. old ++ tabulate_lists (f i) (bit_pins begin width look plan bank (e i)))
+  pub all_bits : (bank : ℕ) (from to : ℤ) (k n : ℕ) (old new : List ChannelPin) → new ≡ old ++ tabulate_lists k (bit_channel_pins begin width look plan bank from) → from ≡ to → k ≡ n → new ≡ old ++ tabulate_lists n (bit_channel_pins begin width look plan bank to)
+  all_bits bank from to k n old new is e f = is ∙ (λ i. old ++ tabulate_lists (f i) (bit_channel_pins begin width look plan bank (e i)))
 
   -- a bank more
   abbrev one_bank : ℕ → List (List ℕ) → ℤ → ℤ → ℤ → List ChannelPin

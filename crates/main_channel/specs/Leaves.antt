@@ -1,15 +1,10 @@
--- How far leaf cells and their pins reach.
-use Rattle.std.specs.Prelude.{ℕ, ℤ, pos, ◌≤ℤ◌, Option, None, Some, slice_get, option_and_then}
+-- Where the pins of leaf cells begin.
+use Rattle.std.specs.Prelude.{ℕ, ℤ, pos, Option, None, Some, slice_get, option_and_then}
 use Rattle.cell_roles.specs.declared.role.Role.{Role}
 use Rattle.leaf_shapes.specs.declared.pins.LeafPin.{LeafPin}
 use Rattle.leaf_tables.specs.declared.kit.Leaf.{Leaf}
 use Rattle.leaf_tables.specs.declared.kit.Kit.{Kit}
 use Rattle.leaf_tables.specs.Alignment.{leaf_in}
-
--- a length in a leaf cell
-pub record IsInLeaf (z : ℤ) : Type 0 where
-  pub above : pos 0 ≤ℤ z
-  pub below : z ≤ℤ pos 65536
 
 -- where the pin of this index begins in a role's cell
 abbrev pub begin_of : Option LeafPin → ℤ

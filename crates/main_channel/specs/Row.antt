@@ -16,15 +16,15 @@ pub record FitRoles (gates : List Instance) (roles : List Role) : Type 0 where
 -- number a net has by its name.
 
 -- the port of a cell that begins here
-abbrev pub port_pin : (ℕ → ℤ) → (List ℕ → Option ℕ) → List (List ℕ) → ℤ → ℕ → List ChannelPin
-port_pin begin look nodes from port = numbered_net look (get_or nodes port []) (from +ℤ begin port)
+abbrev pub port_channel_pin : (ℕ → ℤ) → (List ℕ → Option ℕ) → List (List ℕ) → ℤ → ℕ → List ChannelPin
+port_channel_pin begin look nodes from port = numbered_net look (get_or nodes port []) (from +ℤ begin port)
 
 -- its ports but for the supplies, which are the last two
-abbrev pub cell_pins : (Role → ℕ → ℤ) → (List ℕ → Option ℕ) → Role → Instance → ℤ → List ChannelPin
-cell_pins begin look role gate from = tabulate_lists (length gate.nodes - 2) (port_pin (begin role) look gate.nodes from)
+abbrev pub cell_channel_pins : (Role → ℕ → ℤ) → (List ℕ → Option ℕ) → Role → Instance → ℤ → List ChannelPin
+cell_channel_pins begin look role gate from = tabulate_lists (length gate.nodes - 2) (port_channel_pin (begin role) look gate.nodes from)
 
 -- those of a row of cells that begins here and stands side by side
 abbrev pub row_pins : (Role → ℕ → ℤ) → (Role → ℕ) → (List ℕ → Option ℕ) → List Instance → List Role → ℤ → List ChannelPin
 row_pins begin width look [] roles from = []
 row_pins begin width look (gate ∷ gates) [] from = []
-row_pins begin width look (gate ∷ gates) (role ∷ roles) from = cell_pins begin look role gate from ++ row_pins begin width look gates roles (from +ℤ pos (width role))
+row_pins begin width look (gate ∷ gates) (role ∷ roles) from = cell_channel_pins begin look role gate from ++ row_pins begin width look gates roles (from +ℤ pos (width role))

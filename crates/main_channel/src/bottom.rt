@@ -6,14 +6,13 @@ ghost use Rattle.macro_wires.specs.FloorplanNumbers.{IsUpTo};
 ghost use Rattle.main_channel.specs.Leaves.{pin_begin};
 ghost use Rattle.main_channel.specs.Numbers.{found_number, IsNetNumbering};
 ghost use Rattle.main_channel.specs.Pins.{AreMainPins};
-ghost use Rattle.main_channel.specs.Row.{FitRoles, cell_pins, row_pins};
+ghost use Rattle.main_channel.specs.Row.{FitRoles, cell_channel_pins, row_pins};
 
-use crate::leaves::leaf_of;
 use crate::names::NetNumbers;
 use crate::pins::add_leaf_pin;
 use cell_roles::Role;
 use channel_router::ChannelPin;
-use leaf_tables::Kit;
+use leaf_tables::{Kit, leaf_of};
 use netlist::Instance;
 use or_geom::Memory;
 
@@ -55,7 +54,7 @@ fn add_cell_pins(
     requires ports { 2 ≤ length gate.now.nodes }
     requires nodes { length gate.now.nodes ≡ length (role_demands role) }
     requires x { IsUpTo (2 ^ 28 - 65536) x }
-    ensures is { OnOk result (pins.new.items ≡ pins.old.items ++ cell_pins (pin_begin kit.now) (found_number numbers.now) role gate.now x) }
+    ensures is { OnOk result (pins.new.items ≡ pins.old.items ++ cell_channel_pins (pin_begin kit.now) (found_number numbers.now) role gate.now x) }
     ensures main { OnOk result ((nets : ℕ) → IsNetNumbering nets (found_number numbers.now) → AreMainPins nets pins.old.items → AreMainPins nets pins.new.items) }
 {
     for port in 0..gate.nodes.as_slice().len() - 2 {

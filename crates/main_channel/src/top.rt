@@ -11,17 +11,17 @@ ghost use Rattle.port_lists.specs.Spelled.{spelled};
 ghost use Rattle.macro_cells.specs.LeafSides.{leaf_width};
 ghost use Rattle.macro_wires.specs.FloorplanNumbers.{IsUpTo, IsNearFloorplan};
 ghost use Rattle.main_channel.specs.Banks.{bank_rail_pins, write_pins, slice_pins, bank_pins, columns_begin};
-ghost use Rattle.main_channel.specs.Leaves.{IsInLeaf, pin_begin};
+ghost use Rattle.leaf_tables.specs.NearLeaf.{IsLeafLength};
+ghost use Rattle.main_channel.specs.Leaves.{pin_begin};
 ghost use Rattle.main_channel.specs.Names.{rail_names, enable_name};
 ghost use Rattle.main_channel.specs.Numbers.{found_number, IsNetNumbering};
 ghost use Rattle.main_channel.specs.Pins.{AreMainPins, numbered_net};
 
-use crate::leaves::leaf_of;
 use crate::names::NetNumbers;
 use crate::pins::{add_leaf_pin, add_pin};
 use cell_roles::Role;
 use channel_router::ChannelPin;
-use leaf_tables::Kit;
+use leaf_tables::{Kit, leaf_of, wire_of};
 use macro_wires::FloorplanNumbers;
 use or_geom::{Items, Memory, Name};
 use port_lists::{NameList, Spelling, groups_of, sense_enable, spell, word_line_enable};
@@ -72,9 +72,7 @@ fn pitch_of(kit: &Kit) -> i64
     ensures is { (wire : Wire) → kit.now.tech.wire ≡ Some wire → result ≡ pitch wire }
     ensures near { IsUpTo (2 ^ 17) result }
 {
-    let Some(wire) = kit.tech.wire else {
-        unreachable!()
-    };
+    let wire = wire_of(kit);
     wire.width + wire.space
 }
 
@@ -174,7 +172,7 @@ fn add_slice_pins(
 /// The width of so many columns.
 fn columns_width(columns: u32, width: i64) -> i64
     requires columns { columns ≤ 256 }
-    requires width { IsInLeaf width }
+    requires width { IsLeafLength width }
     ensures is { result ≡ pos columns *ℤ width }
     ensures above { pos 0 ≤ℤ result }
     ensures below { result ≤ℤ pos 16777216 }

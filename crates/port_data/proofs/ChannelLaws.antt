@@ -19,10 +19,11 @@ use Rattle.macro_layout.specs.Floorplan.{choice_count}
 use Rattle.port_lists.proofs.TabulateLaws.{some_lines}
 use Rattle.port_data.specs.declared.lines.LineEnds.{LineEnds}
 use Rattle.port_data.specs.Column.{IsChannelLength, AreNearPins, IsNearColumnChannel}
-use Rattle.row_decoder.specs.RowTaps.{IsLeafLength}
+use Rattle.leaf_tables.specs.NearLeaf.{IsLeafLength}
 use Rattle.port_data.specs.Pins.{AreNearEnds, columns_in, column_ends, sense_ends, top_pins, bottom_pins, column_channel}
 use Rattle.port_data.proofs.FormulaLaws.{few_choices, few_pitches}
-use Rattle.port_data.proofs.PinLaws.{pin_left, pin_right, all_pins}
+use Rattle.channel_router.proofs.PinListLaws.{pin_left, pin_right}
+use Rattle.port_data.proofs.PinLaws.{all_pins}
 use Rattle.port_data.proofs.MeetLaws.{IsOfLines, top_of, bottom_of, bottom_there, exit_of, exit_there}
 
 -- a plan and leaf cells that lie near

@@ -4,14 +4,13 @@ use Rattle.std.proofs.Math.Nat.{mul-le-mul_left}
 use Rattle.std.proofs.lemmas.Int.{ints}
 use Rattle.std.proofs.lemmas.List.{append-nil}
 use Rattle.cell_roles.specs.declared.role.Role.TheVariants.{Mux, Tie}
-use Rattle.sram_netlist.specs.Organization.{power_of_two}
 use Rattle.sram_netlist.specs.InstanceList.{tabulate}
 use Rattle.channel_router.specs.declared.channel.ChannelPin.{ChannelPin}
 use Rattle.macro_layout.specs.LayoutKit.{LayoutKit}
 use Rattle.macro_layout.specs.Floorplan.{choice_count}
 use Rattle.port_data.specs.declared.columns.Columns.{Columns}
 use Rattle.port_data.specs.declared.lines.LineEnds.{LineEnds}
-use Rattle.row_decoder.specs.RowTaps.{IsLeafLength}
+use Rattle.leaf_tables.specs.NearLeaf.{IsLeafLength}
 use Rattle.port_data.specs.Pins.{column_ends, column_choice, choice_pins}
 
 -- as it is read
@@ -44,13 +43,6 @@ few_choices (suc zero) le = omega arith
 few_choices (suc (suc zero)) le = omega arith
 few_choices (suc (suc (suc zero))) le = omega arith
 few_choices (suc (suc (suc (suc b)))) le = absurd (omega arith)
-
-pub counted : (b n : ℕ) → b ≤ 3 → n ≡ choice_count b → n ≤ 8
-counted b n le is = let few = few_choices b le in omega (arith, few, is)
-
-pub some_of : (b : ℕ) → (b ≡ 0 → ⊥) → power_of_two b ≡ choice_count b
-some_of zero other = absurd (other refl)
-some_of (suc b) other = refl
 
 -- a few pitches
 pub few_pitches : (n p : ℕ) → n ≤ 8 → p ≤ 131072 → n * p ≤ 1048576

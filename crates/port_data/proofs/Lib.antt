@@ -7,7 +7,6 @@ mod ChannelLaws
 mod KitLaws
 mod TrackCountLaws
 mod NetLaws
-mod PlaceLaws
 mod SenseLaws
 mod TopLaws
 mod ExitLaws

@@ -35,4 +35,4 @@ apart_is_not_close plan kit wire (part_fault.NameTaken name) apart close = absur
 
 pub built_excludes_refused : BuiltExcludesRefused
 built_excludes_refused kit plan n old new edges fault built (inl narrow) = wide_is_not_narrow plan (layout_kit kit) fault built.wide narrow
-built_excludes_refused kit plan n old new edges fault built (inr (wide, close)) = apart_is_not_close plan (layout_kit kit) built.wire fault built.apart (close built.wire built.wired)
+built_excludes_refused kit plan n old new edges fault built (inr (wide, close)) = apart_is_not_close plan (layout_kit kit) built.wire fault (built.column.apart built.wire built.wired) (close built.wire built.wired)

@@ -1,5 +1,5 @@
 -- The column channel of a bank, routed from the left end of its columns and the lower edge of its write cells.
-use Rattle.std.specs.Prelude.{◌≡◌, ◌⊎◌, ◌↔◌, ℕ, ◌≤◌, ◌<◌, ◌*◌, ◌^◌, ℤ, pos, ◌+ℤ◌, ◌-ℤ◌, ◌≤ℤ◌, List, All, Contains, Some, slice_get}
+use Rattle.std.specs.Prelude.{◌≡◌, ◌⊎◌, ◌↔◌, ℕ, ◌≤◌, ◌<◌, ◌+◌, ◌*◌, ◌^◌, ℤ, pos, ◌+ℤ◌, ◌-ℤ◌, ◌≤ℤ◌, List, All, Contains, Some, length, slice_get}
 use Rattle.or_geom.specs.declared.shape.Shape.{Shape}
 use Rattle.cell_roles.specs.Roles.{role_name}
 use Rattle.cell_roles.specs.declared.role.Role.TheVariants.{Sense, Write, Bitcell}
@@ -11,14 +11,16 @@ use Rattle.channel_router.specs.declared.channel.Interval.{Interval}
 use Rattle.channel_router.specs.Routed.{HasClosePins, AreFirstClosePins, IsRouted}
 use Rattle.channel_router.specs.Wires.{channel_height}
 use Rattle.sram_netlist.specs.Organization.{Organization, words_per_row}
+use Rattle.leaf_tables.specs.declared.kit.Kit.{Kit}
 use Rattle.leaf_tables.specs.declared.part.PartFault.{PartFault}
 use Rattle.leaf_tables.specs.declared.part.PartFault.TheVariants as part_fault
 use Rattle.macro_layout.specs.LayoutKit.{LayoutKit}
 use Rattle.macro_layout.specs.Places.{Floorplan, columns_x}
-use Rattle.macro_layout.specs.Floorplan.{rail_x, rail_count, column_channel_y}
+use Rattle.macro_layout.specs.Floorplan.{rail_x, rail_count, choice_count, column_channel_y}
 use Rattle.macro_layout.specs.Channels.{IsColumnChannel, IsChannelWire, IsTrunkAt}
 use Rattle.macro_layout.specs.Moved.{IsChannelMoved}
 use Rattle.macro_layout.specs.Stated.{IsShifted}
+use Rattle.macro_cells.specs.LayoutOfKit.{layout_kit}
 use Rattle.port_data.specs.Pins.{column_channel}
 
 -- the rows begin behind the rails, and the sense cells stand on the write cells
@@ -86,7 +88,17 @@ pub record IsNearColumnRouted (wire : Wire) (routed : Routed) : Type 0 where
 abbrev pub AreColumnPinsApart : Organization → LayoutKit → Wire → Type 0
 AreColumnPinsApart plan kit wire = HasClosePins (column_channel plan kit wire) wire → ⊥
 
--- two such pins are, and these are the first, or memory ran out
+-- The column channel of a kit and a plan, whose words have bits, routed: each of its nets has a track, it is the stated one on each
+-- floorplan, and none of its pins are too close.
+pub record IsColumnOf (kit : Kit) (plan : Organization) (routed : Routed) : Type 0 where
+  pub words : 0 < plan.word_size
+  pub few : routed.tracks ≤ 1024
+  pub each : length routed.track ≡ choice_count plan.col_bits + 2 * plan.word_size
+  pub near : (wire : Wire) → kit.tech.wire ≡ Some wire → IsNearColumnRouted wire routed
+  pub stated : (wire : Wire) (floorplan : Floorplan) → kit.tech.wire ≡ Some wire → IsBankFloorplan plan (layout_kit kit) wire floorplan → IsColumnRouted plan (layout_kit kit) wire floorplan routed
+  pub apart : (wire : Wire) → kit.tech.wire ≡ Some wire → AreColumnPinsApart plan (layout_kit kit) wire
+
+-- two pins of one side are, and these are the first, or memory ran out
 abbrev pub IsColumnFault : Organization → LayoutKit → Wire → PartFault → Type 0
 IsColumnFault plan kit wire (part_fault.Close side first second) =
     IsDataChannel plan kit wire (column_channel plan kit wire) × AreFirstClosePins (column_channel plan kit wire) wire side first second

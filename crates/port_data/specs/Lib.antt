@@ -1,4 +1,3 @@
 pub mod Column
 pub mod Pins
-pub mod Demanded
 pub mod DataPart

@@ -1,15 +1,14 @@
-ghost use Rattle.std.specs.Prelude.{◌≡◌, ◌≤◌};
+ghost use Rattle.std.specs.Prelude.{◌≡◌};
 ghost use Rattle.leaf_tables.specs.Kits.{IsKit};
 ghost use Rattle.sram_netlist.specs.Numbers.{ArePlanNumbers};
 ghost use Rattle.sram_plan.specs.PlanNumbers.{numbers_of, organization};
-ghost use Rattle.macro_layout.specs.Floorplan.{choice_count};
 ghost use Rattle.macro_cells.specs.LayoutOfKit.{layout_kit};
 ghost use Rattle.port_data.specs.Pins.{columns_in, AreFewColumns};
 
-use crate::leaves::leaf_width;
 use cell_roles::Role;
 use leaf_tables::Kit;
-use port_lists::lines_of;
+use macro_cells::leaf_width;
+use macro_wires::choices;
 use sram_plan::Plan;
 
 /// The columns of a bank: how many there are, and how wide each is, in nanometres.
@@ -23,15 +22,6 @@ pub struct Columns {
     /// Nets that choose a word of a row: none where a row has one word.
     pub choices: u32,
     pub width: u32,
-}
-
-/// How many lines so many bits have: none where there are no bits.
-fn choices(bits: u32) -> u32
-    requires { bits ≤ 3 }
-    ensures value { result ≡ choice_count bits }
-    ensures few { result ≤ 8 }
-{
-    if bits == 0 { 0 } else { lines_of(bits) }
 }
 
 /// The columns of a plan's bank.

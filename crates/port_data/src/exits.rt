@@ -9,10 +9,10 @@ ghost use Rattle.macro_layout.specs.Places.{drive_width};
 ghost use Rattle.macro_cells.specs.LayoutOfKit.{layout_kit};
 ghost use Rattle.port_data.specs.Pins.{exit_at, IsDriveWidth};
 
-use crate::leaves::leaf_width;
 use cell_roles::Role;
 use channel_router::ChannelPin;
 use leaf_tables::Kit;
+use macro_cells::leaf_width;
 use or_geom::Memory;
 use port_lists::groups_of;
 use sram_plan::Plan;

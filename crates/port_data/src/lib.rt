@@ -12,7 +12,7 @@ mod routing;
 mod slices;
 mod top;
 
-pub use data::build;
+pub use data::{add_data, build};
 pub use laws::built_excludes_refused;
 pub use routing::channel;
 pub use slices::refuse_narrow_slices;

@@ -1,5 +1,5 @@
 ghost use Rattle.std.specs.Prelude.{◌≡◌, ◌≤◌, ◌++◌, OnOk};
-ghost use Rattle.row_decoder.specs.RowTaps.{IsLeafLength};
+ghost use Rattle.leaf_tables.specs.NearLeaf.{IsLeafLength};
 ghost use Rattle.port_data.specs.Pins.{pin_in, line_pins, AreNearEnds};
 
 use channel_router::ChannelPin;

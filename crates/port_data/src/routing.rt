@@ -1,23 +1,21 @@
-ghost use Rattle.std.specs.Prelude.{◌≡◌, ◌+◌, ◌*◌, ◌≤◌, length, Some, IfOk, IfErr};
+ghost use Rattle.std.specs.Prelude.{◌≡◌, Some, IfOk, IfErr};
 ghost use Rattle.leaf_tables.specs.Kits.{IsKit};
 ghost use Rattle.tech_rules.specs.declared.tech.Wire.{Wire};
 ghost use Rattle.tech_rules.specs.Facts.{AreSizes};
 ghost use Rattle.sram_netlist.specs.Numbers.{ArePlanNumbers};
 ghost use Rattle.sram_plan.specs.PlanNumbers.{numbers_of, organization};
-ghost use Rattle.macro_layout.specs.Places.{Floorplan};
-ghost use Rattle.macro_layout.specs.Floorplan.{choice_count};
 ghost use Rattle.macro_cells.specs.LayoutOfKit.{layout_kit};
-ghost use Rattle.port_data.specs.Column.{AreColumnPinsApart, IsColumnFault, IsBankFloorplan, IsColumnRouted, IsNearColumnRouted};
+ghost use Rattle.port_data.specs.Column.{IsColumnOf, IsColumnFault};
 ghost use Rattle.port_data.specs.Pins.{column_channel};
 
 use crate::bottom::bottom_pins;
 use crate::columns::columns_in;
 use crate::exits::{drive_width, exit_pins};
-use crate::leaves::{leaf_height, wire_of};
 use crate::top::top_pins;
 use cell_roles::Role;
 use channel_router::{Channel, Routed, route};
-use leaf_tables::{Kit, PartFault};
+use leaf_tables::{Kit, PartFault, wire_of};
+use macro_cells::leaf_height;
 use or_geom::{Items, Memory};
 use sram_plan::Plan;
 use std::alloc::Global;
@@ -47,16 +45,12 @@ fn column_channel(alloc: Global, kit: &Kit, plan: &Plan, wire: &Wire) -> Result<
 
 /// Routes the channel between the sense cells and the multiplexers, or ties where a row has one word. The lines of each bit
 /// lead from its columns down to its sense cell, and the column choices from the multiplexers to their rails. x counts from
-/// the left end of the columns and y from the lower edge of the write cells, in nanometres. Pins of one side that are nearer
-/// to each other than the pitch are refused, and only such pins.
+/// the left end of the columns and y from the lower edge of the write cells, in nanometres. `Close`: two pins of one side are
+/// nearer to each other than the pitch; `Memory`. Nothing else is refused.
 pub fn channel(alloc: Global, kit: &Kit, plan: &Plan) -> Result<Routed, PartFault>
     requires kit { IsKit kit.now }
     requires plan { ArePlanNumbers (numbers_of plan.now) }
-    ensures few { IfOk result (λ routed. routed.tracks ≤ 1024) }
-    ensures apart { IfOk result (λ _. (wire : Wire) → kit.now.tech.wire ≡ Some wire → AreColumnPinsApart (organization plan.now) (layout_kit kit.now) wire) }
-    ensures each { IfOk result (λ routed. length routed.track ≡ choice_count (organization plan.now).col_bits + 2 * plan.now.word_size) }
-    ensures near { IfOk result (λ routed. (wire : Wire) → kit.now.tech.wire ≡ Some wire → IsNearColumnRouted wire routed) }
-    ensures stated { IfOk result (λ routed. (wire : Wire) (floorplan : Floorplan) → kit.now.tech.wire ≡ Some wire → IsBankFloorplan (organization plan.now) (layout_kit kit.now) wire floorplan → IsColumnRouted (organization plan.now) (layout_kit kit.now) wire floorplan routed) }
+    ensures column { IfOk result (IsColumnOf kit.now (organization plan.now)) }
     ensures fault { IfErr result (λ fault. (wire : Wire) → kit.now.tech.wire ≡ Some wire → IsColumnFault (organization plan.now) (layout_kit kit.now) wire fault) }
 {
     let wire = wire_of(kit);

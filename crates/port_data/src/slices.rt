@@ -8,9 +8,9 @@ ghost use Rattle.sram_plan.specs.PlanNumbers.{numbers_of, organization};
 ghost use Rattle.macro_cells.specs.LayoutOfKit.{layout_kit};
 ghost use Rattle.port_data.specs.Column.{IsNarrowFault, AreWideSlices, IsTooWide};
 
-use crate::leaves::leaf_width;
 use cell_roles::Role;
 use leaf_tables::{Kit, PartFault};
+use macro_cells::leaf_width;
 use or_geom::{Memory, Name};
 use sram_plan::Plan;
 use std::alloc::Global;

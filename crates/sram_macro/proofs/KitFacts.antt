@@ -16,7 +16,7 @@ use Rattle.tech_rules.specs.declared.tech.RoleName.{RoleName}
 use Rattle.tech_rules.specs.Roles.{is_cell_byte, is_cell_name}
 use Rattle.cell_roles.specs.declared.role.Role.{Role}
 use Rattle.cell_roles.specs.declared.role.Role.TheVariants.{Bitcell, Precharge, Mux, Tie, Sense, Write, RowNand2, RowNand3, Driver, Nand2, Nand3, Inv, Dff, Delay}
-use Rattle.cell_roles.specs.Roles.{all_roles, role_name, role_ports}
+use Rattle.cell_roles.specs.Roles.{role_name, role_ports}
 use Rattle.spice_text.specs.Words.{lower}
 use Rattle.spice_text.specs.Writable.{lowered_subckt}
 use Rattle.spice_text.proofs.ReadDecks.{decks_are_lowered}
@@ -30,6 +30,7 @@ use Rattle.leaf_tables.specs.declared.kit.Leaf.{Leaf}
 use Rattle.leaf_tables.specs.Leaves.{IsLeaf, HasLeaf, cell_named_for, subckt_named}
 use Rattle.leaf_tables.specs.Kits.{IsKit, source_of}
 use Rattle.leaf_tables.specs.Alignment.{role_number, leaf_in}
+use Rattle.leaf_tables.proofs.RoleLaws.{role_below, in_kit}
 use Rattle.macro_cells.specs.LayoutOfKit.{layout_kit}
 use Rattle.macro_cells.specs.LeafSides.{side_of}
 use Rattle.macro_bounds.specs.Floorplans.{IsSmallKit}
@@ -39,50 +40,12 @@ use Rattle.sram_macro.proofs.LayoutLaws.{listed_has}
 
 -- Each role has a leaf
 
-role_there : (role : Role) → slice_get all_roles (role_number role) ≡ Some role
-role_there Bitcell = refl
-role_there Precharge = refl
-role_there Mux = refl
-role_there Tie = refl
-role_there Sense = refl
-role_there Write = refl
-role_there RowNand2 = refl
-role_there RowNand3 = refl
-role_there Driver = refl
-role_there Nand2 = refl
-role_there Nand3 = refl
-role_there Inv = refl
-role_there Dff = refl
-role_there Delay = refl
-
-few_roles : (role : Role) → role_number role < 14
-few_roles Bitcell = omega arith
-few_roles Precharge = omega arith
-few_roles Mux = omega arith
-few_roles Tie = omega arith
-few_roles Sense = omega arith
-few_roles Write = omega arith
-few_roles RowNand2 = omega arith
-few_roles RowNand3 = omega arith
-few_roles Driver = omega arith
-few_roles Nand2 = omega arith
-few_roles Nand3 = omega arith
-few_roles Inv = omega arith
-few_roles Dff = omega arith
-few_roles Delay = omega arith
-
-role_below : (kit : Kit) → IsKit kit → (place : ℕ) (role : Role) → place ≡ role_number role → place < length kit.leaves
-role_below kit is place role at = let few = few_roles role in let sized : length kit.leaves ≡ 14 = is.leaves.sized in omega (arith, few, sized, at)
-
 no_leaf : Leaf
 no_leaf = record { width = pos 0; height = pos 0; pins = [] }
 
-leaf_of : (kit : Kit) (is : IsKit kit) (role : Role) (leaf : Leaf) → leaf_in kit.leaves role ≡ Some leaf → IsLeaf (source_of kit is.wire) role leaf
-leaf_of kit is role leaf there = is.leaves.each (role_number role) role leaf (role_there role) there
-
 pub has_leaf : (kit : Kit) (is : IsKit kit) (role : Role) → HasLeaf (source_of kit is.wire) role
 has_leaf kit is role =
-    (get_or kit.leaves (role_number role) no_leaf, leaf_of kit is role (get_or kit.leaves (role_number role) no_leaf) (slice_get-get_or kit.leaves (role_number role) no_leaf (role_below kit is (role_number role) role refl)))
+    (get_or kit.leaves (role_number role) no_leaf, in_kit kit role (get_or kit.leaves (role_number role) no_leaf) is (slice_get-get_or kit.leaves (role_number role) no_leaf (role_below kit is (role_number role) role refl)))
 
 -- whose sides are small
 
@@ -134,8 +97,8 @@ named_text (r ∷ rs) role cell all e = by (bytes_eq r.role (role_name role)) e 
 pub small_kit : (kit : Kit) → IsKit kit → IsSmallKit (layout_kit kit)
 small_kit kit is = record {
   names = λ (r : Role). let leaf = has_leaf kit is r in named_text kit.tech.roles r leaf.1.cell (recursion_from_All IsNamed kit.tech.roles is.tech.roles) leaf.1.sized.flat.plays;
-  widths = λ (r : Role). few_found (leaf_in kit.leaves r) (λ (leaf : Leaf). leaf.width) (λ (leaf : Leaf) there. (leaf_of kit is r leaf there).sized.outline.narrow);
-  heights = λ (r : Role). few_found (leaf_in kit.leaves r) (λ (leaf : Leaf). leaf.height) (λ (leaf : Leaf) there. (leaf_of kit is r leaf there).sized.outline.low);
+  widths = λ (r : Role). few_found (leaf_in kit.leaves r) (λ (leaf : Leaf). leaf.width) (λ (leaf : Leaf) there. (in_kit kit r leaf is there).sized.outline.narrow);
+  heights = λ (r : Role). few_found (leaf_in kit.leaves r) (λ (leaf : Leaf). leaf.height) (λ (leaf : Leaf) there. (in_kit kit r leaf is there).sized.outline.low);
 }
 
 -- None of the names is taken

@@ -57,30 +57,6 @@ listed_has P [] x all (k, lt, is) = absurd (omega (arith, lt))
 listed_has P (y ∷ ys) x all (zero, lt, is) = subst P is all.0
 listed_has P (y ∷ ys) x all (suc k, lt, is) = listed_has P ys x all.1 (k, omega (arith, lt), is)
 
-within : (wire : Wire) (s : Shape) → IsWireShape wire 1073741824 s → IsWireWithin 1073741824 wire s
-within wire s near = record {
-  layer = near.on;
-  corners = record {
-    low = record { x_above = near.left.above; x_below = near.left.below; y_above = near.low.above; y_below = near.low.below };
-    high = record { x_above = near.right.above; x_below = near.right.below; y_above = near.high.above; y_below = near.high.below };
-  };
-}
-
-all_near : (pins : List ChannelPin) → All (λ (pin : ChannelPin). column.IsChannelLength pin.x) pins → All (λ (pin : ChannelPin). IsCoordinate 268435456 pin.x) pins
-all_near pins all = λ k d lt. let near = all k d lt in record { above = near.above; below = near.below }
-
-channel_near : (ch : Channel) → column.IsNearColumnChannel ch → IsChannelWithin ch
-channel_near ch near = record { low = record { above = near.low.above; below = near.low.below }; top = all_near ch.top near.top; bottom = all_near ch.bottom near.bottom; exits = all_near ch.exits near.exits }
-
--- the column channel is near enough for a bank
-pub column_near : RoutedShapesAreNear → (layers : List Layer) (plan : Organization) (wire : Wire) (routed : Routed) → IsWire layers wire → column.IsNearColumnRouted wire routed → routed.tracks ≤ 1024 → length routed.track ≡ choice_count plan.col_bits + 2 * plan.word_size
-    → IsNearRouted wire (choice_count plan.col_bits) routed
-column_near law layers plan wire routed is near few each = record {
-  shapes = λ s there. within wire s (listed_has (IsWireShape wire 1073741824) routed.shapes s
-      (law near.channel wire near.intervals routed (seven_layers layers wire is) (channel_near near.channel near.near) near.is (omega (arith, few))) there);
-  tracks = record { each = omega (arith, each); few = λ number t at. let below = near.is.count.below number t at in omega (arith, below, few) };
-}
-
 pub main_fault : (plan : Organization) (kit : LayoutKit) (wire : Wire) (ch : Channel) (fault : RouteFault) → IsMainOf plan kit wire ch → IsRouteFault ch wire fault → IsMainFault plan kit wire fault
 main_fault plan kit wire ch (Close side first second) is close = (ch, is, close)
 main_fault plan kit wire ch (TapsClose first second) is none = none

@@ -6,5 +6,5 @@ mod LayoutLaws
 mod KitFacts
 mod LabelFacts
 mod AssemblyLaws
-mod MainChannelLaws
+pub mod MainChannelLaws
 mod StatedLaws

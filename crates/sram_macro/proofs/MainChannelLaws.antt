@@ -31,13 +31,13 @@ nothing x = omega (arith, ints)
 stands_still : (s : Shape) → IsShifted (pos 0) (pos 0) s s
 stands_still s = record { layer = refl; x1 = sym (nothing s.rect.x1); y1 = sym (nothing s.rect.y1); x2 = sym (nothing s.rect.x2); y2 = sym (nothing s.rect.y2) }
 
-same_pins : (xs ys : List ChannelPin) (Meets : ℕ → ℤ → Type 0) → ArePins xs Meets → ArePins ys Meets → ArePinsMoved (pos 0) xs ys
+pub same_pins : (xs ys : List ChannelPin) (Meets : ℕ → ℤ → Type 0) → ArePins xs Meets → ArePins ys Meets → ArePinsMoved (pos 0) xs ys
 same_pins xs ys Meets a b net x = (
   λ p. (a net x).1 ((b net x).0 (subst (IsPinOf ys net) (nothing x) p)),
   λ p. subst (IsPinOf ys net) (sym (nothing x)) ((b net x).1 ((a net x).0 p)),
 )
 
-one_channel : (plan : Organization) (kit : LayoutKit) (wire : Wire) (floorplan : Floorplan) (a b : Channel) → IsMainChannel plan kit wire floorplan a → IsMainChannel plan kit wire floorplan b → IsChannelMoved (pos 0) (pos 0) a b
+pub one_channel : (plan : Organization) (kit : LayoutKit) (wire : Wire) (floorplan : Floorplan) (a b : Channel) → IsMainChannel plan kit wire floorplan a → IsMainChannel plan kit wire floorplan b → IsChannelMoved (pos 0) (pos 0) a b
 one_channel plan kit wire floorplan a b m n = record {
   low = n.low ∙ (sym m.low ∙ sym (nothing a.low));
   nets = n.nets ∙ sym m.nets;

@@ -1,7 +1,6 @@
 -- The signal ports.
-use Rattle.std.proofs.Common.{◌≡◌, ℕ, ◌≤◌, ℤ, pos, ◌+ℤ◌, ◌≤ℤ◌, List, [], ◌∷◌, ◌++◌, map, length, refl, ap, sym, ◌∙◌, append_assoc, arith, w64, to_z, of_z}
+use Rattle.std.proofs.Common.{◌≡◌, ℕ, List, [], ◌∷◌, ◌++◌, map, length, refl, ap, sym, ◌∙◌, append_assoc}
 use Rattle.std.specs.Prelude.{codes}
-use Rattle.std.proofs.lemmas.Int.{ints}
 use Rattle.std.proofs.lemmas.List.{length-map}
 use Rattle.sram_netlist.specs.Organization.{Organization, addr_bits}
 use Rattle.sram_netlist.specs.Nets.{Net, Addr, Din, Dout, Wmask}
@@ -9,14 +8,7 @@ use Rattle.sram_netlist.specs.Names.{net_name, with_index}
 use Rattle.sram_netlist.specs.InstanceList.{numbers_from, tabulate}
 use Rattle.sram_deck.specs.Deck.{port_bits}
 use Rattle.macro_layout.specs.Pins.{port_nets}
-use Rattle.macro_wires.specs.FloorplanNumbers.{IsUpTo}
 use Rattle.sram_macro.specs.Signals.{signal_names}
-
-pub track_at_y : (l : ℤ) (low : ℕ) (space h : ℤ) → l ≡ pos low → low ≤ 65536 → pos 1 ≤ℤ space → space ≤ℤ pos 65536 → pos 0 ≤ℤ h → h ≤ℤ pos 536870912 → to_z w64 (of_z w64 (to_z w64 (of_z w64 (to_z w64 (of_z w64 l) +ℤ to_z w64 (of_z w64 space))) +ℤ to_z w64 (of_z w64 h))) ≡ pos low +ℤ (space +ℤ h)
-track_at_y l low space h is near some few above below = omega (arith, ints, is, near, some, few, above, below)
-
-pub track_near : (y : ℤ) (low : ℕ) (space h : ℤ) → y ≡ pos low +ℤ (space +ℤ h) → low ≤ 65536 → pos 1 ≤ℤ space → space ≤ℤ pos 65536 → pos 0 ≤ℤ h → h ≤ℤ pos 536870912 → IsUpTo 1073741824 y
-track_near y low space h is near some few above below = record { above = omega (arith, ints, is, some, above); below = omega (arith, ints, is, near, few, below) }
 
 -- names of nets that are listed by number
 named : (plan : Organization) (f : ℕ → Net) (letters : List ℕ) → ((k : ℕ) → net_name plan (f k) ≡ with_index letters k) → (ks : List ℕ) → map (with_index letters) ks ≡ map (net_name plan) (map f ks)

@@ -1,6 +1,8 @@
 -- How a macro is laid out, and why it isn't.
-use Rattle.std.specs.Prelude.{◌≡◌, ◌⊎◌, ℕ, ◌+◌, ◌*◌, ◌<◌, ◌≤◌, pos, List, length, Some, Contains}
+use Rattle.std.specs.Prelude.{◌≡◌, ◌⊎◌, ℕ, ◌≤◌, pos, List, length, Some, Contains}
+use Rattle.std.specs.List.Sorted.{IsStrictlySortedBy}
 use Rattle.or_geom.specs.declared.shape.Shape.{Shape}
+use Rattle.or_geom.specs.ShapeOrder.{shape_order}
 use Rattle.tech_rules.specs.declared.tech.Wire.{Wire}
 use Rattle.tech_rules.specs.declared.route.RouteFault.{RouteFault}
 use Rattle.tech_rules.specs.declared.route.RouteFault.TheVariants as route_fault
@@ -15,31 +17,20 @@ use Rattle.leaf_tables.specs.declared.part.PartFault.{PartFault}
 use Rattle.leaf_tables.specs.Parts.{of_route}
 use Rattle.macro_layout.specs.LayoutKit.{LayoutKit}
 use Rattle.macro_layout.specs.Places.{Floorplan}
-use Rattle.macro_layout.specs.Floorplan.{Tracks, IsFloorplan, choice_count}
+use Rattle.macro_layout.specs.Floorplan.{Tracks, IsFloorplan}
 use Rattle.macro_layout.specs.Pins.{main_nets}
 use Rattle.macro_layout.specs.Channels.{ArePins, LeavesLeft, IsMainChannel}
 use Rattle.macro_cells.specs.LayoutOfKit.{layout_kit}
 use Rattle.macro_wires.specs.Sides.{AreLeafSides, AreSidesOf}
 use Rattle.macro_wires.specs.FloorplanNumbers.{floorplan_of, IsNearFloorplan}
 use Rattle.macro_wires.specs.Trunks.{IsBehind}
-use Rattle.port_data.specs.Column.{AreColumnPinsApart, IsBankFloorplan, IsColumnRouted, IsNearColumnRouted}
 use Rattle.main_channel.specs.Formula.{main_channel}
 use Rattle.main_channel.specs.Main.{IsNearMainChannel}
 use Rattle.bank_layout.specs.Near.{IsDrawableWire}
 use Rattle.bank_layout.specs.StatedWires.{AreWiresOfCell}
-use Rattle.bank_layout.specs.BankTaps.{AreTapsApart, IsBankFault}
+use Rattle.bank_layout.specs.BankTaps.{AreTapsApart, AreTapsRefused}
 use Rattle.sram_macro.specs.declared.layout.Layout.{Layout}
 use Rattle.sram_macro.specs.Extents.{AreExtents, AreNearExtents}
-
--- the column channel of a macro whose words have bits, routed
-pub record IsColumnOf (kit : Kit) (plan : Organization) (routed : Routed) : Type 0 where
-  pub words : 0 < plan.word_size
-  pub few : routed.tracks ≤ 1024
-  pub each : length routed.track ≡ choice_count plan.col_bits + 2 * plan.word_size
-  pub near : (wire : Wire) → kit.tech.wire ≡ Some wire → IsNearColumnRouted wire routed
-  pub stated : (wire : Wire) (floorplan : Floorplan) → kit.tech.wire ≡ Some wire → IsBankFloorplan plan (layout_kit kit) wire floorplan → IsColumnRouted plan (layout_kit kit) wire floorplan routed
-  -- none of its pins are too close
-  pub apart : (wire : Wire) → kit.tech.wire ≡ Some wire → AreColumnPinsApart plan (layout_kit kit) wire
 
 -- the main channel: that of each floorplan of the macro, whatever tracks the floorplan leaves room for; its pins are listed by formula
 pub record IsMainOf (plan : Organization) (kit : LayoutKit) (wire : Wire) (ch : Channel) : Type 0 where
@@ -78,20 +69,15 @@ pub record IsMacroLayout (kit : Kit) (plan : Organization) (column : Routed) (la
   pub near_ends : AreNearExtents layout.ends
   pub power : IsBehind layout.sides layout.floorplan layout.ends.power_x
   pub ground : IsBehind layout.sides layout.floorplan layout.ends.ground_x
+  -- the wires of a bank, each once and in order
+  pub bank_rises : IsStrictlySortedBy shape_order layout.bank.items
   pub bank : (s : Shape) → Contains layout.bank.items s → IsDrawableWire wire s
   pub bank_wires : AreWiresOfCell plan (layout_kit kit) wire column.tracks (floorplan_of layout.floorplan) layout.bank.items
   -- no taps of a bank are too close
   pub taps_apart : AreTapsApart kit.leaves plan (layout_kit kit) wire (floorplan_of layout.floorplan) column.track
   pub main : IsMainRouted plan (layout_kit kit) wire layout.main
 
--- taps of the bank are too close
-pub record IsBankRefused (kit : Kit) (plan : Organization) (wire : Wire) (column : Routed) (fault : PartFault) : Type 0 where
-  pub tracks : ℕ
-  pub floorplan : Floorplan
-  pub stands : IsFloorplan plan (layout_kit kit) wire (record { main = tracks; column = column.tracks }) floorplan
-  pub is : IsBankFault kit.leaves plan (layout_kit kit) wire floorplan column.track fault
-
--- or, where none are, pins of the main channel
+-- no taps of a bank are too close, and pins of the main channel are
 pub record IsMainRefused (kit : Kit) (plan : Organization) (wire : Wire) (column : Routed) (fault : PartFault) : Type 0 where
   pub tracks : ℕ
   pub floorplan : Floorplan
@@ -101,5 +87,6 @@ pub record IsMainRefused (kit : Kit) (plan : Organization) (wire : Wire) (column
   pub is : IsMainFault plan (layout_kit kit) wire route
   pub same : fault ≡ of_route route
 
+-- taps of a bank are too close, or else pins of the main channel
 abbrev pub IsMacroLayoutFault : Kit → Organization → Routed → PartFault → Type 0
-IsMacroLayoutFault kit plan column fault = (wire : Wire) × (kit.tech.wire ≡ Some wire) × (IsBankRefused kit plan wire column fault ⊎ IsMainRefused kit plan wire column fault)
+IsMacroLayoutFault kit plan column fault = (wire : Wire) × (kit.tech.wire ≡ Some wire) × (AreTapsRefused kit plan wire column fault ⊎ IsMainRefused kit plan wire column fault)

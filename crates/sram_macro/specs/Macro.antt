@@ -1,5 +1,5 @@
 -- What a macro is that is assembled, and why there is none.
-use Rattle.std.specs.Prelude.{◌≡◌, ◌⊎◌, ◌↔◌, ℕ, ◌≤◌, pos, List, Contains, Some, None}
+use Rattle.std.specs.Prelude.{◌≡◌, ◌⊎◌, ◌↔◌, ℕ, pos, List, Contains, Some, None}
 use Rattle.std.specs.List.Sorted.{IsStrictlySortedBy}
 use Rattle.or_geom.specs.declared.shape.Shape.{Shape}
 use Rattle.or_geom.specs.ShapeOrder.{shape_order}
@@ -18,7 +18,7 @@ use Rattle.sram_rows.specs.Rows.{AreLeavesFor}
 use Rattle.leaf_tables.specs.declared.kit.Kit.{Kit}
 use Rattle.leaf_tables.specs.declared.part.PartFault.{PartFault}
 use Rattle.port_lists.specs.Cells.{cell_in}
-use Rattle.port_data.specs.Column.{AreWideSlices}
+use Rattle.port_data.specs.Column.{AreWideSlices, IsColumnOf}
 use Rattle.port_data.specs.DataPart.{IsDataRefused}
 use Rattle.macro_layout.specs.LayoutKit.{LayoutKit}
 use Rattle.macro_layout.specs.Wires.{IsPowerWire, IsGroundWire}
@@ -31,16 +31,15 @@ use Rattle.sram_macro.specs.Library.{macro_list, drawing_with, AreOnLayers}
 use Rattle.sram_macro.specs.Signals.{signal_names, input_count, signals_on_tracks, macro_labels}
 use Rattle.sram_macro.specs.View.{macro_view}
 use Rattle.sram_macro.specs.Names.{macro_names, first_taken, IsTakenFault}
-use Rattle.sram_macro.specs.Layout.{IsColumnOf, IsMacroLayout, IsMacroLayoutFault}
+use Rattle.sram_macro.specs.Layout.{IsMacroLayout, IsMacroLayoutFault}
 
 -- the subcircuits that are written behind those of the kit
 abbrev pub macro_deck : Kit → Plan → List ℕ → Deck
 macro_deck kit plan name = record { subckts = written_subckts (organization plan) (cell_in kit.tech.roles) name; used = 0 }
 
--- the wires of the macro's cells, each once and in order: a bank's, those of the main channel and of the supplies; and the labels
+-- the wires of the macro's cells: a bank's; those of the main channel and of the supplies, each once and in order; and the labels
 pub record AreWiresOf (plan : Organization) (kit : LayoutKit) (wire : Wire) (layout : Layout) (pins : List SignalPin) (wires : Wires) : Type 0 where
-  pub bank_rises : IsStrictlySortedBy shape_order wires.bank.items
-  pub bank : (s : Shape) → Contains wires.bank.items s ↔ Contains layout.bank.items s
+  pub bank : wires.bank.items ≡ layout.bank.items
   pub top_rises : IsStrictlySortedBy shape_order wires.top.items
   pub top : (s : Shape) → Contains wires.top.items s
       ↔ (Contains layout.main.shapes s ⊎ (IsPowerWire plan kit wire (floorplan_of layout.floorplan) s ⊎ IsGroundWire plan kit wire (floorplan_of layout.floorplan) s))
@@ -65,7 +64,6 @@ pub record IsDrawnFrom (kit : Kit) (plan : Organization) (name : List ℕ) (layo
 pub record IsLaidOut (kit : Kit) (plan : Organization) (layout : Layout) : Type 0 where
   pub column : Routed
   pub of : IsColumnOf kit plan column
-  pub few : column.tracks ≤ 1024
   pub is : IsMacroLayout kit plan column layout
 
 pub record IsMacro (kit : Kit) (plan : Plan) (name : List ℕ) (m : Macro) : Type 0 where

@@ -9,7 +9,7 @@ ghost use Rattle.tech_rules.specs.Facts.{IsWire};
 ghost use Rattle.sram_netlist.specs.Numbers.{ArePlanNumbers};
 ghost use Rattle.sram_plan.specs.Config.{is_output_name};
 ghost use Rattle.sram_plan.specs.PlanNumbers.{numbers_of, organization};
-ghost use Rattle.port_data.specs.Column.{AreWideSlices};
+ghost use Rattle.port_data.specs.Column.{AreWideSlices, IsColumnOf};
 ghost use Rattle.port_data.specs.DataPart.{IsDataRefused};
 ghost use Rattle.macro_cells.specs.LayoutOfKit.{layout_kit};
 ghost use Rattle.macro_wires.specs.Sides.{AreLeafSides, AreSidesOf};
@@ -18,18 +18,18 @@ ghost use Rattle.macro_bounds.specs.Writable.{IsWritableDrawing};
 ghost use Rattle.sram_macro.specs.Names.{macro_names, first_taken};
 ghost use Rattle.sram_macro.specs.Signals.{signal_names, input_count, signals_on_tracks, IsWritablePin};
 ghost use Rattle.sram_macro.specs.Library.{macro_list, drawing_with, AreOnLayers};
-ghost use Rattle.sram_macro.specs.Layout.{IsMainRouted, IsColumnOf};
+ghost use Rattle.sram_macro.specs.Layout.{IsMainRouted};
 ghost use Rattle.sram_macro.specs.Macro.{IsMacro, IsMacroFault, IsLaidOut, AreWiresOf};
 
 use crate::deck::macro_deck;
-use crate::layout::{Layout, lay_out, top_wires, wire_of};
+use crate::layout::{Layout, lay_out, top_wires};
 use crate::library::{Wires, library};
 use crate::names::refuse_taken_names;
 use crate::signals::{macro_labels, signal_names, signal_pins};
 use crate::view::macro_view;
 use channel_router::Routed;
 use gds_library::Library;
-use leaf_tables::{Kit, PartFault};
+use leaf_tables::{Kit, PartFault, wire_of};
 use macro_bounds::{
     floorplans_are_near, macro_libraries_are_writable, near_shapes_are_listed,
     near_wires_are_writable, output_names_are_short, routed_shapes_are_near, supply_wires_are_near,
@@ -132,7 +132,6 @@ fn wires_of(
     } = layout;
     let labels = macro_labels(alloc, wire, &ends, signals)?;
     let drawn = top_wires(plan, wire, &sides, &floorplan, &ends, main)?;
-    let bank = in_order(bank);
     let top = in_order(drawn);
     Ok(Wires { bank, top, labels })
 }

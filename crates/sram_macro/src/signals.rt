@@ -1,6 +1,5 @@
-ghost use Rattle.std.specs.Prelude.{◌≡◌, ◌<◌, ◌≤◌, [], pos, ◌*ℤ◌, ◌≤ℤ◌, length, map, slice_get, slice_index_or, Some, IfOk};
+ghost use Rattle.std.specs.Prelude.{◌≡◌, ◌<◌, ◌≤◌, [], pos, length, map, slice_get, slice_index_or, Some, IfOk};
 ghost use Rattle.tech_rules.specs.Facts.{AreSizes};
-ghost use Rattle.tech_rules.specs.Drawing.{pitch};
 ghost use Rattle.channel_router.specs.Wires.{track_y};
 ghost use Rattle.sram_netlist.specs.Numbers.{ArePlanNumbers};
 ghost use Rattle.sram_plan.specs.PlanNumbers.{numbers_of, organization};
@@ -9,6 +8,7 @@ ghost use Rattle.sram_macro.specs.Signals.{signal_names, AreOnTracks, signals_on
 
 use crate::extents::Extents;
 use cell_builder::PlacedLabel;
+use macro_wires::pitches;
 use or_geom::{Items, Memory, Name, Point};
 use port_lists::NameList;
 use sram_plan::{Plan, SignalPin};
@@ -26,26 +26,6 @@ pub fn signal_names(alloc: Global, plan: &Plan) -> Result<Items<Name>, Memory>
     Ok(names.into_items())
 }
 
-/// The distance from a wire's edge to the same edge of the next wire.
-fn pitch(wire: &Wire) -> i64
-    requires { AreSizes wire.now }
-    ensures is { result ≡ pitch wire.now }
-    ensures near { IsUpTo 131072 result }
-{
-    wire.width + wire.space
-}
-
-/// So many pitches.
-fn pitches(count: u32, pitch: i64) -> i64
-    requires few { count ≤ 4096 }
-    requires pitch { IsUpTo 131072 pitch }
-    ensures is { result ≡ pos count *ℤ pitch }
-    ensures above { pos 0 ≤ℤ result }
-    ensures below { result ≤ℤ pos 536870912 }
-{
-    i64::from(count) * pitch
-}
-
 /// The lower side of a track of a channel that begins at `low`.
 fn track_y(low: u32, wire: &Wire, track: u32) -> i64
     requires sizes { AreSizes wire.now }
@@ -54,7 +34,7 @@ fn track_y(low: u32, wire: &Wire, track: u32) -> i64
     ensures is { result ≡ track_y (pos low) wire.now track }
     ensures near { IsUpTo 1073741824 result }
 {
-    i64::from(low) + wire.space + pitches(track, pitch(wire))
+    i64::from(low) + wire.space + pitches(track, wire) as i64
 }
 
 /// The track of a net.

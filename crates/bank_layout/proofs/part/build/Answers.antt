@@ -20,7 +20,6 @@ use Rattle.bank_layout.specs.BankEdges.{AreBankEdges}
 use Rattle.bank_layout.proofs.BuiltLaws.{narrow_of, stacked_of, raised_of, column_near, more_cells, one_more_cell}
 use Rattle.bank_layout.proofs.BankEdgeLaws.{IsDrawnBank, data_near, bank_edges_are, pins_of}
 use Rattle.bank_layout.proofs.ShownLaws.{shown}
-use Rattle.bank_layout.proofs.DataLaws.{data_drawn}
 use Rattle.bank_layout.proofs.part.build.Goals as goal
 
 pub bank_wires-requires-clause-given : goal.bank_wires-requires-clause-given
@@ -30,7 +29,7 @@ bank_wires-requires-clause-given c = λ wire wired.
     let here = c.wire_of.result.now in
     let same = same_Some here wire (sym c.wire_of.ensures.is ∙ wired) in
     let stands = c.floorplan-stands.ensures.stated kit c.in_ok-sides.ensures.of in
-    let near = column_near c.routed_shapes_are_near.ensures c.args.kit.now.tech.layers plan here c.in_ok-routed.routed c.wire_of.ensures.wire (c.in_ok-routed.ensures.near here c.wire_of.ensures.is) c.in_ok-routed.ensures.few c.in_ok-routed.ensures.each in
+    let near = column_near c.routed_shapes_are_near.ensures c.args.kit.now.tech.layers c.args.kit.now plan here c.in_ok-routed.routed c.wire_of.ensures.wire c.wire_of.ensures.is c.in_ok-routed.ensures.column in
     subst (λ (w : Wire). IsBankGiven plan kit w (floorplan_of c.floorplan-stands.result) c.in_ok-routed.routed) same (record { stands = (0, stands); near = near })
 
 pub bank_edges-requires-clause-lower : goal.bank_edges-requires-clause-lower
@@ -41,7 +40,7 @@ bank_edges-requires-clause-lower c =
     let wired = c.wire_of.ensures.is in
     let fl = floorplan_of c.floorplan-stands.result in
     let on = c.floorplan-stands.ensures.stated (layout_kit kit) c.in_ok-sides.ensures.of in
-    let drawn = data_drawn kit plan here c.args.name.now c.in_ok-routed.routed 0 fl _ _ c.in_ok-data_edges.data_edges c.in_ok-data_edges.ensures.built wired (λ floorplan bank. c.in_ok-routed.ensures.stated here floorplan wired bank) c.in_ok-routed.ensures.each c.requires.plan.plan.words on in
+    let drawn = c.in_ok-data_edges.ensures.drawn here 0 fl wired on in
     data_near kit plan fl c.args.name.now (narrow_of kit plan c.requires.kit c.requires.plan.plan.columns) (stacked_of kit plan here 0 c.in_ok-routed.routed.tracks fl c.wire_of.ensures.wire.sizes on) c.as_slice-low.result.now
     (subst (λ (l : List Edge). AreInOrder (shown (begins_at (pos 0)) (data_pins kit plan fl c.args.name.now)) l) (sym c.as_slice-low.ensures) drawn.edges_are.bottom)
 
@@ -55,11 +54,12 @@ returns-clause-built c =
     let fl = floorplan_of c.floorplan-stands.result in
     let on = c.floorplan-stands.ensures.stated (layout_kit kit) c.in_ok-sides.ensures.of in
     let routed = c.in_ok-routed.routed in
-    let each = c.in_ok-routed.ensures.each in
-    let column = c.in_ok-routed.ensures.stated here fl wired (record { row_x = on.row_x; sense_y = on.sense_y }) in
-    let below = (c.in_ok-routed.ensures.near here wired).is.count.below in
+    let of = c.in_ok-routed.ensures.column in
+    let each = of.each in
+    let column = of.stated here fl wired (record { row_x = on.row_x; sense_y = on.sense_y }) in
+    let below = (of.near here wired).is.count.below in
     let apart = c.in_ok-wires.ensures.apart here wired in
-    let built = data_drawn kit plan here n routed 0 fl _ _ c.in_ok-data_edges.data_edges c.in_ok-data_edges.ensures.built wired (λ floorplan bank. c.in_ok-routed.ensures.stated here floorplan wired bank) each c.requires.plan.plan.words on in
+    let built = c.in_ok-data_edges.ensures.drawn here 0 fl wired on in
     let order = subst (λ (l : List Edge). AreInOrder (shown (begins_at (pos 0)) (data_pins kit plan fl n)) l) (sym c.as_slice-low.ensures) built.edges_are.bottom in
     let ports : c.as_slice-ports.result.now ≡ bank_ports plan = c.as_slice-ports.ensures ∙ ap (λ (s : Subckt). s.ports) c.in_ok-subckt.ensures in
     let edges = subst (λ (l : List (List ℕ)). AreBankEdges kit plan here fl n l c.as_slice-low.result.now c.in_ok-edges.edges) ports (c.in_ok-edges.ensures here wired) in
@@ -75,12 +75,14 @@ returns-clause-built c =
     record {
       wire = here;
       wired = wired;
+      wide = c.in_ok-refuse_narrow_slices.ensures.fits;
       routed = routed;
-      column = λ floorplan standing. c.in_ok-routed.ensures.stated here floorplan wired standing;
+      column = of;
       floorplan = fl;
       stands = on;
       drawn = record {
         wires = c.in_ok-wires.wires.items;
+        rises = c.in_ok-wires.ensures.rises;
         cells = c.in_ok-add_part.ensures.cells ∙ (λ i. with_drawn (cell i) (cells i));
         stated = c.in_ok-wires.ensures.stated here wired column;
         near = λ s there. c.in_ok-wires.ensures.near here wired s there;
@@ -90,7 +92,6 @@ returns-clause-built c =
         width = edges.width;
         height = edges.height;
       };
-      wide = c.in_ok-refuse_narrow_slices.ensures.fits;
       apart = apart;
     }
 
@@ -106,8 +107,7 @@ add_part-requires c =
     let kit = c.args.kit.now in
     let fl = floorplan_of c.floorplan-stands.result in
     let on = c.floorplan-stands.ensures.stated (layout_kit kit) c.in_ok-sides.ensures.of in
-    let built = data_drawn kit plan c.wire_of.result.now c.args.name.now c.in_ok-routed.routed 0 fl _ _ c.in_ok-data_edges.data_edges c.in_ok-data_edges.ensures.built c.wire_of.ensures.is
-    (λ floorplan bank. c.in_ok-routed.ensures.stated c.wire_of.result.now floorplan c.wire_of.ensures.is bank) c.in_ok-routed.ensures.each c.requires.plan.plan.words on in
+    let built = c.in_ok-data_edges.ensures.drawn c.wire_of.result.now 0 fl c.wire_of.ensures.is on in
     let few = c.requires.few in
     let three = more_cells _ _ _ _ _ (ap (λ (l : CellList). l.cells) c.in_ok-build.ensures.cells) (omega (arith, few)) in
     let four = one_more_cell _ _ _ (ap (λ (l : CellList). l.cells) built.cell) three in
@@ -116,7 +116,7 @@ add_part-requires c =
 pub returns-in_err-data_edges-clause-fault : goal.returns-in_err-data_edges-clause-fault
 returns-in_err-data_edges-clause-fault c =
     let p = err_from_is_err_and c.from_residual-in_err-data_edges.result c.from_residual-in_err-data_edges.ensures.1 in
-    rw (p.1, p.2) (inl c.in_err-data_edges.ensures.fault)
+    rw (p.1, p.2) (inl (inl tt))
 
 pub returns-in_err-wires-clause-fault : goal.returns-in_err-wires-clause-fault
 returns-in_err-wires-clause-fault c =
@@ -124,16 +124,14 @@ returns-in_err-wires-clause-fault c =
     let here = c.wire_of.result.now in
     let wired = c.wire_of.ensures.is in
     let p = err_from_is_err_and c.from_residual-in_err-wires.result c.from_residual-in_err-wires.ensures.1 in
-    rw (p.1, p.2) (inr (record {
-      wide = c.in_ok-refuse_narrow_slices.ensures.fits;
-      wire = here;
-      wired = wired;
-      routed = c.in_ok-routed.routed;
-      column = λ floorplan standing. c.in_ok-routed.ensures.stated here floorplan wired standing;
-      floorplan = floorplan_of c.floorplan-stands.result;
-      stands = c.floorplan-stands.ensures.stated kit c.in_ok-sides.ensures.of;
-      is = c.in_err-wires.ensures.fault here wired;
-    }))
+    rw (p.1, p.2) (inr (
+      c.in_ok-refuse_narrow_slices.ensures.fits,
+      (
+        c.in_ok-routed.routed,
+        c.in_ok-routed.ensures.column,
+        (here, wired, record { tracks = 0; floorplan = floorplan_of c.floorplan-stands.result; stands = c.floorplan-stands.ensures.stated kit c.in_ok-sides.ensures.of; is = c.in_err-wires.ensures.fault here wired }),
+      ),
+    ))
 
 pub returns-in_err-edges-clause-fault : goal.returns-in_err-edges-clause-fault
 returns-in_err-edges-clause-fault c =

@@ -2,6 +2,7 @@
 use Rattle.std.proofs.Common.{w64, to_z, of_z, sym, subst, ◌∙◌, arith}
 use Rattle.std.proofs.lemmas.Int.{ints}
 use Rattle.std.proofs.lemmas.Option.{same_Some}
+use Rattle.or_geom.proofs.ShapeOrderLaws.{same_shape}
 use Rattle.sram_plan.specs.PlanNumbers.{organization}
 use Rattle.macro_wires.specs.FloorplanNumbers.{floorplan_of}
 use Rattle.port_data.specs.Column.{IsColumnRouted}
@@ -36,7 +37,7 @@ returns-clause-near c other e s h =
       outputs_are = c.in_ok-add_output_wires.ensures;
       joiners = c.in_ok-add_bank_joiners.ensures (layout_kit c.args.kit.now) c.requires.sides_of;
     } in
-    subst (λ (w : Wire). IsDrawableWire w s) (same_Some wire other (sym c.wire_of-wire.ensures.is ∙ e)) (all_drawable _ _ _ _ wire _ g _ _ _ _ _ _ parts s h)
+    subst (λ (w : Wire). IsDrawableWire w s) (same_Some wire other (sym c.wire_of-wire.ensures.is ∙ e)) (all_drawable _ _ _ _ wire _ g _ _ _ _ _ _ parts s (c.sort_distinct.ensures.adds_none s h))
 
 pub returns-clause-stated : goal.returns-clause-stated
 returns-clause-stated c other e column =
@@ -59,8 +60,12 @@ returns-clause-stated c other e column =
     let drive = c.requires.sides_of.driver_width in
     let taps : IsTapSite c.args.kit.now (organization c.args.plan.now) wire (floorplan_of c.args.floorplan.now) c.args.routed.now = record { site = site_of _ _ _ _ _ _ g; wired = c.wire_of-wire.ensures.is; column = routed } in
     let lists = are_rail_lists _ _ _ _ _ parts.drawn.taps taps parts.drawn.are in
-    subst (λ (w : Wire). AreWiresOfCell (organization c.args.plan.now) (layout_kit c.args.kit.now) w c.args.routed.now.tracks (floorplan_of c.args.floorplan.now) c.add_bank_joiners.new.shapes.items) same
-    (all_stated _ _ _ _ wire _ g _ _ _ _ _ _ parts (omega (arith, ints, near.above, near.below, is, gate, drive)) routed lists)
+    let stated = subst (λ (w : Wire). AreWiresOfCell (organization c.args.plan.now) (layout_kit c.args.kit.now) w c.args.routed.now.tracks (floorplan_of c.args.floorplan.now) c.add_bank_joiners.new.shapes.items) same
+    (all_stated _ _ _ _ wire _ g _ _ _ _ _ _ parts (omega (arith, ints, near.above, near.below, is, gate, drive)) routed lists) in
+    λ main s. (λ h. (stated main s).0 (c.sort_distinct.ensures.adds_none s h), λ h. c.sort_distinct.ensures.keeps same_shape s ((stated main s).1 h))
+
+pub returns-clause-rises : goal.returns-clause-rises
+returns-clause-rises c = c.sort_distinct.ensures.rises
 
 pub returns-clause-apart : goal.returns-clause-apart
 returns-clause-apart c = λ other e.

@@ -7,6 +7,7 @@ use Rattle.std.proofs.lemmas.Option.{slice_get_read, slice_get-get_or}
 use Rattle.std.proofs.Math.Seq.{take-length}
 use Rattle.cell_roles.specs.declared.role.Role.TheVariants.{Bitcell}
 use Rattle.macro_cells.specs.LeafSides.{leaf_width}
+use Rattle.macro_cells.proofs.SideLaws.{width_is}
 use Rattle.main_channel.specs.Leaves.{pin_begin}
 use Rattle.main_channel.specs.Numbers.{found_number}
 use Rattle.main_channel.proofs.PinLaws.{nodes_at, three_demands, sum_read}
@@ -45,14 +46,14 @@ loop-cell-preserved c =
     let few = c.requires.few in
     let a = c.loop-cell.invariant.near.above in
     let b = c.loop-cell.invariant.near.below in
-    let d = c.leaf_of.ensures.width.above in
-    let e = c.leaf_of.ensures.width.below in
+    let d = c.leaf_of.ensures.near.width.above in
+    let e = c.leaf_of.ensures.near.width.below in
     let there : slice_get c.args.gates.now c.loop-cell.cell ≡ Some c.index-gates-cell.result = slice_get_read c.args.gates.now (length c.args.gates.now) c.loop-cell.cell c.index-gates-cell.result refl less c.index-gates-cell.is in
     let plays = slice_get-get_or c.args.roles.now c.loop-cell.cell Bitcell (omega (arith, each, less)) in
     record {
       near = record { above = omega (arith, ints, a, d, b, e, few, less); below = omega (arith, ints, a, d, b, e, few, less) };
-      here = sum_read (to_z w64 c.loop-cell.x-bits) c.leaf_of.result.now.width a (omega (arith, ints, b, few, less)) c.leaf_of.ensures.width
-          ∙ row_step (leaf_width c.args.kit.now) c.loop-cell.cell c.args.roles.now (get_or c.args.roles.now c.loop-cell.cell Bitcell) _ (to_z w64 c.loop-cell.x-bits) c.leaf_of.result.now.width plays c.loop-cell.invariant.here c.leaf_of.ensures.sized;
+      here = sum_read (to_z w64 c.loop-cell.x-bits) c.leaf_of.result.now.width a (omega (arith, ints, b, few, less)) c.leaf_of.ensures.near.width
+          ∙ row_step (leaf_width c.args.kit.now) c.loop-cell.cell c.args.roles.now (get_or c.args.roles.now c.loop-cell.cell Bitcell) _ (to_z w64 c.loop-cell.x-bits) c.leaf_of.result.now.width plays c.loop-cell.invariant.here (width_is c.args.kit.now c.requires.kit (get_or c.args.roles.now c.loop-cell.cell Bitcell) c.leaf_of.result.now c.leaf_of.ensures.is).is;
       is = cell_more (pin_begin c.args.kit.now) (leaf_width c.args.kit.now) (found_number c.args.numbers.now) c.args.gates.now c.args.roles.now _ _ _ _ _ c.loop-cell.cell c.index-gates-cell.result (get_or c.args.roles.now c.loop-cell.cell Bitcell) there plays c.loop-cell.invariant.here c.loop-cell.invariant.is
           c.in_ok-add_cell_pins.ensures.is;
       main = λ nets num all. c.in_ok-add_cell_pins.ensures.main nets num (c.loop-cell.invariant.main nets num all);

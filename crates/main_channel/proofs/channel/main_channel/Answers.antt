@@ -83,7 +83,7 @@ returns-clause-channel c =
     let sides = sides_are c.len.result c.port_count-ports.result (found_number c.in_ok-numbers.numbers) c.deref-2.result.now c.deref-3.result.now plan _ _ _ _ _ _ _ count named port c.in_ok-numbers.ensures
     c.new-top.ensures.items c.in_ok-add_bank_pins.ensures.main c.from_vec.ensures c.new-bottom.ensures.items c.in_ok-add_row_pins.ensures.main c.from_vec-2.ensures outputs c.in_ok-exits.ensures.main
     (has_exit c.port_count-ports.result _ c.in_ok-exits.ensures.is) in
-    is_channel _ _ (in_leaf_read _ c.leaf_of.ensures.height) sides
+    is_channel _ _ (in_leaf_read _ c.leaf_of.ensures.near.height) sides
 
 pub returns-clause-few : goal.returns-clause-few
 returns-clause-few c =
@@ -121,10 +121,10 @@ returns-clause-near c =
     let sides = sides_are c.len.result c.port_count-ports.result (found_number c.in_ok-numbers.numbers) c.deref-2.result.now c.deref-3.result.now plan _ _ _ _ _ _ _ count named port c.in_ok-numbers.ensures
     c.new-top.ensures.items c.in_ok-add_bank_pins.ensures.main c.from_vec.ensures c.new-bottom.ensures.items c.in_ok-add_row_pins.ensures.main c.from_vec-2.ensures outputs c.in_ok-exits.ensures.main
     (has_exit c.port_count-ports.result _ c.in_ok-exits.ensures.is) in
-    is_near _ _ (in_leaf_read _ c.leaf_of.ensures.height) sides
+    is_near _ _ (in_leaf_read _ c.leaf_of.ensures.near.height) sides
 
 pub returns-clause-low : goal.returns-clause-low
-returns-clause-low c = height_is c.args.kit.now Inv c.leaf_of.result.now c.leaf_of.ensures.is c.leaf_of.ensures.height
+returns-clause-low c = height_is c.args.kit.now Inv c.leaf_of.result.now c.leaf_of.ensures.is c.leaf_of.ensures.near.height
 
 pub returns-clause-nets : goal.returns-clause-nets
 returns-clause-nets c =
@@ -167,7 +167,7 @@ returns-clause-formula c = λ wire floorplan wired across.
     let gates = gates_sized plan cell c.deref.result.now (c.deref.ensures ∙ c.in_ok-gates.ensures) in
     let all_nets = nets_counted plan in
     let nets : c.len.result ≡ length (main_nets plan) = omega (arith, count, long, sized, gates, all_nets) in
-    same_channel plan (layout_kit kit) wire floorplan _ _ _ _ _ (height_is kit Inv c.leaf_of.result.now c.leaf_of.ensures.is c.leaf_of.ensures.height)
+    same_channel plan (layout_kit kit) wire floorplan _ _ _ _ _ (height_is kit Inv c.leaf_of.result.now c.leaf_of.ensures.is c.leaf_of.ensures.near.height)
     (top_formula kit c.requires.kit plan wire floorplan (found_number c.in_ok-numbers.numbers) c.args.floorplan.now.row_x c.args.floorplan.now.bank_width c.args.plan.now.banks _ _ _ looked c.new-top.ensures.items
     (c.in_ok-add_bank_pins.ensures.is wire wired) c.from_vec.ensures (banks_are (numbers_of c.args.plan.now) c.requires.plan) (sym across.row_x) (sym across.bank_width))
     (bottom_formula kit c.requires.kit plan built floorplan (found_number c.in_ok-numbers.numbers) c.deref-3.result.now c.deref-4.result.now _ _ _ _ looked c.new-bottom.ensures.items c.in_ok-add_row_pins.ensures.is c.from_vec-2.ensures gates_are

@@ -5,7 +5,7 @@ use Rattle.main_channel.proofs.leaves.pin_left.Goals as goal
 
 pub bounds-as_slice-pin : goal.bounds-as_slice-pin
 bounds-as_slice-pin c =
-    let count = c.leaf_of.ensures.count in
+    let count = c.leaf_of.ensures.pins in
     let there = c.requires.there in
     let long = ap length c.as_slice.ensures in
     omega (arith, count, there, long)

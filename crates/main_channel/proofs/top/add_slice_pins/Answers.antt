@@ -2,7 +2,9 @@
 use Rattle.std.proofs.Common.{arith}
 use Rattle.std.proofs.lemmas.Int.{ints}
 use Rattle.sram_plan.specs.PlanNumbers.{numbers_of, organization}
+use Rattle.cell_roles.specs.declared.role.Role.TheVariants.{Bitcell}
 use Rattle.macro_cells.specs.LeafSides.{leaf_width}
+use Rattle.macro_cells.proofs.SideLaws.{width_is}
 use Rattle.main_channel.proofs.StepLaws.{bit_more, all_bits}
 use Rattle.main_channel.specs.Leaves.{pin_begin}
 use Rattle.main_channel.specs.Numbers.{found_number}
@@ -35,9 +37,9 @@ loop-bit-preserved c =
     let b = c.requires.x.below in
     let d = c.columns_width.ensures.above in
     let e = c.columns_width.ensures.below in
-    let sized = c.leaf_of.ensures.sized in
-    let f = c.leaf_of.ensures.width.above in
-    let g = c.leaf_of.ensures.width.below in
+    let sized = (width_is c.args.kit.now c.requires.kit Bitcell c.leaf_of.result.now c.leaf_of.ensures.is).is in
+    let f = c.leaf_of.ensures.near.width.above in
+    let g = c.leaf_of.ensures.near.width.below in
     record {
       is = bit_more (pin_begin c.args.kit.now) (leaf_width c.args.kit.now) (found_number c.args.numbers.now) (organization c.args.plan.now) c.args.bank _ _ c.columns_width.result _ _ _ _ _ c.loop-bit.bit c.args.plan.now.wpr c.loop-bit.invariant.is c.in_ok-add_write_pins.ensures.is c.in_ok-add_sense_pin.ensures.is
           (omega (arith, ints, a, b, d, e)) c.columns_width.ensures.is (words_are (numbers_of c.args.plan.now) c.requires.plan) (omega (arith, ints, sized, f, g));

@@ -8,9 +8,7 @@ returns-clause-built c =
       wire = is.wire;
       wired = is.wired;
       wide = c.in_ok-refuse_narrow_slices.ensures.fits;
-      apart = c.in_ok-routed.ensures.apart is.wire is.wired;
       routed = c.in_ok-routed.routed;
-      each = c.in_ok-routed.ensures.each;
-      column = λ floorplan bank. c.in_ok-routed.ensures.stated is.wire floorplan is.wired bank;
+      column = c.in_ok-routed.ensures.column;
       drawn = λ main floorplan on. c.in_ok-add_data.ensures.drawn is.wire main floorplan is.wired on;
     }

@@ -27,8 +27,7 @@ returns-clause-are c =
     let same = same_Some laid.wire c.args.wire.now (sym laid.wired ∙ c.requires.wired) in
     let ends = subst (λ (w : Wire). AreExtents plan kit w (floorplan_of c.args.layout.floorplan) c.args.layout.ends) same laid.ends in
     record {
-      bank_rises = c.in_order-bank.ensures.rises;
-      bank = c.in_order-bank.ensures.same;
+      bank = refl;
       top_rises = c.in_order-top.ensures.rises;
       top = λ s. (let same = c.in_order-top.ensures.same s in let drawn = c.in_ok-drawn.ensures kit laid.sides_of ends s in (λ h. drawn.0 (same.0 h), λ h. same.1 (drawn.1 h)));
       labels = c.in_ok-labels.ensures;
@@ -48,12 +47,12 @@ returns-clause-layers c =
     let stands = subst (λ (w : Wire). IsFloorplan plan kit w (record { main = c.args.layout.main.tracks; column = c.requires.layout.column.tracks }) fl) same laid.stands in
     let ends = subst (λ (w : Wire). AreExtents plan kit w fl c.args.layout.ends) same laid.ends in
     let small = small_kit c.args.kit.now c.requires.kit in
-    let few = c.requires.layout.few in
+    let few = c.requires.layout.of.few in
     let near = c.floorplans_are_near.ensures plan kit wire (record { main = c.args.layout.main.tracks; column = c.requires.layout.column.tracks }) fl c.requires.plan.plan small (seven_layers layers wire c.requires.wire) (record { main = main.few; column = omega (arith, few) }) stands in
     let tops = top_near c.near_shapes_are_listed.ensures.greater c.supply_wires_are_near.ensures.supplies c.near_shapes_are_listed.ensures.listed layers plan kit wire fl c.in_order-top.result.items c.args.layout.main.shapes c.requires.wire c.requires.plan.plan small near
     (main_shapes_near c.routed_shapes_are_near.ensures layers plan kit wire c.args.layout.main c.requires.wire main) (λ s there. (c.in_ok-drawn.ensures kit laid.sides_of ends s).0 ((c.in_order-top.ensures.same s).0 there)) in
     record {
-      bank = bank_on_layers layers wire c.in_order-bank.result.items c.requires.wire (λ s there. bank s ((c.in_order-bank.ensures.same s).0 there));
+      bank = bank_on_layers layers wire c.args.layout.bank.items c.requires.wire bank;
       top = c.near_shapes_are_listed.ensures.layers layers wire 1107296256 c.in_order-top.result.items c.requires.wire tops;
       labels = subst (AllByRecursion (λ (l : PlacedLabel). l.layer < length layers)) (sym c.in_ok-labels.ensures) (labels_have_layers layers wire c.args.layout.ends c.args.signals.now c.requires.wire);
     }
@@ -72,13 +71,13 @@ returns-clause-writable c =
     let stands = subst (λ (w : Wire). IsFloorplan plan kit w (record { main = c.args.layout.main.tracks; column = c.requires.layout.column.tracks }) fl) same laid.stands in
     let ends = subst (λ (w : Wire). AreExtents plan kit w fl c.args.layout.ends) same laid.ends in
     let small = small_kit c.args.kit.now c.requires.kit in
-    let few = c.requires.layout.few in
+    let few = c.requires.layout.of.few in
     let near = c.floorplans_are_near.ensures plan kit wire (record { main = c.args.layout.main.tracks; column = c.requires.layout.column.tracks }) fl c.requires.plan.plan small (seven_layers layers wire c.requires.wire) (record { main = main.few; column = omega (arith, few) }) stands in
     let tops = top_near c.near_shapes_are_listed.ensures.greater c.supply_wires_are_near.ensures.supplies c.near_shapes_are_listed.ensures.listed layers plan kit wire fl c.in_order-top.result.items c.args.layout.main.shapes c.requires.wire c.requires.plan.plan small near
     (main_shapes_near c.routed_shapes_are_near.ensures layers plan kit wire c.args.layout.main c.requires.wire main) (λ s there. (c.in_ok-drawn.ensures kit laid.sides_of ends s).0 ((c.in_order-top.ensures.same s).0 there)) in
     record {
       floorplan = near;
-      bank_wires = bank_writable wire c.in_order-bank.result.items (λ s there. bank s ((c.in_order-bank.ensures.same s).0 there));
+      bank_wires = bank_writable wire c.args.layout.bank.items bank;
       wires = c.near_wires_are_writable.ensures wire 1107296256 c.in_order-top.result.items (omega arith) tops;
       labels = subst (AllByRecursion IsWritableText) (sym c.in_ok-labels.ensures) (labels_are_writable wire c.args.layout.ends c.args.signals.now laid.near_ends c.requires.signals);
     }

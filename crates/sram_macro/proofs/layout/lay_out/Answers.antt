@@ -12,7 +12,8 @@ use Rattle.macro_layout.specs.Floorplan.{IsFloorplan}
 use Rattle.macro_wires.specs.FloorplanNumbers.{floorplan_of}
 use Rattle.bank_layout.specs.BankTaps.{IsBankFault}
 use Rattle.bank_layout.specs.Near.{IsBankGiven}
-use Rattle.sram_macro.proofs.LayoutLaws.{column_near, some_floorplan}
+use Rattle.bank_layout.proofs.BuiltLaws.{column_near}
+use Rattle.sram_macro.proofs.LayoutLaws.{some_floorplan}
 use Rattle.sram_macro.proofs.layout.lay_out.Goals as goal
 
 pub bank_wires-requires-clause-given : goal.bank_wires-requires-clause-given
@@ -22,7 +23,7 @@ bank_wires-requires-clause-given c = λ wire wired.
     let here = c.wire_of-wire.result.now in
     let same = same_Some here wire (sym c.wire_of-wire.ensures.is ∙ wired) in
     let stands = c.floorplan-stands.ensures.stated kit c.in_ok-sides.ensures.of in
-    let near = column_near c.routed_shapes_are_near.ensures c.args.kit.now.tech.layers plan here c.args.column.now c.wire_of-wire.ensures.wire (c.requires.column.near here c.wire_of-wire.ensures.is) c.requires.column.few c.requires.column.each in
+    let near = column_near c.routed_shapes_are_near.ensures c.args.kit.now.tech.layers c.args.kit.now plan here c.args.column.now c.wire_of-wire.ensures.wire c.wire_of-wire.ensures.is c.requires.column in
     subst (λ (w : Wire). IsBankGiven plan kit w (floorplan_of c.floorplan-stands.result) c.args.column.now) same (record { stands = (c.tracks_of.result, stands); near = near })
 
 pub route_main-main-requires-clause-stands : goal.route_main-main-requires-clause-stands
@@ -77,6 +78,7 @@ returns-clause-layout c =
       near_ends = c.extents_of.ensures.near;
       power = c.extents_of.ensures.power;
       ground = c.extents_of.ensures.ground;
+      bank_rises = c.in_ok-bank.ensures.rises;
       bank_wires = c.in_ok-bank.ensures.stated here c.wire_of-wire.ensures.is (c.requires.column.stated here (floorplan_of c.floorplan-stands.result) c.wire_of-wire.ensures.is (record { row_x = on.row_x; sense_y = on.sense_y }));
       taps_apart = c.in_ok-bank.ensures.apart here c.wire_of-wire.ensures.is;
       bank = λ s there. c.in_ok-bank.ensures.near here c.wire_of-wire.ensures.is s there;
