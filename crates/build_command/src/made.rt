@@ -12,7 +12,7 @@ use crate::success::success_line;
 use macro_build::{BuildFault, Built, build};
 use or_geom::{Items, Memory, Name};
 use or_host::MemFile;
-use reply_lines::{Refusal, Reply};
+use reply_lines::{Refusal, Reply, ReplyLines};
 use sram_plan::{Config, Plan};
 use std::alloc::Global;
 use std::thread::Threads;
@@ -75,7 +75,10 @@ fn success_reply(
 {
     let mut lines = Items::new(alloc);
     lines.push(success_line(alloc, &config.output_name, plan, built)?)?;
-    Ok(Reply { status: 0, lines })
+    Ok(Reply {
+        status: 0,
+        lines: ReplyLines::made(lines),
+    })
 }
 
 fn made_of(alloc: Global, config: &Config, plan: &Plan, built: Built) -> Result<Made, Memory>

@@ -66,7 +66,7 @@ fn put_out<S: Store, K: Sink>(alloc: Global, made: &Made, store: &mut S, out: &m
     ensures { IsPutOut made.now result (outside_at (store_state (S.files store.old) (S.faults store.old) (S.failed store.old)) (sink_state (K.written out.old) (K.faults out.old) (K.puts out.old))) (outside_at (store_state (S.files store.new) (S.faults store.new) (S.failed store.new)) (sink_state (K.written out.new) (K.faults out.new) (K.puts out.new))) }
 {
     match write_files(made.views.as_slice(), store) {
-        Ok(()) => finish(&made.reply, out),
+        Ok(()) => finish(alloc, &made.reply, out),
         Err(unwritten) => finish_unwritten(alloc, &unwritten, out),
     }
 }

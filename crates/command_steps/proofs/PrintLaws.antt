@@ -1,6 +1,6 @@
 -- Printing one line after another.
-use Rattle.std.proofs.Common.{◌≡◌, ℕ, ◌+◌, ◌<◌, List, [], ◌∷◌, ◌++◌, length, get_or, drop, take, Option, Some, None, Err, refl, sym, ap, subst, ◌∙◌, append_assoc, take-append-drop}
-use Rattle.std.proofs.lemmas.List.{append_cancel_right}
+use Rattle.std.proofs.Common.{◌≡◌, ℕ, ◌+◌, ◌<◌, List, [], ◌∷◌, ◌++◌, length, get_or, drop, take, map, Option, Some, None, Err, refl, sym, ap, subst, ◌∙◌, append_assoc, take-append-drop}
+use Rattle.std.proofs.lemmas.List.{append_cancel_right, drop-map, get_or-map, length-map}
 use Rattle.or_geom.proofs.ListLaws.{rest_at}
 use Rattle.or_host.specs.declared.sink.PutFail.{PutFail}
 use Rattle.or_host.specs.declared.sink.PutFail.TheVariants.{Failed, Memory}
@@ -56,6 +56,17 @@ pub put_fails : (lines : List (List ℕ)) (i : ℕ) (line bytes : List ℕ) (sta
     → Grows (IsBefore (lines_text lines) (lines_text (drop i lines))) start mid → Puts mid end bytes (Err fail) → Prints lines start end (Err fail)
 put_fails lines i line bytes start mid end Failed lt is same so_far puts = cut_at lines i line bytes start mid end lt is same so_far puts
 put_fails lines i line bytes start mid end Memory lt is same so_far puts = stopped_at lines i start mid end lt so_far puts
+
+-- the same of lines that are made one by one
+pub each_fails : {X : Type 0} (line_of : X → List ℕ) (items : List X) (i : ℕ) (item : X) (start mid end : Option (List ℕ)) (fail : PutFail) → i < length items → item ≡ get_or items i item
+    → Grows (IsBefore (lines_text (map line_of items)) (lines_text (map line_of (drop i items)))) start mid → Puts mid end (line_of item) (Err fail) → Prints (map line_of items) start end (Err fail)
+each_fails {X} line_of items i item start mid end fail lt is so_far puts =
+    put_fails (map line_of items) i (line_of item) (line_of item) start mid end fail
+    (subst (λ (n : ℕ). i < n) (sym (length-map items line_of)) lt)
+    (ap line_of is ∙ sym (get_or-map line_of items i item (line_of item) lt))
+    refl
+    (subst (λ (l : List (List ℕ)). Grows (IsBefore (lines_text (map line_of items)) (lines_text l)) start mid) (sym (drop-map line_of i items)) so_far)
+    puts
 
 -- a put that failed adds a prefix of its bytes
 pub put_cut : (bytes whole : List ℕ) (old new : Option (List ℕ)) → bytes ≡ whole → Puts old new bytes (Err Failed) → Grows (IsPrefixOf whole) old new

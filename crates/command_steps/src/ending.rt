@@ -28,10 +28,10 @@ pub fn no_memory<K: Sink>(out: &mut K) -> u8
 }
 
 /// Prints a reply, and answers its status, or 4 or 5 where it isn't printed whole.
-pub fn finish<K: Sink>(reply: &Reply, out: &mut K) -> u8
+pub fn finish<K: Sink>(alloc: Global, reply: &Reply, out: &mut K) -> u8
     ensures { IsFinished reply.now result (sink_state (K.written out.old) (K.faults out.old) (K.puts out.old)) (sink_state (K.written out.new) (K.faults out.new) (K.puts out.new)) }
 {
-    match print(reply.lines.as_slice(), out) {
+    match print(alloc, &reply.lines, out) {
         Ok(()) => reply.status,
         Err(PutFail::Failed) => OUTSIDE,
         Err(PutFail::Memory) => no_memory(out),
@@ -83,7 +83,7 @@ pub fn refuse<K: Sink>(alloc: Global, refusal: &Refusal, out: &mut K) -> u8
         return finish_unread(alloc, refusal, out);
     }
     match Reply::refused(alloc, refusal) {
-        Ok(reply) => finish(&reply, out),
+        Ok(reply) => finish(alloc, &reply, out),
         Err(Memory) => no_memory(out),
     }
 }

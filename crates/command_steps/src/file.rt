@@ -1,11 +1,11 @@
-ghost use Rattle.std.specs.Prelude.{◌≡◌, false, IfOk};
+ghost use Rattle.std.specs.Prelude.{◌≡◌, ◌++◌, codes, false, IfOk, string_bytes};
 ghost use Rattle.tech_rules.specs.Facts.{IsTech};
 ghost use Rattle.command_steps.specs.File.{limit, IsFile, IsTechnologyFile};
 ghost use Rattle.command_steps.specs.Outside.{store_state};
 ghost use Rattle.command_steps.specs.Reading.{HasRead};
 ghost use Rattle.command_steps.specs.Outcome.{is_usage_outcome};
 
-use or_geom::{Items, Name};
+use or_geom::{Items, Memory, Name};
 use or_host::{ReadFail, Store};
 use reply_lines::Refusal;
 use std::alloc::Global;
@@ -38,4 +38,27 @@ pub fn read_technology<S: Store>(alloc: Global, name: &str, store: &mut S) -> Re
 {
     let bytes = read_file(alloc, name, store)?;
     Ok(read_tech(alloc, bytes.as_slice())?)
+}
+
+/// The name of a file: a name with an ending.
+pub fn with_ending(alloc: Global, name: &str, ending: &str) -> Result<String, Memory>
+    ensures { IfOk result (λ file. string_bytes file ≡ name.now ++ ending.now) }
+{
+    let mut file = String::from_str(alloc, name)?;
+    file.push_str(ending)?;
+    Ok(file)
+}
+
+/// The technology of this name, which is the file of the name and `.toml`.
+pub fn read_technology_under<S: Store>(
+    alloc: Global,
+    name: &str,
+    store: &mut S,
+) -> Result<Tech, Refusal>
+    ensures read { HasRead (λ files. IsTechnologyFile files (name.now ++ codes ".toml")) result (store_state (S.files store.old) (S.faults store.old) (S.failed store.old)) (store_state (S.files store.new) (S.faults store.new) (S.failed store.new)) }
+    ensures good { IfOk result IsTech }
+    ensures words { is_usage_outcome result ≡ false }
+{
+    let file = with_ending(alloc, name, ".toml")?;
+    read_technology(alloc, file.as_str(), store)
 }

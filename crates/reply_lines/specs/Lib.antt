@@ -3,6 +3,7 @@ pub mod Pins
 pub mod Shapes
 pub mod Refusals
 pub mod Statuses
+pub mod ReportLines
 pub mod Reply
 pub mod NetLines
 pub mod Differences

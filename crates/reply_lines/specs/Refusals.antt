@@ -22,7 +22,7 @@ use Rattle.leaf_tables.specs.declared.part.PartFault.TheVariants as part
 use Rattle.reply_lines.specs.Pins.{kind_and_pins}
 use Rattle.reply_lines.specs.Shapes.{violation_words}
 use Rattle.reply_lines.specs.declared.refusal.Refusal.{Refusal}
-use Rattle.reply_lines.specs.declared.refusal.Refusal.TheVariants.{Usage, NoFile, TooLong, ReadFailed, Tech, Gds, Spice, Flatten, Rows, Config, Plan, Kit, Part, RuleBroken, NetsDiffer, Memory}
+use Rattle.reply_lines.specs.declared.refusal.Refusal.TheVariants.{Usage, NoFile, TooLong, ReadFailed, Tech, Gds, Spice, Flatten, Rows, Config, Plan, Kit, Part, RuleBroken, NetsDiffer, NoDevices, Nested, BadDevice, Memory}
 
 abbrev pub headed : ℕ → List ℕ → List (List ℕ) → List (List ℕ)
 headed number name fields = codes "openram:" ∷ (decimal number ∷ (name ∷ fields))
@@ -130,4 +130,7 @@ refusal_words (Kit fault) = kit_words fault
 refusal_words (Part fault) = part_words fault
 refusal_words (RuleBroken layers violation) = headed 81 (codes "RuleBroken") (violation_words layers violation)
 refusal_words (NetsDiffer difference) = headed 82 (codes "NetsDiffer") (kind_and_pins difference)
+refusal_words NoDevices = headed 103 (codes "NoDevices") []
+refusal_words (Nested role) = headed 102 (codes "Nested") (role ∷ [])
+refusal_words (BadDevice role line) = headed 101 (codes "BadDevice") (role ∷ decimal line ∷ [])
 refusal_words Memory = headed 94 (codes "Memory") []

@@ -1,20 +1,17 @@
 -- What the program answers.
-use Rattle.std.specs.Prelude.{ℕ, List, [], ◌∷◌, map}
+use Rattle.std.specs.Prelude.{ℕ, List, [], ◌∷◌}
 use Rattle.tech_rules.specs.declared.tech.Layer.{Layer}
 use Rattle.tile_checker.specs.declared.violation.Violation.{Violation}
 use Rattle.reply_lines.specs.declared.refusal.Refusal.{Refusal}
 use Rattle.reply_lines.specs.declared.reply.Reply.{Reply}
 use Rattle.reply_lines.specs.Lines.{reply_line}
 use Rattle.reply_lines.specs.Refusals.{refusal_words}
-use Rattle.reply_lines.specs.Shapes.{violation_words}
+use Rattle.reply_lines.specs.ReportLines.{report_lines}
 use Rattle.reply_lines.specs.Statuses.{refusal_status}
 
 -- the status and the line of a refusal
 abbrev pub refusal_reply : Refusal → Reply
 refusal_reply r = record { status = refusal_status r; lines = reply_line (refusal_words r) ∷ [] }
-
-abbrev pub report_lines : List Layer → List Violation → List (List ℕ)
-report_lines layers violations = map (λ v. reply_line (violation_words layers v)) violations
 
 -- status 0 where nothing is found, else 1
 abbrev pub report_status : List Violation → ℕ

@@ -4,6 +4,7 @@ ghost use Rattle.reply_lines.specs.Differences.{difference_words, comparison_rep
 ghost use Rattle.reply_lines.specs.Pins.{pin_word};
 
 use crate::line::ReplyLine;
+use crate::lines::ReplyLines;
 use crate::reply::Reply;
 use net_extractor::{NetDiff, PinName};
 use or_geom::{Items, Memory};
@@ -52,11 +53,13 @@ pub fn comparison_reply(alloc: Global, difference: &Option<NetDiff>) -> Result<R
     ensures { IfOk result (λ reply. reply ≡ comparison_reply difference.now) }
 {
     let mut lines = Items::new(alloc);
-    match difference {
-        None => Ok(Reply { status: 0, lines }),
-        Some(difference) => {
-            lines.push(difference_line(alloc, difference)?)?;
-            Ok(Reply { status: 1, lines })
-        }
+    let mut status = 0;
+    if let Some(difference) = difference {
+        lines.push(difference_line(alloc, difference)?)?;
+        status = 1;
     }
+    Ok(Reply {
+        status,
+        lines: ReplyLines::made(lines),
+    })
 }

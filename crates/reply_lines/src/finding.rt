@@ -1,9 +1,10 @@
 ghost use Rattle.std.specs.Prelude.{◌≡◌, ◌++◌, IfOk, OnOk};
 ghost use Rattle.reply_lines.specs.Lines.{spaced, reply_line};
-ghost use Rattle.reply_lines.specs.Reply.{report_lines, report_reply};
+ghost use Rattle.reply_lines.specs.Reply.{report_reply};
 ghost use Rattle.reply_lines.specs.Shapes.{layer_name, shape_words, violation_words};
 
 use crate::line::ReplyLine;
+use crate::lines::ReplyLines;
 use crate::reply::Reply;
 use or_geom::{Items, Memory, Shape};
 use std::alloc::Global;
@@ -33,7 +34,7 @@ pub fn add_shape(line: &mut ReplyLine, layers: &[Layer], shape: Shape) -> Result
 }
 
 /// The line of a violation.
-fn violation_line(
+pub fn violation_line(
     alloc: Global,
     layers: &[Layer],
     violation: Violation,
@@ -49,28 +50,13 @@ fn violation_line(
     Ok(line)
 }
 
-/// The lines of a report.
-fn lines_of(
-    alloc: Global,
-    layers: &[Layer],
-    violations: &[Violation],
-) -> Result<Items<ReplyLine>, Memory>
-    ensures { IfOk result (λ lines. lines ≡ report_lines layers.now violations.now) }
-{
-    let mut lines = Items::new(alloc);
-    for violation in violations {
-        lines.push(violation_line(alloc, layers, *violation)?)?;
-    }
-    Ok(lines)
-}
-
 /// The answer that is a report: status 0 where it is empty, else 1.
-pub fn report_of(alloc: Global, layers: &[Layer], violations: &[Violation]) -> Result<Reply, Memory>
-    ensures { IfOk result (λ reply. reply ≡ report_reply layers.now violations.now) }
+pub fn report_of(layers: Items<Layer>, violations: Vec<Violation>) -> Reply
+    ensures { result ≡ report_reply layers violations.items }
 {
-    let lines = lines_of(alloc, layers, violations)?;
-    if violations.is_empty() {
-        return Ok(Reply { status: 0, lines });
+    let status = if violations.is_empty() { 0 } else { 1 };
+    Reply {
+        status,
+        lines: ReplyLines::report(layers, Items::from_vec(violations)),
     }
-    Ok(Reply { status: 1, lines })
 }

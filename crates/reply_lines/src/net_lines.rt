@@ -4,6 +4,7 @@ ghost use Rattle.reply_lines.specs.NetLines.{net_word, net_words, net_lines, net
 
 use crate::finding::name_of;
 use crate::line::ReplyLine;
+use crate::lines::ReplyLines;
 use crate::reply::Reply;
 use net_extractor::NetLabel;
 use or_geom::{Items, Memory};
@@ -51,5 +52,8 @@ pub fn nets_reply(alloc: Global, layers: &[Layer], labels: &[NetLabel]) -> Resul
     ensures { IfOk result (λ reply. reply ≡ nets_reply layers.now labels.now) }
 {
     let lines = lines_of(alloc, layers, labels)?;
-    Ok(Reply { status: 0, lines })
+    Ok(Reply {
+        status: 0,
+        lines: ReplyLines::made(lines),
+    })
 }

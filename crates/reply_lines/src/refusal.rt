@@ -4,6 +4,7 @@ ghost use Rattle.reply_lines.specs.Refusals.{refusal_words, gds_words, tech_word
 ghost use Rattle.reply_lines.specs.Statuses.{is_memory, is_read_failure, refusal_status};
 
 use crate::build_refusal::{broken_line, config_line, differs_line, kit_line, part_line};
+use crate::device_refusal::bad_device_line;
 use crate::heading::{counted, named, placed, plain, pointed};
 use crate::line::ReplyLine;
 use cell_hierarchy::FlattenFault;
@@ -60,6 +61,18 @@ pub enum Refusal {
     },
     /// The nets of the layout that was built differ from its netlist: the first difference.
     NetsDiffer(NetDiff),
+    /// The technology has no kind of transistors.
+    NoDevices,
+    /// The subcircuit of the role's cell has an instance, where it is to have transistors alone.
+    Nested {
+        role: Name,
+    },
+    /// The line of a transistor with this number, from 0 among the lines of the role's subcircuit that are no instances, has
+    /// fewer than six words.
+    BadDevice {
+        role: Name,
+        line: u64,
+    },
     /// Out of memory, as each of the faults above may be too.
     Memory,
 }
@@ -293,6 +306,9 @@ impl Refusal {
                 broken_line(alloc, layers.as_slice(), *violation)
             }
             Refusal::NetsDiffer(difference) => differs_line(alloc, difference),
+            Refusal::NoDevices => plain(alloc, 103, b"NoDevices"),
+            Refusal::Nested { role } => named(alloc, 102, b"Nested", role),
+            Refusal::BadDevice { role, line } => bad_device_line(alloc, role, *line),
             Refusal::Memory => plain(alloc, 94, b"Memory"),
         }
     }

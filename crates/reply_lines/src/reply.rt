@@ -1,6 +1,6 @@
 ghost use Rattle.std.specs.Prelude.{◌≡◌, IfOk};
 
-use crate::line::ReplyLine;
+use crate::lines::ReplyLines;
 use crate::refusal::Refusal;
 use or_geom::{Items, Memory};
 use std::alloc::Global;
@@ -9,7 +9,7 @@ use std::alloc::Global;
 #[derive(Debug, Drop)]
 pub struct Reply {
     pub status: u8,
-    pub lines: Items<ReplyLine>,
+    pub lines: ReplyLines,
 }
 
 impl Reply {
@@ -23,7 +23,7 @@ impl Reply {
         lines.push(refusal.line(alloc)?)?;
         Ok(Reply {
             status: refusal.status(),
-            lines,
+            lines: ReplyLines::made(lines),
         })
     }
 }

@@ -5,7 +5,7 @@ use Rattle.command_steps.proofs.ending.finish.Goals as goal
 
 pub returns-in-Err-Memory : goal.returns-in-Err-Memory
 returns-in-Err-Memory g c =
-    let printed = rw c.as_slice.ensures at (rw c.in-Err-Memory.field-0-is at c.in-Err-Memory.ensures.printed) in
+    let printed = rw c.in-Err-Memory.field-0-is at c.in-Err-Memory.ensures.printed in
     let cause = rw c.in-Err-Memory.field-0-is at c.in-Err-Memory.ensures.cause in
     let mid = sink_state (g.K.Sink.written c.print.new.out) (g.K.Sink.faults c.print.new.out) (g.K.Sink.puts c.print.new.out) in
     let before = sink_state (g.K.Sink.written c.args.out.now) (g.K.Sink.faults c.args.out.now) (g.K.Sink.puts c.args.out.now) in

@@ -3,7 +3,7 @@ use Rattle.or_host.specs.Fault.{RoseBy}
 use Rattle.or_host.specs.Text.{Grows}
 use Rattle.reply_lines.specs.Lines.{lines_text}
 use Rattle.command_steps.proofs.PrintLaws.{IsBefore}
-use Rattle.command_steps.proofs.print.print.Given as goal
+use Rattle.command_steps.proofs.print.print_made.Given as goal
 
 abbrev pub invariant-loop-line : goal.invariant-loop-line
 invariant-loop-line g l = record {

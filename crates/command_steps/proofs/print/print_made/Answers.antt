@@ -1,5 +1,5 @@
 use Rattle.command_steps.proofs.PrintLaws.{put_fails}
-use Rattle.command_steps.proofs.print.print.Goals as goal
+use Rattle.command_steps.proofs.print.print_made.Goals as goal
 
 pub returns-in-Err-clause-printed : goal.returns-in-Err-clause-printed
 returns-in-Err-clause-printed g c =
