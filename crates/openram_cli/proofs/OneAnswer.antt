@@ -1,6 +1,6 @@
 -- The words and the files have one answer: at each step one thing follows from the bytes, or one refusal, and not both.
 use Rattle.std.proofs.Common.{◌≡◌, ◌≢◌, ◌⊎◌, inl, inr, ℕ, ◌<◌, ◌≤◌, List, length, Option, Some, None, Result, Ok, Err, refl, sym, ap, subst, ◌∙◌, arith}
-use Rattle.std.specs.Prelude.{MatchOption}
+use Rattle.std.specs.Prelude.{MatchOption, ◌++◌, codes}
 use Rattle.std.specs.List.{AllByRecursion}
 use Rattle.std.proofs.lemmas.Option.{same_Some}
 use Rattle.or_geom.specs.declared.shape.Shape.{Shape}
@@ -47,6 +47,10 @@ use Rattle.spice_netlist.proofs.OneFaultLaws.{one_flat_fault, no_flat_rows}
 use Rattle.net_extractor.proofs.OneNetLaws.{one_nets}
 use Rattle.net_extractor.proofs.OneDifferenceLaws.{one_difference}
 use Rattle.net_extractor.proofs.DifferenceLaws.{differs}
+use Rattle.device_lvs.specs.OneAnswer.{DeviceAnswersAreUnique, DeviceFaultsAreUnique, DeviceFaultsExcludeAnswers}
+use Rattle.device_lvs.specs.RoleSteps.{leaf_files}
+use Rattle.device_lvs.proofs.OneAnswerLaws.{one_device_answer, one_device_fault, no_device_answer}
+use Rattle.device_command.proofs.OneReplyLaws.{on_devices_answered}
 use Rattle.reply_lines.specs.declared.refusal.Refusal.{Refusal}
 use Rattle.reply_lines.specs.declared.refusal.Refusal.TheVariants as refusal_of
 use Rattle.reply_lines.specs.declared.reply.Reply.{Reply}
@@ -57,14 +61,15 @@ use Rattle.reply_lines.specs.Statuses.{refusal_status}
 use Rattle.openram_cli.specs.declared.inputs.Inputs.{Inputs}
 use Rattle.openram_cli.specs.declared.inputs.Inputs.TheVariants as inputs
 use Rattle.openram_cli.specs.declared.inputs.Layout.{Layout}
+use Rattle.openram_cli.specs.declared.inputs.LeafCells.{LeafCells}
 use Rattle.openram_cli.specs.Command.{Command, LayoutWords, command_of}
-use Rattle.openram_cli.specs.Command.Command.{check, nets, compare}
+use Rattle.openram_cli.specs.Command.Command.{check, nets, compare, devices}
 use Rattle.build_command.specs.OneDesign.{HoldBytes}
 use Rattle.command_steps.proofs.OnceLaws.{gds_lasts, on_fault, on_file, on_gives, on_tech_file, on_then, on_value}
 use Rattle.command_steps.specs.Once.{IsDecided, IsLow, IsOnce}
 use Rattle.command_steps.specs.Outcome.{WithoutRefusal, ValueOrFault, Then}
 use Rattle.command_steps.specs.File.{limit, IsReadable, IsFile, IsTechnology, IsTechnologyFile}
-use Rattle.openram_cli.specs.Inputs.{IsLibrary, IsDeck, IsLibraryFile, IsDeckFile, IsLayoutWith, IsLayout, AreCompared, AreInputs}
+use Rattle.openram_cli.specs.Inputs.{IsLibrary, IsDeck, IsLibraryFile, IsDeckFile, IsLayoutWith, IsLayout, AreCompared, HasDevices, IsDeviceTechnology, AreCellsOver, AreCellsWith, AreLeafCells, AreInputs}
 use Rattle.openram_cli.specs.Answer.{AreFlatShapesOf, AreFlat, leaves_of, AreLeafRows, IsReported, IsNetListing, IsDifference, IsCompared, IsCheckAnswer, IsNetsAnswer, IsCompareAnswer, IsReplyTo, IsUsage, IsCommandWork, IsWork, IsAnswer, reply_of}
 use Rattle.openram_cli.specs.OneAnswer.{IsOnly, HaveOneAnswer}
 
@@ -104,6 +109,9 @@ pub record AreLaws : Type 0 where
   pub rows : RowsAreUnique
   pub row_faults : FlatFaultsAreUnique
   pub no_row_faults : FlatFaultsExcludeRows
+  pub devices : DeviceAnswersAreUnique
+  pub device_faults : DeviceFaultsAreUnique
+  pub no_device_faults : DeviceFaultsExcludeAnswers
 
 all_laws : AreLaws
 all_laws = record {
@@ -123,6 +131,9 @@ all_laws = record {
   rows = one_flat_rows;
   row_faults = one_flat_fault;
   no_row_faults = no_flat_rows;
+  devices = one_device_answer;
+  device_faults = one_device_fault;
+  no_device_faults = no_device_answer;
 }
 
 -- a refusal that is neither a failed read nor want of memory isn't the memory of a layer below
@@ -131,6 +142,17 @@ flatten_lasts f low e = let five : 5 < 4 = subst (λ (g : FlattenFault). IsLow (
 
 rows_lasts : (f : FlatFault) → IsLow (refusal_of.Rows f) → f ≢ rows_fault.Memory
 rows_lasts f low e = let five : 5 < 4 = subst (λ (g : FlatFault). IsLow (refusal_of.Rows g)) e low in omega (arith, five)
+
+-- a technology has kinds of transistors, or it has none
+on_devices : (tech : Tech) → IsOnce (HasDevices tech)
+on_devices tech (Ok a) (Ok b) s t p q = ap (λ (x : Tech). Ok x) (p.0 ∙ sym q.0)
+on_devices tech (Ok a) (Err f) s t p q = absurd (p.1 q.1)
+on_devices tech (Err e) (Ok b) s t p q = absurd (q.1 p.1)
+on_devices tech (Err e) (Err f) s t p q = ap (λ (r : Refusal). Err r) (p.0 ∙ sym q.0)
+
+on_device_technology : (files : Files) (name : List ℕ) → IsOnce (IsDeviceTechnology files name)
+on_device_technology files name =
+    on_then (IsTechnologyFile files (name ++ codes ".toml")) HasDevices (on_tech_file files (name ++ codes ".toml")) (λ tech made. on_devices tech)
 
 module _ (l : AreLaws) where
   on_library : (bytes : List ℕ) → length bytes ≤ limit → AreBytes bytes → IsOnce (IsLibrary bytes)
@@ -174,6 +196,13 @@ module _ (l : AreLaws) where
       on_then (IsTechnologyFile files words.tech) (IsLayoutWith files words) (on_tech_file files words.tech)
       (λ tech made. on_then (IsLibraryFile files words.gds) (λ lib. WithoutRefusal (last tech lib)) (on_library_file files words.gds hold) (λ lib spelled. on_gives (last tech lib) (λ x y p q. p ∙ sym q)))
 
+  on_cells : (files : Files) (name : List ℕ) → HoldBytes files → IsOnce (AreLeafCells files name)
+  on_cells files name hold =
+      let last : Tech → Library → Deck → LeafCells → Type 0 = λ tech lib d cells. cells ≡ record { tech = tech; lib = lib; deck = d } in
+      on_then (IsDeviceTechnology files name) (AreCellsWith files name) (on_device_technology files name)
+      (λ tech made. on_then (IsLibraryFile files (name ++ codes ".gds")) (AreCellsOver files name tech) (on_library_file files (name ++ codes ".gds") hold)
+      (λ lib spelled. on_then (IsDeckFile files (name ++ codes ".sp")) (λ d. WithoutRefusal (last tech lib d)) (on_deck_file files (name ++ codes ".sp")) (λ d read. on_gives (last tech lib d) (λ x y p q. p ∙ sym q))))
+
   on_inputs : (files : Files) (c : Command) → HoldBytes files → IsOnce (AreInputs files c)
   on_inputs files (check words) hold =
       on_then (IsLayout files words) (λ layout. WithoutRefusal (λ (read : Inputs). read ≡ inputs.Check layout)) (on_layout files words hold) (λ layout made. on_gives (λ (read : Inputs). read ≡ inputs.Check layout) (λ x y p q. p ∙ sym q))
@@ -182,6 +211,15 @@ module _ (l : AreLaws) where
   on_inputs files (compare words netlist) hold =
       on_then (IsLayout files words) (AreCompared files netlist) (on_layout files words hold)
       (λ layout made. on_then (IsDeckFile files netlist) (λ d. WithoutRefusal (λ (read : Inputs). read ≡ inputs.Compare layout d)) (on_deck_file files netlist) (λ d read. on_gives (λ (read : Inputs). read ≡ inputs.Compare layout d) (λ x y p q. p ∙ sym q)))
+  on_inputs files (devices name) hold =
+      on_then (AreLeafCells files name) (λ cells. WithoutRefusal (λ (read : Inputs). read ≡ inputs.Devices cells)) (on_cells files name hold) (λ cells made. on_gives (λ (read : Inputs). read ≡ inputs.Devices cells) (λ x y p q. p ∙ sym q))
+
+  cells_writable : (files : Files) (name : List ℕ) (cells : LeafCells) → HoldBytes files → AreLeafCells files name (Ok cells) → AllByRecursion IsWritableCell cells.lib.structs
+  cells_writable files name cells hold made =
+      let lib = made.2.0 in
+      let file = made.2.1 in
+      let writable : IsWritable lib = l.writable file.0 lib (hold (name ++ codes ".gds") file.0 file.1.holds) file.2 in
+      subst (λ (x : LeafCells). AllByRecursion IsWritableCell x.lib.structs) (sym made.2.2.2) writable.cells
 
   layout_writable : (files : Files) (words : LayoutWords) (layout : Layout) → HoldBytes files → IsLayout files words (Ok layout) → AllByRecursion IsWritableCell layout.lib.structs
   layout_writable files words layout hold made =
@@ -207,6 +245,10 @@ module _ (l : AreLaws) where
   on_reply files (nets words) read hold made = subst (λ (x : Inputs). IsOnce (IsReplyTo x)) (sym made.2) (on_nets made.0 (layout_writable files words made.0 hold made.1))
   on_reply files (compare words netlist) read hold made =
       subst (λ (x : Inputs). IsOnce (IsReplyTo x)) (sym made.2.2) (on_compare made.0 made.2.0 (layout_writable files words made.0 hold made.1))
+  on_reply files (devices name) read hold made =
+      let cells = made.0 in
+      subst (λ (x : Inputs). IsOnce (IsReplyTo x)) (sym made.2)
+      (on_devices_answered l.devices l.device_faults l.no_device_faults (leaf_files cells.tech cells.lib cells.deck) (cells_writable files name cells hold made.1))
 
   on_command : (files : Files) (c : Command) → HoldBytes files → IsOnce (IsCommandWork files c)
   on_command files c hold = on_then (AreInputs files c) IsReplyTo (on_inputs files c hold) (λ read made. on_reply files c read hold made)

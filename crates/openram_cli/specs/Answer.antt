@@ -18,6 +18,8 @@ use Rattle.netlist.specs.declared.deck.Deck.{Deck}
 use Rattle.netlist.specs.declared.rows.Rows.{Rows}
 use Rattle.netlist.specs.declared.rows.RowPin.{RowPin}
 use Rattle.spice_netlist.specs.Faults.{AreFlatRows, IsFlatFault}
+use Rattle.device_lvs.specs.RoleSteps.{leaf_files}
+use Rattle.device_command.specs.DeviceLines.{AreDevicesAnswered}
 use Rattle.reply_lines.specs.declared.refusal.Refusal.{Refusal}
 use Rattle.reply_lines.specs.declared.refusal.Refusal.TheVariants as refusal_of
 use Rattle.reply_lines.specs.declared.reply.Reply.{Reply}
@@ -102,6 +104,7 @@ abbrev pub IsReplyTo : Inputs → Result Reply Refusal → Type 0
 IsReplyTo (inputs.Check layout) = IsCheckAnswer layout
 IsReplyTo (inputs.Nets layout) = IsNetsAnswer layout
 IsReplyTo (inputs.Compare layout d) = IsCompareAnswer layout d
+IsReplyTo (inputs.Devices cells) = AreDevicesAnswered (leaf_files cells.tech cells.lib cells.deck)
 
 -- words that are no form are refused, whatever the files are
 abbrev pub IsUsage : Result Reply Refusal → Type 0

@@ -2,6 +2,7 @@
 use Rattle.std.specs.Prelude.{ℕ, List, [], ◌∷◌, ◌&&◌, Option, Some, None, if◌then◌else◌, codes}
 use Rattle.std.specs.Str.{bytes_eq}
 use Rattle.command_steps.specs.Workers.{is_workers}
+use Rattle.sram_plan.specs.Config.{is_file_text}
 
 -- the files of a technology and of a layout, and the name of a structure
 pub record LayoutWords : Type 0 where
@@ -9,11 +10,13 @@ pub record LayoutWords : Type 0 where
   pub gds : List ℕ
   pub top : List ℕ
 
--- the report of a structure, its nets, or its first difference from the netlist in the file of this name
+-- the report of a structure, its nets, or its first difference from the netlist in the file of this name; or the first difference of
+-- transistors in the leaf cells of the technology of this name
 pub data Command : Type 0 where
   check : LayoutWords → Command
   nets : LayoutWords → Command
   compare : LayoutWords → List ℕ → Command
+  devices : List ℕ → Command
 
 -- check TECH GDS TOP WORKERS
 abbrev pub check_form : List (List ℕ) → Option Command
@@ -33,10 +36,15 @@ compare_form (command ∷ tech ∷ gds ∷ netlist ∷ top ∷ []) =
     if bytes_eq command (codes "compare") then Some (compare (record { tech = tech; gds = gds; top = top }) netlist) else None
 compare_form words = None
 
+-- devices TECH, a name that a configuration may give its technology
+abbrev pub devices_form : List (List ℕ) → Option Command
+devices_form (command ∷ tech ∷ []) = if bytes_eq command (codes "devices") && is_file_text tech then Some (devices tech) else None
+devices_form words = None
+
 abbrev pub or_else : Option Command → Option Command → Option Command
 or_else None other = other
 or_else (Some command) other = Some command
 
 -- the command that the words are, if they are one
 abbrev pub command_of : List (List ℕ) → Option Command
-command_of words = or_else (check_form words) (or_else (nets_form words) (compare_form words))
+command_of words = or_else (check_form words) (or_else (nets_form words) (or_else (compare_form words) (devices_form words)))

@@ -1,5 +1,5 @@
 -- What a command reads: its files in the order of its words, each decoded before the next is read.
-use Rattle.std.specs.Prelude.{◌≡◌, ℕ, List, Result, Ok, Err}
+use Rattle.std.specs.Prelude.{◌≡◌, ◌≢◌, ℕ, List, [], ◌++◌, Result, Ok, Err, codes}
 use Rattle.or_host.specs.Files.{Files}
 use Rattle.gds_library.specs.declared.library.Library.{Library}
 use Rattle.gds_library.specs.FirstFault.{IsFaultOf}
@@ -14,8 +14,9 @@ use Rattle.reply_lines.specs.declared.refusal.Refusal.TheVariants as refusal_of
 use Rattle.openram_cli.specs.declared.inputs.Inputs.{Inputs}
 use Rattle.openram_cli.specs.declared.inputs.Inputs.TheVariants as inputs
 use Rattle.openram_cli.specs.declared.inputs.Layout.{Layout}
+use Rattle.openram_cli.specs.declared.inputs.LeafCells.{LeafCells}
 use Rattle.openram_cli.specs.Command.{Command, LayoutWords}
-use Rattle.openram_cli.specs.Command.Command.{check, nets, compare}
+use Rattle.openram_cli.specs.Command.Command.{check, nets, compare, devices}
 use Rattle.command_steps.specs.File.{IsFile, IsTechnologyFile}
 use Rattle.command_steps.specs.Outcome.{WithoutRefusal, ValueOrFault, Then}
 
@@ -47,18 +48,46 @@ IsLayout files words = Then (IsTechnologyFile files words.tech) (IsLayoutWith fi
 abbrev pub AreCompared : Files → List ℕ → Layout → Result Inputs Refusal → Type 0
 AreCompared files netlist layout = Then (IsDeckFile files netlist) (λ d. WithoutRefusal (λ read. read ≡ inputs.Compare layout d))
 
+-- a technology that has kinds of transistors, or that it has none
+abbrev pub HasDevices : Tech → Result Tech Refusal → Type 0
+HasDevices tech (Ok same) = (same ≡ tech) × (tech.devices ≢ [])
+HasDevices tech (Err refusal) = (refusal ≡ refusal_of.NoDevices) × (tech.devices ≡ [])
+
+-- the technology of this name, before anything else is read
+abbrev pub IsDeviceTechnology : Files → List ℕ → Result Tech Refusal → Type 0
+IsDeviceTechnology files name = Then (IsTechnologyFile files (name ++ codes ".toml")) HasDevices
+
+-- the subcircuits after the layout
+abbrev pub AreCellsOver : Files → List ℕ → Tech → Library → Result LeafCells Refusal → Type 0
+AreCellsOver files name tech lib =
+    Then (IsDeckFile files (name ++ codes ".sp")) (λ d. WithoutRefusal (λ cells. cells ≡ record { tech = tech; lib = lib; deck = d }))
+
+-- the layout after the technology
+abbrev pub AreCellsWith : Files → List ℕ → Tech → Result LeafCells Refusal → Type 0
+AreCellsWith files name tech = Then (IsLibraryFile files (name ++ codes ".gds")) (AreCellsOver files name tech)
+
+-- the leaf cells of the technology of this name
+abbrev pub AreLeafCells : Files → List ℕ → Result LeafCells Refusal → Type 0
+AreLeafCells files name = Then (IsDeviceTechnology files name) (AreCellsWith files name)
+
 -- what the files of a command hold; a comparison reads the netlist last
 abbrev pub AreInputs : Files → Command → Result Inputs Refusal → Type 0
 AreInputs files (check words) = Then (IsLayout files words) (λ layout. WithoutRefusal (λ read. read ≡ inputs.Check layout))
 AreInputs files (nets words) = Then (IsLayout files words) (λ layout. WithoutRefusal (λ read. read ≡ inputs.Nets layout))
 AreInputs files (compare words netlist) = Then (IsLayout files words) (AreCompared files netlist)
+AreInputs files (devices name) = Then (AreLeafCells files name) (λ cells. WithoutRefusal (λ read. read ≡ inputs.Devices cells))
 
 -- what is known of every technology and every library that is read
 pub record IsSoundLayout (layout : Layout) : Type 0 where
   pub tech : IsTech layout.tech
   pub writable : IsWritable layout.lib
 
+pub record AreSoundCells (cells : LeafCells) : Type 0 where
+  pub tech : IsTech cells.tech
+  pub writable : IsWritable cells.lib
+
 abbrev pub AreSound : Inputs → Type 0
 AreSound (inputs.Check layout) = IsSoundLayout layout
 AreSound (inputs.Nets layout) = IsSoundLayout layout
 AreSound (inputs.Compare layout d) = IsSoundLayout layout
+AreSound (inputs.Devices cells) = AreSoundCells cells

@@ -12,6 +12,7 @@ ghost use Rattle.command_steps.specs.Outcome.{UnlessMemory, is_read_failed, is_u
 use crate::inputs::{Inputs, Layout};
 use bumpalo::Bump;
 use cell_hierarchy::{Flat, flatten, flatten_shapes};
+use device_command::answer_devices;
 use net_extractor::{Nets, compare, extract};
 use netlist::{Deck, Rows};
 use or_geom::{Memory, Name};
@@ -114,21 +115,22 @@ fn answer_check<R: Threads + Sync, G: Gate + Sync>(
     rt: &R,
     alloc: Global,
     gate: &G,
-    layout: &Layout,
+    layout: Layout,
     workers: u8,
 ) -> Result<Reply, Refusal>
-    requires sound { IsSoundLayout layout.now }
+    requires sound { IsSoundLayout layout }
     requires some { 0 < workers }
     requires at_most { workers ≤ 64 }
-    ensures answer { UnlessMemory (IsCheckAnswer layout.now) result }
+    ensures answer { UnlessMemory (IsCheckAnswer layout) result }
     ensures small { IfOk result (λ reply. reply.status < 2) }
     ensures read { is_read_failed result ≡ false }
     ensures words { is_usage_outcome result ≡ false }
 {
     let bump = Bump::new(alloc);
-    let flat = shapes_of(alloc, &bump, layout)?;
+    let flat = shapes_of(alloc, &bump, &layout)?;
     let violations = violations_of(rt, alloc, gate, &bump, &layout.tech, &flat, workers)?;
-    Ok(report_of(alloc, layout.tech.layers.as_slice(), &violations)?)
+    let Layout { tech, .. } = layout;
+    Ok(report_of(tech.layers, violations))
 }
 
 /// The labels of the structure with their nets.
@@ -171,20 +173,21 @@ pub fn answer<R: Threads + Sync, G: Gate + Sync>(
     rt: &R,
     alloc: Global,
     gate: &G,
-    inputs: &Inputs,
+    inputs: Inputs,
     workers: u8,
 ) -> Result<Reply, Refusal>
-    requires sound { AreSound inputs.now }
+    requires sound { AreSound inputs }
     requires some { 0 < workers }
     requires at_most { workers ≤ 64 }
-    ensures answer { UnlessMemory (IsReplyTo inputs.now) result }
+    ensures answer { UnlessMemory (IsReplyTo inputs) result }
     ensures small { IfOk result (λ reply. reply.status < 2) }
     ensures read { is_read_failed result ≡ false }
     ensures words { is_usage_outcome result ≡ false }
 {
     match inputs {
         Inputs::Check(layout) => answer_check(rt, alloc, gate, layout, workers),
-        Inputs::Nets(layout) => answer_nets(rt, alloc, layout),
-        Inputs::Compare { layout, deck } => answer_compare(rt, alloc, layout, deck),
+        Inputs::Nets(layout) => answer_nets(rt, alloc, &layout),
+        Inputs::Compare { layout, deck } => answer_compare(rt, alloc, &layout, &deck),
+        Inputs::Devices(cells) => answer_devices(alloc, &cells.tech, &cells.lib, &cells.deck),
     }
 }

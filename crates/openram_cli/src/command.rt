@@ -1,8 +1,10 @@
 ghost use Rattle.std.specs.Prelude.{◌≡◌, map, string_bytes, codes, IfSome};
+ghost use Rattle.std.specs.List.{list_all};
 ghost use Rattle.std.specs.Str.{bytes_eq};
-ghost use Rattle.openram_cli.specs.Command.{command_of, check_form, nets_form, compare_form};
+ghost use Rattle.openram_cli.specs.Command.{command_of, check_form, nets_form, compare_form, devices_form};
 ghost use Rattle.openram_cli.specs.CommandWords.{HasWorkers, told_asked, told_command};
 ghost use Rattle.std.specs.Option.{option_map};
+ghost use Rattle.sram_plan.specs.Config.{is_file_text, is_printable_byte};
 
 use command_steps::workers_in;
 
@@ -33,6 +35,8 @@ pub enum Asked<'a> {
         layout: LayoutWords<'a>,
         netlist: &'a str,
     },
+    /// The first difference of transistors in a technology's leaf cells: `devices TECH`.
+    Devices(&'a str),
 }
 
 /// A command of one worker.
@@ -128,6 +132,45 @@ fn compare_in(words: &[String]) -> Option<Command<'_>>
     }
 }
 
+fn is_devices(command: &String) -> bool
+    ensures { result ≡ bytes_eq (string_bytes command.now) (codes "devices") }
+{
+    command.as_str() == "devices"
+}
+
+fn are_printable(text: &[u8]) -> bool
+    ensures { result ≡ list_all is_printable_byte text.now }
+{
+    text.iter().all(|b| matches!(*b, 32..=126))
+}
+
+/// Whether a configuration may name its technology so.
+fn is_tech_name(word: &String) -> bool
+    ensures { result ≡ is_file_text (string_bytes word.now) }
+{
+    let text = word.as_bytes();
+    if text.is_empty() || 200 < text.len() {
+        return false;
+    }
+    are_printable(text)
+}
+
+/// `devices TECH`, if the words are that.
+fn devices_in(words: &[String]) -> Option<Command<'_>>
+    ensures words { option_map told_command result ≡ devices_form (map string_bytes words.now) }
+    ensures workers { IfSome result HasWorkers }
+{
+    match words {
+        [command, tech] => {
+            if is_devices(command) && is_tech_name(tech) {
+                return Some(alone(Asked::Devices(tech.as_str())));
+            }
+            None
+        }
+        _ => None,
+    }
+}
+
 /// The command that the words are, if they are one.
 pub fn command_in(words: &[String]) -> Option<Command<'_>>
     ensures words { option_map told_command result ≡ command_of (map string_bytes words.now) }
@@ -139,5 +182,8 @@ pub fn command_in(words: &[String]) -> Option<Command<'_>>
     if let Some(command) = nets_in(words) {
         return Some(command);
     }
-    compare_in(words)
+    if let Some(command) = compare_in(words) {
+        return Some(command);
+    }
+    devices_in(words)
 }

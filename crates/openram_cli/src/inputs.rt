@@ -1,14 +1,14 @@
-ghost use Rattle.std.specs.Prelude.{◌≡◌, false, IfOk};
+ghost use Rattle.std.specs.Prelude.{◌≡◌, ◌++◌, codes, false, IfOk};
 ghost use Rattle.gds_library.specs.Writable.{IsWritable};
 ghost use Rattle.tech_rules.specs.Facts.{IsTech};
 ghost use Rattle.openram_cli.specs.CommandWords.{told_asked, told_layout};
-ghost use Rattle.openram_cli.specs.Inputs.{IsLibraryFile, IsDeckFile, IsLayout, AreInputs, AreSound};
-ghost use Rattle.command_steps.specs.Outcome.{is_usage_outcome};
+ghost use Rattle.openram_cli.specs.Inputs.{IsLibraryFile, IsDeckFile, IsLayout, HasDevices, IsDeviceTechnology, AreLeafCells, AreInputs, AreSound};
+ghost use Rattle.command_steps.specs.Outcome.{UnlessMemory, is_read_failed, is_usage_outcome};
 ghost use Rattle.command_steps.specs.Outside.{store_state};
 ghost use Rattle.command_steps.specs.Reading.{HasRead};
 
 use crate::command::{Asked, LayoutWords};
-use command_steps::{read_file, read_technology};
+use command_steps::{read_file, read_technology, read_technology_under, with_ending};
 use gds_library::{Library, read_gds};
 use netlist::Deck;
 use or_geom::Name;
@@ -26,12 +26,21 @@ pub struct Layout {
     pub top: Name,
 }
 
+/// A technology and its leaf cells: their layouts and their subcircuits.
+#[derive(Drop)]
+pub struct LeafCells {
+    pub tech: Tech,
+    pub lib: Library,
+    pub deck: Deck,
+}
+
 /// What the files of a command hold, each decoded: all that its answer depends on.
 #[derive(Drop)]
 pub enum Inputs {
     Check(Layout),
     Nets(Layout),
     Compare { layout: Layout, deck: Deck },
+    Devices(LeafCells),
 }
 
 fn read_library<S: Store>(alloc: Global, name: &str, store: &mut S) -> Result<Library, Refusal>
@@ -67,6 +76,69 @@ fn read_layout<S: Store>(
     Ok(Layout { tech, lib, top })
 }
 
+/// A technology that has kinds of transistors.
+fn with_devices(tech: Tech) -> Result<Tech, Refusal>
+    ensures devices { UnlessMemory (HasDevices tech) result }
+    ensures good { IfOk result (λ same. same ≡ tech) }
+    ensures read { is_read_failed result ≡ false }
+    ensures words { is_usage_outcome result ≡ false }
+{
+    if tech.devices.is_empty() {
+        return Err(Refusal::NoDevices);
+    }
+    Ok(tech)
+}
+
+/// The technology of this name, which is refused before anything else is read where it has no kind of transistors.
+fn read_device_technology<S: Store>(
+    alloc: Global,
+    name: &str,
+    store: &mut S,
+) -> Result<Tech, Refusal>
+    ensures read { HasRead (λ files. IsDeviceTechnology files name.now) result (store_state (S.files store.old) (S.faults store.old) (S.failed store.old)) (store_state (S.files store.new) (S.faults store.new) (S.failed store.new)) }
+    ensures good { IfOk result IsTech }
+    ensures words { is_usage_outcome result ≡ false }
+{
+    let tech = read_technology_under(alloc, name, store)?;
+    with_devices(tech)
+}
+
+/// The library in the file of this name and `.gds`.
+fn read_library_under<S: Store>(
+    alloc: Global,
+    name: &str,
+    store: &mut S,
+) -> Result<Library, Refusal>
+    ensures read { HasRead (λ files. IsLibraryFile files (name.now ++ codes ".gds")) result (store_state (S.files store.old) (S.faults store.old) (S.failed store.old)) (store_state (S.files store.new) (S.faults store.new) (S.failed store.new)) }
+    ensures good { IfOk result IsWritable }
+    ensures words { is_usage_outcome result ≡ false }
+{
+    let file = with_ending(alloc, name, ".gds")?;
+    read_library(alloc, file.as_str(), store)
+}
+
+/// The deck in the file of this name and `.sp`.
+fn read_deck_under<S: Store>(alloc: Global, name: &str, store: &mut S) -> Result<Deck, Refusal>
+    ensures read { HasRead (λ files. IsDeckFile files (name.now ++ codes ".sp")) result (store_state (S.files store.old) (S.faults store.old) (S.failed store.old)) (store_state (S.files store.new) (S.faults store.new) (S.failed store.new)) }
+    ensures words { is_usage_outcome result ≡ false }
+{
+    let file = with_ending(alloc, name, ".sp")?;
+    read_deck(alloc, file.as_str(), store)
+}
+
+/// The leaf cells of the technology of this name.
+fn read_leaf_cells<S: Store>(alloc: Global, name: &str, store: &mut S) -> Result<LeafCells, Refusal>
+    ensures read { HasRead (λ files. AreLeafCells files name.now) result (store_state (S.files store.old) (S.faults store.old) (S.failed store.old)) (store_state (S.files store.new) (S.faults store.new) (S.failed store.new)) }
+    ensures tech { IfOk result (λ cells. IsTech cells.tech) }
+    ensures writable { IfOk result (λ cells. IsWritable cells.lib) }
+    ensures words { is_usage_outcome result ≡ false }
+{
+    let tech = read_device_technology(alloc, name, store)?;
+    let lib = read_library_under(alloc, name, store)?;
+    let deck = read_deck_under(alloc, name, store)?;
+    Ok(LeafCells { tech, lib, deck })
+}
+
 /// Reads the files that the words name, in the order of its words, and decodes each before the next is read. Nothing else
 /// reads the store.
 pub fn read_inputs<S: Store>(
@@ -86,5 +158,6 @@ pub fn read_inputs<S: Store>(
             let deck = read_deck(alloc, netlist, store)?;
             Ok(Inputs::Compare { layout, deck })
         }
+        Asked::Devices(name) => Ok(Inputs::Devices(read_leaf_cells(alloc, name, store)?)),
     }
 }

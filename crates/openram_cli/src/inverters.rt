@@ -18,7 +18,7 @@ const M1: u8 = 10;
 const M2: u8 = 12;
 
 /// A label. Its name has an even number of bytes, with the pad.
-fn label(
+pub fn label(
     out: &mut Vec<u8>,
     alloc: Global,
     layer: u8,

@@ -23,6 +23,8 @@ mod refused_builds;
 mod run;
 #[cfg(test)]
 mod tests;
+#[cfg(test)]
+mod transistors;
 
 use crate::run::run;
 use command_steps::NO_MEMORY;

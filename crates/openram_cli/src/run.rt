@@ -36,7 +36,7 @@ fn reply_to<R: Threads + Sync, G: Gate + Sync, S: Store>(
         return Err(Refusal::Usage);
     };
     let inputs = read_inputs(alloc, command.asked, store)?;
-    answer(rt, alloc, gate, &inputs, command.workers)
+    answer(rt, alloc, gate, inputs, command.workers)
 }
 
 /// Answers the words, which are no build and no demonstration.
@@ -52,7 +52,7 @@ fn answer_words<R: Threads + Sync, G: Gate + Sync, S: Store, K: Sink>(
     ensures one { (files : Files) → HaveOneAnswer (map string_bytes words.now) files }
 {
     match reply_to(rt, alloc, gate, words, store) {
-        Ok(reply) => finish(&reply, out),
+        Ok(reply) => finish(alloc, &reply, out),
         Err(refusal) => refuse(alloc, &refusal, out),
     }
 }
@@ -80,7 +80,8 @@ pub fn run_gated<R: Threads + Sync, G: Gate + Sync, S: Store, K: Sink>(
 }
 
 /// All that the program does: it reads the files that the words name, writes the views of a build, prints each line by one call
-/// of `put`, and answers the exit status. 0: done. 1: a check found violations, or a comparison a difference. 2: the words are no
+/// of `put`, and answers the exit status. 0: done. 1: a check found violations, a comparison a difference, or leaf cells differ
+/// from their subcircuits in a transistor. 2: the words are no
 /// form. 3: an input is refused, or the memory that it asks for can't be built soundly. 4: the store or the sink failed, and its
 /// count of faults rose. 5: out of memory.
 pub fn run<R: Threads + Sync, S: Store, K: Sink>(

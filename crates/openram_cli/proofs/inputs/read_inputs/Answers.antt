@@ -1,7 +1,7 @@
 use Rattle.std.proofs.Common.{◌≡◌, Err}
 use Rattle.std.proofs.lemmas.Result.{err_from_is_err_and}
 use Rattle.openram_cli.specs.CommandWords.{told_layout}
-use Rattle.openram_cli.specs.Inputs.{IsDeckFile, IsLayout, AreCompared}
+use Rattle.openram_cli.specs.Inputs.{IsDeckFile, IsLayout, AreCompared, AreLeafCells}
 use Rattle.command_steps.specs.Outcome.{WithoutRefusal}
 use Rattle.command_steps.specs.Outside.{store_state}
 use Rattle.openram_cli.specs.declared.inputs.Inputs.{Inputs}
@@ -50,3 +50,13 @@ returns-in_err-deck-in-Compare-clause-read g c =
     read_on (λ files. IsLayout files (told_layout c.in-Compare.layout)) (λ files. AreCompared files netlist) layout (Err refusal) before mid now c.in_ok-layout-in-Compare.ensures.read
     (read_ends (λ files. IsDeckFile files netlist) (λ files d. WithoutRefusal (λ (read : Inputs). read ≡ inputs.Compare layout d)) refusal mid now c.in_err-deck-in-Compare.ensures.read)
     )
+
+pub returns-in_err-read_leaf_cells-in-Devices-clause-read : goal.returns-in_err-read_leaf_cells-in-Devices-clause-read
+returns-in_err-read_leaf_cells-in-Devices-clause-read g c =
+    let from = c.from_residual-in_err-read_leaf_cells-in-Devices in
+    let p = err_from_is_err_and from.result from.ensures.1 in
+    let name = c.in-Devices.name.now in
+    let before = store_state (g.S.Store.files c.args.store.now) (g.S.Store.faults c.args.store.now) (g.S.Store.failed c.args.store.now) in
+    let now = store_state (g.S.Store.files c.read_leaf_cells.new.store) (g.S.Store.faults c.read_leaf_cells.new.store) (g.S.Store.failed c.read_leaf_cells.new.store) in
+    rw (p.1, p.2, c.in-Devices.is)
+    (read_ends (λ files. AreLeafCells files name) (λ files cells. WithoutRefusal (λ (read : Inputs). read ≡ inputs.Devices cells)) c.in_err-read_leaf_cells-in-Devices.field-0.0 before now c.in_err-read_leaf_cells-in-Devices.ensures.read)
