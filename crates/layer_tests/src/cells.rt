@@ -28,6 +28,7 @@ fn one_layer(alloc: Global) -> Result<Tech, Fail>
         wire: None,
         roles: Items::new(alloc),
         tables: Items::new(alloc),
+        devices: Items::new(alloc),
     })
 }
 

@@ -4,6 +4,8 @@
 #[cfg(test)]
 mod cells;
 #[cfg(test)]
+mod devices;
+#[cfg(test)]
 mod gds;
 #[cfg(test)]
 mod geometry;
@@ -13,6 +15,8 @@ mod host;
 mod kits;
 #[cfg(test)]
 mod leaf_files;
+#[cfg(test)]
+mod parts;
 #[cfg(test)]
 mod plans;
 #[cfg(test)]

@@ -1,0 +1,167 @@
+//! The parts of a memory of 16 words of 2 bits, each built by itself of demonstration kit 0.
+
+ghost use Rattle.std.specs.Prelude.{◌≡◌, [], IfOk};
+ghost use Rattle.leaf_tables.specs.Kits.{IsKit};
+ghost use Rattle.sram_netlist.specs.Numbers.{ArePlanNumbers};
+ghost use Rattle.sram_plan.specs.PlanNumbers.{numbers_of};
+
+use cell_builder::Cells;
+use demo_kit::demo;
+use leaf_tables::{Kit, read_kit};
+use netlist::Deck;
+use or_geom::Name;
+use spice_netlist::flat_rows;
+use spice_text::read_spice;
+use sram_plan::{Plan, plan, read_config};
+use std::alloc::Global;
+use std::process::Abort;
+use std::test::Fail;
+use tech_rules::read_tech;
+
+/// What a part is built of: a kit, a plan and a name; and what it is added to: no cells but those of the kit, and the kit's
+/// subcircuits.
+#[derive(Drop)]
+struct Trial {
+    kit: Kit,
+    plan: Plan,
+    name: Name,
+    cells: Cells,
+    deck: Deck,
+}
+
+fn begin(alloc: Global) -> Result<Trial, Fail>
+    ensures kit { IfOk result (λ on. IsKit on.kit) }
+    ensures plan { IfOk result (λ on. ArePlanNumbers (numbers_of on.plan)) }
+    ensures cells { IfOk result (λ on. on.cells.cells ≡ []) }
+{
+    let files = demo(alloc, 0)?;
+    let Ok(config) = read_config(alloc, &files.config) else {
+        return Err("no configuration".into());
+    };
+    let Ok(plan) = plan(&config) else {
+        return Err("no plan".into());
+    };
+    let Ok(tech) = read_tech(alloc, &files.tech) else {
+        return Err("no technology".into());
+    };
+    let Ok(kit) = read_kit(alloc, tech, &files.gds, &files.sp) else {
+        return Err("no kit".into());
+    };
+    let Ok(deck) = read_spice(alloc, &files.sp) else {
+        return Err("no subcircuits".into());
+    };
+    let mut cells = Cells::new(alloc)?;
+    cells.adopt(&kit.lib)?;
+    Ok(Trial {
+        kit,
+        plan,
+        name: config.output_name,
+        cells,
+        deck,
+    })
+}
+
+/// How many leaf instances this subcircuit of the deck has, with those in its parts: each has one pin on vdd.
+fn leaf_count(alloc: Global, deck: &Deck, top: &str) -> Result<u32, Fail> {
+    let top = Name::from_bytes(alloc, top.as_bytes())?;
+    let Ok(rows) = flat_rows(alloc, deck, &top, &[]) else {
+        return Err("no rows".into());
+    };
+    let mut count = 0u32;
+    for row in rows.pins.as_slice() {
+        if row.pin.is(b"vdd") && !row.path.is(b"") {
+            count = count.saturating_add(1);
+        }
+    }
+    Ok(count)
+}
+
+/// Whether the deck has these subcircuits, in this order, behind the fourteen of the kit.
+fn check_names(rt: &impl Abort, deck: &Deck, names: &[&str]) {
+    let subckts = deck.subckts.as_slice();
+    assert_eq!(rt; subckts.len(), 14 + names.len());
+    for (subckt, name) in subckts.iter().skip(14).zip(names.iter()) {
+        assert!(rt; subckt.name.is(name.as_bytes()));
+    }
+}
+
+/// 16 rows of a gate, a driver and two bitcells, and two precharge cells.
+#[test]
+fn the_array(rt: HostRuntime) -> Result<(), Fail> {
+    let alloc = rt.alloc();
+    let Trial {
+        kit,
+        plan,
+        name,
+        mut cells,
+        mut deck,
+    } = begin(alloc)?;
+    let Ok(_) = bitcell_array::build(alloc, &kit, &plan, &name, &mut cells, &mut deck) else {
+        return Err("no array".into());
+    };
+    check_names(&rt, &deck, &["demo_row", "demo_array", "demo_pre"]);
+    assert_eq!(rt; leaf_count(alloc, &deck, "demo_row")?, 4);
+    assert_eq!(rt; leaf_count(alloc, &deck, "demo_array")?, 64);
+    assert_eq!(rt; leaf_count(alloc, &deck, "demo_pre")?, 2);
+    Ok(())
+}
+
+#[test]
+fn the_logic_row(rt: HostRuntime) -> Result<(), Fail> {
+    let alloc = rt.alloc();
+    let Trial {
+        kit,
+        plan,
+        name,
+        mut cells,
+        mut deck,
+    } = begin(alloc)?;
+    let Ok(_) = control_logic::build(alloc, &kit, &plan, &name, &mut cells, &mut deck) else {
+        return Err("no logic row".into());
+    };
+    check_names(&rt, &deck, &["demo_logic"]);
+    assert_eq!(rt; leaf_count(alloc, &deck, "demo_logic")?, 40);
+    Ok(())
+}
+
+/// The array, the precharge cells, and a write cell, a sense cell and a tie for each of the two bits.
+#[test]
+fn the_bank(rt: HostRuntime) -> Result<(), Fail> {
+    let alloc = rt.alloc();
+    let Trial {
+        kit,
+        plan,
+        name,
+        mut cells,
+        mut deck,
+    } = begin(alloc)?;
+    let Ok(edges) = bank_layout::build(alloc, &kit, &plan, &name, &mut cells, &mut deck) else {
+        return Err("no bank".into());
+    };
+    assert_eq!(rt; (edges.width, edges.height), (224, 652));
+    check_names(
+        &rt,
+        &deck,
+        &[
+            "demo_row",
+            "demo_array",
+            "demo_pre",
+            "demo_data",
+            "demo_bank",
+        ],
+    );
+    assert_eq!(rt; leaf_count(alloc, &deck, "demo_bank")?, 72);
+    Ok(())
+}
+
+/// Two ties and two sense cells, whose lines stand one above the other.
+#[test]
+fn the_column_channel(rt: HostRuntime) -> Result<(), Fail> {
+    let alloc = rt.alloc();
+    let on = begin(alloc)?;
+    let Ok(routed) = port_data::channel(alloc, &on.kit, &on.plan) else {
+        return Err("no channel".into());
+    };
+    assert_eq!(rt; routed.tracks, 1);
+    Ok(())
+}
