@@ -70,7 +70,10 @@ fn report_by<G: Gate + Sync, R: Threads + Sync>(
     union_of(alloc, &lists)
 }
 
-/// The report of the technology's rules over the shapes, by as many workers.
+/// What breaks the technology's rules: in the order of rules, first and second shapes, each once, whatever the number of
+/// workers, which is 1 to 64. Coordinates are in nanometres.
+///
+/// `Memory`: no list could be made.
 pub fn check_all<G: Gate + Sync, R: Threads + Sync>(
     rt: &R,
     alloc: Global,

@@ -9,12 +9,12 @@ use std::alloc::Global;
 
 /// A tile is at least so many times as wide and tall as the shapes on an average. So few shapes lie in several tiles, and
 /// a wire that is as long as others crosses few.
-const SHAPE_SIDES: u64 = 64;
+const MEAN_SIDES_PER_TILE: u64 = 64;
 
-/// There are at most about as many tiles as there are lots of so many shapes, also where the shapes lie far apart.
-const SHAPES: u64 = 64;
+/// On an average a tile has at least about so many shapes, also where the shapes lie far apart.
+const SHAPES_PER_TILE: u64 = 64;
 
-/// The mean of the shapes' widths and heights.
+/// The mean of the shapes' widths and heights, in nanometres.
 fn mean_side(shapes: &[Shape]) -> u64 {
     let mut sum: u64 = 0;
     for shape in shapes {
@@ -29,14 +29,14 @@ fn mean_side(shapes: &[Shape]) -> u64 {
     sum / count / 2
 }
 
-/// The side of the tiles over an area that holds the shapes.
+/// The side of the tiles over an area that holds the shapes, in nanometres.
 fn tile_side(shapes: &[Shape], area: Rect) -> i64
     ensures { IsSide result }
 {
     let extent = area.x2.abs_diff(area.x1).max(area.y2.abs_diff(area.y1));
-    let most_along = (shapes.len() as u64 / SHAPES).isqrt() + 1;
+    let most_along = (shapes.len() as u64 / SHAPES_PER_TILE).isqrt() + 1;
     let side = mean_side(shapes)
-        .saturating_mul(SHAPE_SIDES)
+        .saturating_mul(MEAN_SIDES_PER_TILE)
         .max((extent / most_along).saturating_add(1));
     side.min(1 << 41) as i64
 }
