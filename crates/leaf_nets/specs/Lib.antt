@@ -1,0 +1,4 @@
+pub mod Numbers
+pub mod RightPins
+pub mod Loose
+pub mod Leaves
