@@ -7,11 +7,12 @@ use Rattle.toml_keys.specs.Keys.{Section, has_key, out_of_range, section_under, 
 use Rattle.tech_rules.specs.declared.tech.RoleName.{RoleName}
 use Rattle.tech_rules.specs.declared.tech.RoleRows.{RoleRows}
 
--- the roles, in their order
+-- the roles, in their order: those of a read-write memory, and the two cells of a read-only one
 abbrev pub role_names : List (List ℕ)
 role_names =
     codes "bitcell" ∷ codes "precharge" ∷ codes "mux" ∷ codes "tie" ∷ codes "sense" ∷ codes "write" ∷ codes "rownand2" ∷ codes "rownand3"
-    ∷ codes "driver" ∷ codes "nand2" ∷ codes "nand3" ∷ codes "inv" ∷ codes "dff" ∷ codes "delay" ∷ []
+    ∷ codes "driver" ∷ codes "nand2" ∷ codes "nand3" ∷ codes "inv" ∷ codes "dff" ∷ codes "delay"
+    ∷ codes "rom0" ∷ codes "rom1" ∷ []
 
 -- those that are keys of a table
 abbrev pub roles_in : Section TechFault → List (List ℕ) → List (List ℕ)

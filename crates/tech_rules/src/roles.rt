@@ -15,8 +15,8 @@ use toml_keys::KeyTable;
 /// The greatest length of a leaf cell's name.
 const MAX_CELL_LENGTH: usize = 32;
 
-/// The roles of leaf cells, in the order in which a technology's are looked at.
-const ROLES: [&str; 14] = [
+/// The roles of leaf cells, in the order in which a technology's are looked at. The last two are those of a read-only memory.
+const ROLES: [&str; 16] = [
     "bitcell",
     "precharge",
     "mux",
@@ -31,6 +31,8 @@ const ROLES: [&str; 14] = [
     "inv",
     "dff",
     "delay",
+    "rom0",
+    "rom1",
 ];
 
 /// The cells that play the roles of the document, if it names any.
