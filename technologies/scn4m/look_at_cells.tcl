@@ -1,9 +1,13 @@
-# Reads the layout GDS; for each of CELLS prints the count of errors and each broken rule, and extracts it into the folder OUT.
+# Reads the layout GDS; for each of CELLS prints the count of errors and each broken rule, and extracts it into the folder OUT. Of its
+# texts those are ports that are ports of its subcircuit in DECK.
 cif istyle lambda=0.2(scn4m)
 drc off
 gds read $env(GDS)
 extract style scn4m
 cd $env(OUT)
+set file [open $env(DECK)]
+set deck [read $file]
+close $file
 foreach cell $env(CELLS) {
   load $cell
   select top cell
@@ -14,6 +18,10 @@ foreach cell $env(CELLS) {
   foreach {rule boxes} [drc listall why] { puts "broken $cell: $rule: [llength $boxes] times: [lrange $boxes 0 2]" }
   drc off
   port makeall
+  regexp -line "^\\.SUBCKT $cell (.*)$" $deck line wanted
+  for {set i [port last]} {$i > 0} {incr i -1} {
+    if {[lsearch -exact $wanted [port $i name]] < 0} {port $i remove}
+  }
   extract all
   ext2spice lvs
   ext2spice subcircuit top on

@@ -55,15 +55,15 @@ M8 dinb enb br vdd pfet W=2.4u L=0.4u
 M9 enb en vdd vdd pfet W=1.6u L=0.4u
 .ENDS write
 .SUBCKT rownand2 a b z vdd gnd
-M0 gnd a between_n12_10_2 gnd nfet W=1.6u L=0.4u
-M1 between_n12_10_2 b z gnd nfet W=1.6u L=0.4u
+M0 gnd a mid gnd nfet W=1.6u L=0.4u
+M1 mid b z gnd nfet W=1.6u L=0.4u
 M2 vdd a z vdd pfet W=1.6u L=0.4u
 M3 z b vdd vdd pfet W=1.6u L=0.4u
 .ENDS rownand2
 .SUBCKT rownand3 a b c z vdd gnd
-M0 gnd a between_n10_10_2 gnd nfet W=1.6u L=0.4u
-M1 between_n10_10_2 b between_n10_10_3 gnd nfet W=1.6u L=0.4u
-M2 between_n10_10_3 c z gnd nfet W=1.6u L=0.4u
+M0 gnd a low gnd nfet W=1.6u L=0.4u
+M1 low b high gnd nfet W=1.6u L=0.4u
+M2 high c z gnd nfet W=1.6u L=0.4u
 M3 vdd a z vdd pfet W=1.6u L=0.4u
 M4 z b vdd vdd pfet W=1.6u L=0.4u
 M5 vdd c z vdd pfet W=1.6u L=0.4u
@@ -73,19 +73,19 @@ M0 gnd en eb gnd nfet W=1.6u L=0.4u
 M1 gnd a z gnd nfet W=1.6u L=0.4u
 M2 z eb gnd gnd nfet W=1.6u L=0.4u
 M3 vdd en eb vdd pfet W=1.6u L=0.4u
-M4 vdd a between_p28_40_2 vdd pfet W=2.4u L=0.4u
-M5 between_p28_40_2 eb z vdd pfet W=2.4u L=0.4u
+M4 vdd a mid vdd pfet W=2.4u L=0.4u
+M5 mid eb z vdd pfet W=2.4u L=0.4u
 .ENDS driver
 .SUBCKT nand2 a b z vdd gnd
-M0 gnd a between_n11_10_2 gnd nfet W=2.0u L=0.4u
-M1 between_n11_10_2 b z gnd nfet W=2.0u L=0.4u
+M0 gnd a mid gnd nfet W=2.0u L=0.4u
+M1 mid b z gnd nfet W=2.0u L=0.4u
 M2 vdd a z vdd pfet W=2.0u L=0.4u
 M3 z b vdd vdd pfet W=2.0u L=0.4u
 .ENDS nand2
 .SUBCKT nand3 a b c z vdd gnd
-M0 gnd a between_n13_10_2 gnd nfet W=2.0u L=0.4u
-M1 between_n13_10_2 b between_n13_10_3 gnd nfet W=2.0u L=0.4u
-M2 between_n13_10_3 c z gnd nfet W=2.0u L=0.4u
+M0 gnd a low gnd nfet W=2.0u L=0.4u
+M1 low b high gnd nfet W=2.0u L=0.4u
+M2 high c z gnd nfet W=2.0u L=0.4u
 M3 vdd a z vdd pfet W=2.0u L=0.4u
 M4 z b vdd vdd pfet W=2.0u L=0.4u
 M5 vdd c z vdd pfet W=2.0u L=0.4u
@@ -96,22 +96,22 @@ M1 vdd a z vdd pfet W=3.2u L=0.4u
 .ENDS inv
 .SUBCKT dff d clk q vdd gnd
 M0 d ckb m1 gnd nfet W=1.2u L=0.4u
-M1 m1 ck2 between_n4_10_4 gnd nfet W=1.2u L=0.4u
-M2 between_n4_10_4 m2 gnd gnd nfet W=1.2u L=0.4u
+M1 m1 ck2 m1n gnd nfet W=1.2u L=0.4u
+M2 m1n m2 gnd gnd nfet W=1.2u L=0.4u
 M3 gnd m1 m2 gnd nfet W=1.2u L=0.4u
 M4 m2 ck2 s1 gnd nfet W=1.2u L=0.4u
-M5 s1 ckb between_n4_10_11 gnd nfet W=1.2u L=0.4u
-M6 between_n4_10_11 q gnd gnd nfet W=1.2u L=0.4u
+M5 s1 ckb s1n gnd nfet W=1.2u L=0.4u
+M6 s1n q gnd gnd nfet W=1.2u L=0.4u
 M7 gnd s1 q gnd nfet W=1.2u L=0.4u
 M8 ckb clk gnd gnd nfet W=1.2u L=0.4u
 M9 gnd ckb ck2 gnd nfet W=1.2u L=0.4u
 M10 d clk m1 vdd pfet W=1.6u L=0.4u
-M11 m1 ckb between_p4_60_4 vdd pfet W=1.6u L=0.4u
-M12 between_p4_60_4 m2 vdd vdd pfet W=1.6u L=0.4u
+M11 m1 ckb m1p vdd pfet W=1.6u L=0.4u
+M12 m1p m2 vdd vdd pfet W=1.6u L=0.4u
 M13 vdd m1 m2 vdd pfet W=1.6u L=0.4u
 M14 m2 ckb s1 vdd pfet W=1.6u L=0.4u
-M15 s1 clk between_p4_60_11 vdd pfet W=1.6u L=0.4u
-M16 between_p4_60_11 q vdd vdd pfet W=1.6u L=0.4u
+M15 s1 clk s1p vdd pfet W=1.6u L=0.4u
+M16 s1p q vdd vdd pfet W=1.6u L=0.4u
 M17 vdd s1 q vdd pfet W=1.6u L=0.4u
 M18 ckb clk vdd vdd pfet W=1.6u L=0.4u
 M19 vdd ckb ck2 vdd pfet W=1.6u L=0.4u
