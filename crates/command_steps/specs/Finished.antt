@@ -65,26 +65,26 @@ abbrev pub IsOutOfMemory : ℕ → SinkState → SinkState → Type 0
 IsOutOfMemory ended before now = EndsCut (IsPrefixOf memory_line) ended before now ⊎ EndsClean 5 IsMemorySaid ended before now
 
 -- a failed read: status 4 and its line, by one put, or a prefix of it where the sink failed too; or 5 and nothing, where memory ran out for the line
-abbrev pub IsUnreadTold : List ℕ → ℕ → SinkState → SinkState → Type 0
-IsUnreadTold line ended before now =
+abbrev pub IsFaultLinePrinted : List ℕ → ℕ → SinkState → SinkState → Type 0
+IsFaultLinePrinted line ended before now =
     EndsWhole 4 1 line ended before now
     ⊎ (EndsCut (IsPrefixOf line) ended before now
     ⊎ EndsClean 5 (λ text. text ≡ []) ended before now)
 
 -- a file that wasn't written: its line, where the store failed, or that memory ran out
-abbrev pub IsUnwrittenTold : List ℕ → WriteFail → ℕ → SinkState → SinkState → Type 0
-IsUnwrittenTold name write.Failed = IsUnreadTold (reply_line (unwritten_words name))
-IsUnwrittenTold name write.Memory = IsOutOfMemory
+abbrev pub IsUnwrittenPrinted : List ℕ → WriteFail → ℕ → SinkState → SinkState → Type 0
+IsUnwrittenPrinted name write.Failed = IsFaultLinePrinted (reply_line (unwritten_words name))
+IsUnwrittenPrinted name write.Memory = IsOutOfMemory
 
 -- a refusal: out of memory, a failed read, or a reply
-abbrev pub IsRefusalTold : Refusal → ℕ → SinkState → SinkState → Type 0
-IsRefusalTold refusal ended before now =
+abbrev pub IsRefusalPrinted : Refusal → ℕ → SinkState → SinkState → Type 0
+IsRefusalPrinted refusal ended before now =
     ((is_memory refusal ≡ true) × IsOutOfMemory ended before now)
-    ⊎ (((is_read_failure refusal ≡ true) × IsUnreadTold (reply_line (refusal_words refusal)) ended before now)
+    ⊎ (((is_read_failure refusal ≡ true) × IsFaultLinePrinted (reply_line (refusal_words refusal)) ended before now)
     ⊎ ((is_memory refusal ≡ false) × (is_read_failure refusal ≡ false) × IsFinished (refusal_reply refusal) ended before now))
 
 -- A call of the store failed, and its line is printed, by one put: it has the name that this call had, where the store tells that.
-pub record IsFaultTold (line_of : List ℕ → List ℕ) (before now : Outside) : Type 0 where
+pub record IsFaultPrinted (line_of : List ℕ → List ℕ) (before now : Outside) : Type 0 where
   pub name : List ℕ
   pub rose : Rose before.store.faults now.store.faults
   pub named : IsNameTold now.store.failed name

@@ -1,6 +1,6 @@
 ghost use Rattle.reply_lines.specs.Lines.{reply_line};
 ghost use Rattle.reply_lines.specs.Refusals.{refusal_words};
-ghost use Rattle.command_steps.specs.Finished.{IsFinished, IsOutOfMemory, IsUnreadTold, IsUnwrittenTold, IsRefusalTold};
+ghost use Rattle.command_steps.specs.Finished.{IsFinished, IsOutOfMemory, IsFaultLinePrinted, IsUnwrittenPrinted, IsRefusalPrinted};
 ghost use Rattle.command_steps.specs.Outside.{sink_state};
 
 use crate::print::print;
@@ -39,8 +39,8 @@ pub fn finish<K: Sink>(alloc: Global, reply: &Reply, out: &mut K) -> u8
 }
 
 /// Prints the line of a fault outside, and answers its status. Where memory runs out for it, nothing is printed.
-fn tell_outside<K: Sink>(line: &ReplyLine, out: &mut K) -> u8
-    ensures { IsUnreadTold line.now result (sink_state (K.written out.old) (K.faults out.old) (K.puts out.old)) (sink_state (K.written out.new) (K.faults out.new) (K.puts out.new)) }
+fn print_outside<K: Sink>(line: &ReplyLine, out: &mut K) -> u8
+    ensures { IsFaultLinePrinted line.now result (sink_state (K.written out.old) (K.faults out.old) (K.puts out.old)) (sink_state (K.written out.new) (K.faults out.new) (K.puts out.new)) }
 {
     match out.put(line.as_bytes()) {
         Ok(()) => OUTSIDE,
@@ -51,21 +51,21 @@ fn tell_outside<K: Sink>(line: &ReplyLine, out: &mut K) -> u8
 
 /// Prints the line of a failed read. Where memory runs out for it, nothing is printed.
 fn finish_unread<K: Sink>(alloc: Global, refusal: &Refusal, out: &mut K) -> u8
-    ensures { IsUnreadTold (reply_line (refusal_words refusal.now)) result (sink_state (K.written out.old) (K.faults out.old) (K.puts out.old)) (sink_state (K.written out.new) (K.faults out.new) (K.puts out.new)) }
+    ensures { IsFaultLinePrinted (reply_line (refusal_words refusal.now)) result (sink_state (K.written out.old) (K.faults out.old) (K.puts out.old)) (sink_state (K.written out.new) (K.faults out.new) (K.puts out.new)) }
 {
     match refusal.line(alloc) {
-        Ok(line) => tell_outside(&line, out),
+        Ok(line) => print_outside(&line, out),
         Err(Memory) => NO_MEMORY,
     }
 }
 
 /// Prints the line of a file that wasn't written, where the store failed, or says that memory ran out.
 pub fn finish_unwritten<K: Sink>(alloc: Global, unwritten: &Unwritten<'_>, out: &mut K) -> u8
-    ensures { IsUnwrittenTold unwritten.now.file.now.name unwritten.now.fail result (sink_state (K.written out.old) (K.faults out.old) (K.puts out.old)) (sink_state (K.written out.new) (K.faults out.new) (K.puts out.new)) }
+    ensures { IsUnwrittenPrinted unwritten.now.file.now.name unwritten.now.fail result (sink_state (K.written out.old) (K.faults out.old) (K.puts out.old)) (sink_state (K.written out.new) (K.faults out.new) (K.puts out.new)) }
 {
     match unwritten.fail {
         WriteFail::Failed => match unwritten_line(alloc, &unwritten.file.name) {
-            Ok(line) => tell_outside(&line, out),
+            Ok(line) => print_outside(&line, out),
             Err(Memory) => NO_MEMORY,
         },
         WriteFail::Memory => no_memory(out),
@@ -74,7 +74,7 @@ pub fn finish_unwritten<K: Sink>(alloc: Global, unwritten: &Unwritten<'_>, out: 
 
 /// Prints the line of a refusal, and answers its status, or 4 or 5 where it isn't printed whole.
 pub fn refuse<K: Sink>(alloc: Global, refusal: &Refusal, out: &mut K) -> u8
-    ensures { IsRefusalTold refusal.now result (sink_state (K.written out.old) (K.faults out.old) (K.puts out.old)) (sink_state (K.written out.new) (K.faults out.new) (K.puts out.new)) }
+    ensures { IsRefusalPrinted refusal.now result (sink_state (K.written out.old) (K.faults out.old) (K.puts out.old)) (sink_state (K.written out.new) (K.faults out.new) (K.puts out.new)) }
 {
     if refusal.is_memory() {
         return no_memory(out);

@@ -1,6 +1,6 @@
 ghost use Rattle.std.specs.Prelude.{◌≡◌, ◌++◌, codes, false, IfOk, string_bytes};
 ghost use Rattle.tech_rules.specs.Facts.{IsTech};
-ghost use Rattle.command_steps.specs.File.{limit, IsFile, IsTechnologyFile};
+ghost use Rattle.command_steps.specs.File.{IsFile, IsTechnologyFile};
 ghost use Rattle.command_steps.specs.Outside.{store_state};
 ghost use Rattle.command_steps.specs.Reading.{HasRead};
 ghost use Rattle.command_steps.specs.Outcome.{is_usage_outcome};

@@ -3,3 +3,4 @@ pub mod NameLaws
 pub mod BoxLaws
 pub mod KitLaws
 pub mod TurnLaws
+pub mod ByteLaws

@@ -77,82 +77,110 @@ pub fn rails(role: Role) -> [PinBox; 2]
     }
 }
 
+// The pins besides the supplies, by role.
+
+const BITCELL: &[PinBox] = &[
+    pin_box!("bl", M2, 2, 0, 6, 32),
+    pin_box!("br", M2, 26, 0, 30, 32),
+    pin_box!("wl", M1, 0, 14, 32, 18),
+];
+
+const PRECHARGE: &[PinBox] = &[
+    pin_box!("bl", M2, 2, 0, 6, 20),
+    pin_box!("br", M2, 26, 0, 30, 20),
+    pin_box!("en_bar", M3, 2, 14, 6, 18),
+];
+
+const MUX: &[PinBox] = &[
+    pin_box!("bl", M2, 2, 20, 6, 32),
+    pin_box!("br", M2, 26, 20, 30, 32),
+    pin_box!("blo", M4, 2, 0, 6, 8),
+    pin_box!("bro", M4, 26, 0, 30, 8),
+    pin_box!("sel", M4, 14, 0, 18, 8),
+];
+
+const TIE: &[PinBox] = &[
+    pin_box!("bl", M2, 2, 12, 6, 32),
+    pin_box!("bl", M4, 2, 0, 6, 16),
+    pin_box!("br", M2, 26, 12, 30, 32),
+    pin_box!("br", M4, 26, 0, 30, 16),
+];
+
+const SENSE: &[PinBox] = &[
+    pin_box!("bl", M2, 2, 0, 6, 32),
+    pin_box!("br", M2, 26, 0, 30, 32),
+    pin_box!("dout", M4, 10, 0, 14, 8),
+    pin_box!("en", M3, 14, 14, 18, 18),
+];
+
+const WRITE: &[PinBox] = &[
+    pin_box!("din", M4, 2, 0, 6, 8),
+    pin_box!("bl", M2, 2, 20, 6, 32),
+    pin_box!("br", M2, 26, 20, 30, 32),
+    pin_box!("en", M4, 18, 0, 22, 8),
+];
+
+const ROW_NAND2: &[PinBox] = &[
+    pin_box!("a", M3, 2, 2, 6, 6),
+    pin_box!("b", M3, 2, 10, 6, 14),
+    pin_box!("z", M1, 20, 14, 32, 18),
+];
+
+const ROW_NAND3: &[PinBox] = &[
+    pin_box!("a", M3, 2, 2, 6, 6),
+    pin_box!("b", M3, 2, 10, 6, 14),
+    pin_box!("c", M3, 2, 18, 6, 22),
+    pin_box!("z", M1, 20, 14, 32, 18),
+];
+
+const DRIVER: &[PinBox] = &[
+    pin_box!("a", M1, 0, 14, 12, 18),
+    pin_box!("en", M3, 2, 26, 6, 30),
+    pin_box!("z", M1, 20, 14, 32, 18),
+];
+
+const NAND2: &[PinBox] = &[
+    pin_box!("a", M2, 2, 20, 6, 32),
+    pin_box!("b", M2, 10, 20, 14, 32),
+    pin_box!("z", M2, 18, 20, 22, 32),
+];
+
+const NAND3: &[PinBox] = &[
+    pin_box!("a", M2, 2, 20, 6, 32),
+    pin_box!("b", M2, 10, 20, 14, 32),
+    pin_box!("c", M2, 18, 20, 22, 32),
+    pin_box!("z", M2, 26, 20, 30, 32),
+];
+
+const DFF: &[PinBox] = &[
+    pin_box!("d", M2, 2, 20, 6, 32),
+    pin_box!("clk", M2, 10, 20, 14, 32),
+    pin_box!("q", M2, 18, 20, 22, 32),
+];
+
+const INVERTER: &[PinBox] = &[
+    pin_box!("a", M2, 2, 20, 6, 32),
+    pin_box!("z", M2, 10, 20, 14, 32),
+];
+
 /// The pins besides the supplies.
 pub fn signals(role: Role) -> &'static [PinBox]
     ensures { map drawn result.now ≡ spec.signal_pins role }
 {
     match role {
-        Role::Bitcell => &[
-            pin_box!("bl", M2, 2, 0, 6, 32),
-            pin_box!("br", M2, 26, 0, 30, 32),
-            pin_box!("wl", M1, 0, 14, 32, 18),
-        ],
-        Role::Precharge => &[
-            pin_box!("bl", M2, 2, 0, 6, 20),
-            pin_box!("br", M2, 26, 0, 30, 20),
-            pin_box!("en_bar", M3, 2, 14, 6, 18),
-        ],
-        Role::Mux => &[
-            pin_box!("bl", M2, 2, 20, 6, 32),
-            pin_box!("br", M2, 26, 20, 30, 32),
-            pin_box!("blo", M4, 2, 0, 6, 8),
-            pin_box!("bro", M4, 26, 0, 30, 8),
-            pin_box!("sel", M4, 14, 0, 18, 8),
-        ],
-        Role::Tie => &[
-            pin_box!("bl", M2, 2, 12, 6, 32),
-            pin_box!("bl", M4, 2, 0, 6, 16),
-            pin_box!("br", M2, 26, 12, 30, 32),
-            pin_box!("br", M4, 26, 0, 30, 16),
-        ],
-        Role::Sense => &[
-            pin_box!("bl", M2, 2, 0, 6, 32),
-            pin_box!("br", M2, 26, 0, 30, 32),
-            pin_box!("dout", M4, 10, 0, 14, 8),
-            pin_box!("en", M3, 14, 14, 18, 18),
-        ],
-        Role::Write => &[
-            pin_box!("din", M4, 2, 0, 6, 8),
-            pin_box!("bl", M2, 2, 20, 6, 32),
-            pin_box!("br", M2, 26, 20, 30, 32),
-            pin_box!("en", M4, 18, 0, 22, 8),
-        ],
-        Role::RowNand2 => &[
-            pin_box!("a", M3, 2, 2, 6, 6),
-            pin_box!("b", M3, 2, 10, 6, 14),
-            pin_box!("z", M1, 20, 14, 32, 18),
-        ],
-        Role::RowNand3 => &[
-            pin_box!("a", M3, 2, 2, 6, 6),
-            pin_box!("b", M3, 2, 10, 6, 14),
-            pin_box!("c", M3, 2, 18, 6, 22),
-            pin_box!("z", M1, 20, 14, 32, 18),
-        ],
-        Role::Driver => &[
-            pin_box!("a", M1, 0, 14, 12, 18),
-            pin_box!("en", M3, 2, 26, 6, 30),
-            pin_box!("z", M1, 20, 14, 32, 18),
-        ],
-        Role::Nand2 => &[
-            pin_box!("a", M2, 2, 20, 6, 32),
-            pin_box!("b", M2, 10, 20, 14, 32),
-            pin_box!("z", M2, 18, 20, 22, 32),
-        ],
-        Role::Nand3 => &[
-            pin_box!("a", M2, 2, 20, 6, 32),
-            pin_box!("b", M2, 10, 20, 14, 32),
-            pin_box!("c", M2, 18, 20, 22, 32),
-            pin_box!("z", M2, 26, 20, 30, 32),
-        ],
-        Role::Dff => &[
-            pin_box!("d", M2, 2, 20, 6, 32),
-            pin_box!("clk", M2, 10, 20, 14, 32),
-            pin_box!("q", M2, 18, 20, 22, 32),
-        ],
-        Role::Inv | Role::Delay => &[
-            pin_box!("a", M2, 2, 20, 6, 32),
-            pin_box!("z", M2, 10, 20, 14, 32),
-        ],
+        Role::Bitcell => BITCELL,
+        Role::Precharge => PRECHARGE,
+        Role::Mux => MUX,
+        Role::Tie => TIE,
+        Role::Sense => SENSE,
+        Role::Write => WRITE,
+        Role::RowNand2 => ROW_NAND2,
+        Role::RowNand3 => ROW_NAND3,
+        Role::Driver => DRIVER,
+        Role::Nand2 => NAND2,
+        Role::Nand3 => NAND3,
+        Role::Dff => DFF,
+        Role::Inv | Role::Delay => INVERTER,
     }
 }
 

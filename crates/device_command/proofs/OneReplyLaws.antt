@@ -1,5 +1,5 @@
 -- Leaf cells have one answer, or one refusal.
-use Rattle.std.proofs.Common.{◌≡◌, ◌≢◌, ◌<◌, sym, ap, subst, ◌∙◌, arith}
+use Rattle.std.proofs.Common.{◌≢◌, ◌<◌, sym, ap, subst, ◌∙◌, arith}
 use Rattle.std.specs.List.{AllByRecursion}
 use Rattle.gds_library.specs.Writable.{IsWritableCell}
 use Rattle.device_lvs.specs.declared.fault.DeviceFault.{DeviceFault}

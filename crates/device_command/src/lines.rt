@@ -66,6 +66,24 @@ struct Transistor<'a> {
     high: &'a Name,
 }
 
+/// A transistor of these names.
+fn transistor_of<'a>(
+    model: &'a Name,
+    gate: &'a Name,
+    low: &'a Name,
+    high: &'a Name,
+) -> Transistor<'a>
+    ensures of { (result.model.now ≡ model.now) × (result.gate.now ≡ gate.now) }
+    ensures between { (result.low.now ≡ low.now) × (result.high.now ≡ high.now) }
+{
+    Transistor {
+        model,
+        gate,
+        low,
+        high,
+    }
+}
+
 /// A line of a transistor.
 fn transistor_line(
     alloc: Global,
@@ -101,30 +119,19 @@ fn device_line(alloc: Global, difference: &DeviceDiff) -> Result<ReplyLine, Memo
             gate,
             low,
             high,
-        } => {
-            let transistor = Transistor {
-                model,
-                gate,
-                low,
-                high,
-            };
-            transistor_line(alloc, b"Absent", role, transistor)
-        }
+        } => transistor_line(
+            alloc,
+            b"Absent",
+            role,
+            transistor_of(model, gate, low, high),
+        ),
         DeviceDiff::Extra {
             role,
             model,
             gate,
             low,
             high,
-        } => {
-            let transistor = Transistor {
-                model,
-                gate,
-                low,
-                high,
-            };
-            transistor_line(alloc, b"Extra", role, transistor)
-        }
+        } => transistor_line(alloc, b"Extra", role, transistor_of(model, gate, low, high)),
     }
 }
 

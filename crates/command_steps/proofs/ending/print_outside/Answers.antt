@@ -1,6 +1,6 @@
 use Rattle.std.proofs.Common.{inl, inr, refl}
 use Rattle.command_steps.proofs.PrintLaws.{put_cut}
-use Rattle.command_steps.proofs.ending.tell_outside.Goals as goal
+use Rattle.command_steps.proofs.ending.print_outside.Goals as goal
 
 pub returns-in-Err-Failed : goal.returns-in-Err-Failed
 returns-in-Err-Failed g c =
