@@ -3,5 +3,6 @@ mod StepLaws
 mod WriteLaws
 mod RunLaws
 mod NameLaws
+mod DemoByteLaws
 pub mod OneDesignLaws
 pub mod OneWorkLaws

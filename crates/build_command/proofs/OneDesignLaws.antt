@@ -1,5 +1,5 @@
 -- Files ask for one design, or are refused in one way.
-use Rattle.std.proofs.Common.{◌≡◌, ◌≢◌, inl, inr, ℕ, ◌<◌, ◌≤◌, ◌^◌, List, ◌++◌, length, Result, Ok, Err, refl, sym, ap, subst, ◌∙◌, arith}
+use Rattle.std.proofs.Common.{◌≡◌, ◌≢◌, ℕ, ◌<◌, ◌≤◌, ◌^◌, List, ◌++◌, length, Ok, refl, sym, ap, subst, ◌∙◌, arith}
 use Rattle.std.specs.Prelude.{codes}
 use Rattle.gds_records.specs.Bytes.{AreBytes}
 use Rattle.gds_library.specs.declared.fault.GdsFault.{GdsFault}
@@ -20,7 +20,6 @@ use Rattle.leaf_tables.specs.declared.kit.Kit.{Kit}
 use Rattle.leaf_tables.specs.Faults.{IsKitFault, IsSpelled}
 use Rattle.leaf_tables.specs.Kits.{IsKitOf}
 use Rattle.kit_laws.proofs.OneKitLaws.{one_kit, one_kit_fault, no_kit_beside}
-use Rattle.reply_lines.specs.declared.refusal.Refusal.{Refusal}
 use Rattle.reply_lines.specs.declared.refusal.Refusal.TheVariants as refusal_of
 use Rattle.command_steps.specs.File.{IsFile, IsTechnologyFile}
 use Rattle.command_steps.specs.Once.{IsLow, IsOnce}
@@ -78,7 +77,7 @@ module _ (files : Files) (hold : HoldBytes files) where
       let layout = name ++ codes ".gds" in
       on_then (IsLeafLayoutFile files layout) (IsKitOver files name tech) (on_layout_file files layout) (λ gds made. on_kit_over files name tech gds (layout_bytes layout gds made) (layout_short layout gds made))
 
-  on_kit_under : (name : List ℕ) → IsOnce (IsKitUnder files name)
+  pub on_kit_under : (name : List ℕ) → IsOnce (IsKitUnder files name)
   on_kit_under name =
       on_then (IsTechnologyFile files (name ++ codes ".toml")) (IsKitWith files name) (on_tech_file files (name ++ codes ".toml")) (λ tech made. on_kit_with name tech)
 

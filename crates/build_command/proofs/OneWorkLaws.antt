@@ -1,5 +1,5 @@
--- What files ask for is made in one way, or refused in one way; and a run that ends below 4 tells it.
-use Rattle.std.proofs.Common.{◌≡◌, ◌≢◌, inl, inr, ℕ, ◌<◌, List, [], ◌∷◌, ◌++◌, Result, Ok, Err, refl, sym, ap, subst, ◌∙◌, arith}
+-- What files ask for is made in one way, or refused in one way; and a run that ends below 4 ends with it.
+use Rattle.std.proofs.Common.{◌≡◌, ◌≢◌, inl, inr, ℕ, ◌<◌, List, [], ◌∷◌, ◌++◌, Result, Ok, Err, sym, subst, ◌∙◌, arith}
 use Rattle.std.specs.Prelude.{codes}
 use Rattle.std.specs.Fmt.{decimal, signed_decimal}
 use Rattle.or_host.specs.Files.{Files}
@@ -15,19 +15,20 @@ use Rattle.macro_laws.specs.OneBuild.{AreSameViews}
 use Rattle.macro_laws.proofs.OneBuildLaws.{one_build, one_build_fault, no_build_beside}
 use Rattle.reply_lines.specs.Lines.{reply_line}
 use Rattle.reply_lines.specs.declared.refusal.Refusal.{Refusal}
-use Rattle.reply_lines.specs.declared.refusal.Refusal.TheVariants as refusal_of
 use Rattle.command_steps.proofs.OnceLaws.{on_fault, on_then}
 use Rattle.command_steps.proofs.OutcomeLaws.{told_map}
 use Rattle.command_steps.specs.Once.{IsDecided, IsLow, IsOnce}
-use Rattle.command_steps.specs.Outside.{IfTold, Outside}
+use Rattle.command_steps.specs.Outside.{Outside}
 use Rattle.build_command.specs.declared.design.Design.{Design}
 use Rattle.build_command.specs.declared.made.Made.{Made}
 use Rattle.build_command.specs.Design.{IsDesign}
 use Rattle.build_command.specs.Held.{config_name, files_seen}
-use Rattle.build_command.specs.Made.{IsDesignMade, IsMadeOf, IsWork, count_words, made_of, refusal_in, view_name}
-use Rattle.build_command.specs.OneDesign.{EndsWith, HoldBytes, TellsWork, WorkIsTold, WorksAreOne}
-use Rattle.build_command.specs.Run.{IsMakingRun, IsMakingWork}
+use Rattle.build_command.specs.Made.{IsDesignMade, IsMadeOf, count_words, made_of, refusal_in, view_name}
+use Rattle.build_command.specs.OneDesign.{BytesAsked, EndsWith, HoldBytes, RunsEndAsWork, WorksAreOne}
+use Rattle.build_command.specs.Run.{IsMakingWork}
 use Rattle.build_command.specs.Words.{Making}
+use Rattle.build_command.specs.Words.Making.{build, demo}
+use Rattle.build_command.proofs.DemoByteLaws.{demo_files_hold_bytes}
 use Rattle.build_command.proofs.OneDesignLaws.{designs_are_one}
 
 -- the same views make the same files and line
@@ -66,25 +67,29 @@ has_kit files name design is = let under = is.2.2 in subst (λ (d : Design). IsK
 pub works_are_one : WorksAreOne
 works_are_one files name hold = on_then (IsDesign files name) IsDesignMade (designs_are_one files name hold) (λ design is. on_made design (has_kit files name design is))
 
--- what a run tells
+-- what a run ends with
+
+seen_bytes : (m : Making) (files : Files) → BytesAsked m files → HoldBytes (files_seen m files)
+seen_bytes (build config) files hold = hold
+seen_bytes (demo n) files asked = demo_files_hold_bytes n
 
 -- whatever the files ask for, the run ended with that
-abbrev Tells : Making → ℕ → Outside → Outside → Result Made Refusal → Files → Type 0
-Tells m status before now result files = HoldBytes (files_seen m files) → IsMakingWork m files result → EndsWith m status before now result
+abbrev EndsSo : Making → ℕ → Outside → Outside → Result Made Refusal → Files → Type 0
+EndsSo m status before now result files = BytesAsked m files → IsMakingWork m files result → EndsWith m status before now result
 
-tells : (m : Making) (status : ℕ) (before now : Outside) (result other : Result Made Refusal) → IsDecided result → IsDecided other → EndsWith m status before now other → (files : Files) → IsMakingWork m files other → Tells m status before now result files
-tells m status before now result other decided also ends files work hold wanted =
-    subst (EndsWith m status before now) (works_are_one (files_seen m files) (config_name m) hold other result also decided work wanted) ends
+ends_so : (m : Making) (status : ℕ) (before now : Outside) (result other : Result Made Refusal) → IsDecided result → IsDecided other → EndsWith m status before now other → (files : Files) → IsMakingWork m files other → EndsSo m status before now result files
+ends_so m status before now result other decided also ends files work asked wanted =
+    subst (EndsWith m status before now) (works_are_one (files_seen m files) (config_name m) (seen_bytes m files asked) other result also decided work wanted) ends
 
-pub work_is_told : WorkIsTold
-work_is_told m status before now run result decided below = elim (run.kinds below) [
+pub runs_end_as_work : RunsEndAsWork
+runs_end_as_work m status before now run result decided below = elim (run.kinds below) [
   | inl zero ↦
       let done = run.done zero in
-      told_map before.store.files (λ files. IsMakingWork m files (Ok done.made)) (Tells m status before now result)
-      (tells m status before now result (Ok done.made) decided tt (record { is = zero; files = done.files; printed = done.printed })) done.work
+      told_map before.store.files (λ files. IsMakingWork m files (Ok done.made)) (EndsSo m status before now result)
+      (ends_so m status before now result (Ok done.made) decided tt (record { is = zero; files = done.files; printed = done.printed })) done.work
   | inr three ↦
       let refused = run.refused three in
       let input = refused.is_input in
-      told_map before.store.files (λ files. IsMakingWork m files (Err refused.refusal)) (Tells m status before now result)
-      (tells m status before now result (Err refused.refusal) decided (omega (arith, input)) (record { is = three; files = refused.files; printed = refused.printed })) refused.work
+      told_map before.store.files (λ files. IsMakingWork m files (Err refused.refusal)) (EndsSo m status before now result)
+      (ends_so m status before now result (Err refused.refusal) decided (omega (arith, input)) (record { is = three; files = refused.files; printed = refused.printed })) refused.work
 ]

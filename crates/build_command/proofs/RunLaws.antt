@@ -15,7 +15,7 @@ use Rattle.reply_lines.specs.declared.refusal.Refusal.{Refusal}
 use Rattle.reply_lines.specs.declared.refusal.Refusal.TheVariants.{ReadFailed}
 use Rattle.command_steps.proofs.EndLaws.{grows}
 use Rattle.command_steps.proofs.OutcomeLaws.{told_all, told_map, no_name, names_on}
-use Rattle.command_steps.specs.Finished.{IsFinished, IsOutOfMemory, IsUnreadTold, IsUnwrittenTold, IsRefusalTold, IsFaultTold, unread_line, unwritten_line}
+use Rattle.command_steps.specs.Finished.{IsFinished, IsOutOfMemory, IsFaultLinePrinted, IsUnwrittenPrinted, IsRefusalPrinted, IsFaultPrinted, unread_line, unwritten_line}
 use Rattle.command_steps.specs.Outcome.{UnlessMemory, unread_name}
 use Rattle.command_steps.specs.Outside.{Outside, SinkState, StoreState, outside_at}
 use Rattle.command_steps.specs.Printed.{IsWholeText}
@@ -25,7 +25,7 @@ use Rattle.build_command.specs.declared.made.Made.{Made}
 use Rattle.build_command.specs.Demonstration.{demo_files}
 use Rattle.build_command.specs.Made.{IsWork}
 use Rattle.build_command.specs.Held.{first_files}
-use Rattle.build_command.specs.Run.{IsMakingWork, IsWriteCut, IsPutOut, IsDemoBuilt, IsDemoWritten, IsWorkRefused, IsViewCut, IsPut, IsMakingEnd, IsMakingFaultTold, IsMakingRun}
+use Rattle.build_command.specs.Run.{IsMakingWork, IsWriteCut, IsPutOut, IsDemoBuilt, IsDemoWritten, IsWorkRefused, IsViewCut, IsPut, IsMakingEnd, IsMakingFaultPrinted, IsMakingRun}
 use Rattle.build_command.specs.Words.{Making}
 use Rattle.build_command.specs.Words.Making.{build, demo}
 use Rattle.build_command.proofs.HeldLaws.{told_held}
@@ -37,10 +37,10 @@ pub record IsHighEnd (status : ℕ) (before now : Outside) : Type 0 where
   pub high : 4 ≤ status
   pub range : status < 6
   pub fault : status ≡ 4 → Rose before.store.faults now.store.faults ⊎ Rose before.sink.faults now.sink.faults
-  pub named : status ≡ 4 → IsMakingFaultTold before now
+  pub named : status ≡ 4 → IsMakingFaultPrinted before now
   pub memory_clean : status ≡ 5 → now.sink.faults ≡ before.sink.faults
 
-four_end : (status : ℕ) (before now : Outside) → status ≡ 4 → Rose before.store.faults now.store.faults ⊎ Rose before.sink.faults now.sink.faults → IsMakingFaultTold before now → IsHighEnd status before now
+four_end : (status : ℕ) (before now : Outside) → status ≡ 4 → Rose before.store.faults now.store.faults ⊎ Rose before.sink.faults now.sink.faults → IsMakingFaultPrinted before now → IsHighEnd status before now
 four_end status before now is rose named = record { high = omega (arith, is); range = omega (arith, is); fault = λ four. rose; named = λ four. named; memory_clean = λ five. absurd (omega (arith, is, five)) }
 
 five_end : (status : ℕ) (before now : Outside) → status ≡ 5 → now.sink.faults ≡ before.sink.faults → IsHighEnd status before now
@@ -51,24 +51,24 @@ out_end status before now (inl cut) = four_end status before now cut.is (inr cut
 out_end status before now (inr said) = five_end status before now said.is said.kept
 
 -- a call of this name failed, and its line is printed, or part of it
-module _ (line_of : List ℕ → List ℕ) (before now : Outside) (kind : IsFaultTold line_of before now → IsMakingFaultTold before now) where
-  fault_end : (name : List ℕ) (status : ℕ) → Rose before.store.faults now.store.faults → IsNameTold now.store.failed name → IsUnreadTold (line_of name) status before.sink now.sink → IsHighEnd status before now
+module _ (line_of : List ℕ → List ℕ) (before now : Outside) (kind : IsFaultPrinted line_of before now → IsMakingFaultPrinted before now) where
+  fault_end : (name : List ℕ) (status : ℕ) → Rose before.store.faults now.store.faults → IsNameTold now.store.failed name → IsFaultLinePrinted (line_of name) status before.sink now.sink → IsHighEnd status before now
   fault_end name status rose named (inl whole) = four_end status before now whole.is (inl rose) (kind (record { name = name; rose = rose; named = named; printed = whole.text; put = whole.puts }))
   fault_end name status rose named (inr (inl cut)) = four_end status before now cut.is (inl rose) (inl cut.rose)
   fault_end name status rose named (inr (inr silent)) = five_end status before now silent.is silent.kept
 
 unread_end : (refusal : Refusal) (status : ℕ) (before now : Outside) → is_read_failure refusal ≡ true → Rose before.store.faults now.store.faults
-    → NamesLast (unread_name refusal) before.store.failed now.store.failed → IsUnreadTold (reply_line (refusal_words refusal)) status before.sink now.sink → IsHighEnd status before now
-unread_end (ReadFailed name) status before now failed rose named told = fault_end unread_line before now (λ is. inr (inl is)) name status rose named told
-unread_end other status before now failed rose named told = absurd cc
+    → NamesLast (unread_name refusal) before.store.failed now.store.failed → IsFaultLinePrinted (reply_line (refusal_words refusal)) status before.sink now.sink → IsHighEnd status before now
+unread_end (ReadFailed name) status before now failed rose named printed = fault_end unread_line before now (λ is. inr (inl is)) name status rose named printed
+unread_end other status before now failed rose named printed = absurd cc
 
 unwritten_end : (name : List ℕ) (fail : WriteFail) (status : ℕ) (before now : Outside) → HasCause before.store.faults now.store.faults (is_write_failure fail)
-    → NamesLast (name_if (is_write_failure fail) name) before.store.failed now.store.failed → IsUnwrittenTold name fail status before.sink now.sink → IsHighEnd status before now
-unwritten_end name write.Failed status before now cause named told = fault_end unwritten_line before now (λ is. inr (inr is)) name status (cause.rose refl) named told
-unwritten_end name write.Memory status before now cause named told = out_end status before now told
+    → NamesLast (name_if (is_write_failure fail) name) before.store.failed now.store.failed → IsUnwrittenPrinted name fail status before.sink now.sink → IsHighEnd status before now
+unwritten_end name write.Failed status before now cause named printed = fault_end unwritten_line before now (λ is. inr (inr is)) name status (cause.rose refl) named printed
+unwritten_end name write.Memory status before now cause named printed = out_end status before now printed
 
 cut_end : (list : List MemFile) (status : ℕ) (before now : Outside) → IsWriteCut list status before now → IsHighEnd status before now
-cut_end list status before now cut = unwritten_end cut.file.name cut.fail status before now cut.cause cut.named cut.told
+cut_end list status before now cut = unwritten_end cut.file.name cut.fail status before now cut.cause cut.named cut.printed
 
 -- a run that ends so
 high_run : (m : Making) (status : ℕ) (before now : Outside) → IsHighEnd status before now → IsMakingEnd m status before now → IsMakingRun m status before now
@@ -93,7 +93,7 @@ three false true c e f g = absurd cc
 three false false true e f g = absurd cc
 three false false false e f g = refl
 
-refused_end : (m : Making) (status : ℕ) (before now : Outside) (r : IsWorkRefused m status before now) → IsRefusalTold r.refusal status before.sink now.sink → IsMakingRun m status before now
+refused_end : (m : Making) (status : ℕ) (before now : Outside) (r : IsWorkRefused m status before now) → IsRefusalPrinted r.refusal status before.sink now.sink → IsMakingRun m status before now
 refused_end m status before now r (inl memory) = high_run m status before now (out_end status before now memory.1) (inr (inr (inl r)))
 refused_end m status before now r (inr (inl unread)) = high_run m status before now (unread_end r.refusal status before now unread.0 (r.cause.rose unread.0) r.named unread.1) (inr (inr (inl r)))
 refused_end m status before now r (inr (inr (some, read, inl whole))) =
@@ -122,7 +122,7 @@ refused_end m status before now r (inr (inr (some, read, inr (inl cut)))) = high
 refused_end m status before now r (inr (inr (some, read, inr (inr stopped)))) = high_run m status before now (five_end status before now stopped.is stopped.kept) (inr (inr (inl r)))
 
 refused_run : (m : Making) (status : ℕ) (before now : Outside) → IsWorkRefused m status before now → IsMakingRun m status before now
-refused_run m status before now r = refused_end m status before now r r.told
+refused_run m status before now r = refused_end m status before now r r.printed
 
 put_end : (m : Making) (status : ℕ) (before now : Outside) (p : IsPut m status before now) → IsFinished p.made.reply status before.sink now.sink → IsMakingRun m status before now
 put_end m status before now p (inl whole) =
@@ -143,15 +143,15 @@ put_end m status before now p (inr (inl cut)) = high_run m status before now (fo
 put_end m status before now p (inr (inr stopped)) = high_run m status before now (five_end status before now stopped.is stopped.kept) (inr (inr (inr (inr p))))
 
 put_run : (m : Making) (status : ℕ) (before now : Outside) → IsPut m status before now → IsMakingRun m status before now
-put_run m status before now p = put_end m status before now p p.told
+put_run m status before now p = put_end m status before now p p.printed
 
 view_run : (m : Making) (status : ℕ) (before now : Outside) → IsViewCut m status before now → IsMakingRun m status before now
 view_run m status before now v = high_run m status before now (cut_end _ status before now v.cut) (inr (inr (inr (inl v))))
 
 -- memory ran out before anything was written
 pub unstarted_run : (m : Making) (status : ℕ) (store : StoreState) (before now : SinkState) → IsOutOfMemory status before now → IsMakingRun m status (outside_at store before) (outside_at store now)
-unstarted_run m status store before now told =
-    high_run m status (outside_at store before) (outside_at store now) (out_end status (outside_at store before) (outside_at store now) told) (inl (record { same = refl; told = told }))
+unstarted_run m status store before now printed =
+    high_run m status (outside_at store before) (outside_at store now) (out_end status (outside_at store before) (outside_at store now) printed) (inl (record { same = refl; printed = printed }))
 
 -- one of the first files couldn't be written
 pub first_run : (m : Making) (status : ℕ) (before now : Outside) → IsWriteCut (first_files m) status before now → IsMakingRun m status before now
@@ -159,11 +159,11 @@ first_run m status before now cut = high_run m status before now (cut_end (first
 
 -- a build whose work ended with a refusal
 pub build_refused : (config : List ℕ) (refusal : Refusal) (status : ℕ) (before now : StoreState) (start end : SinkState)
-    → HasRead (λ files. IsWork files config) (Err refusal) before now → is_usage refusal ≡ false → IsRefusalTold refusal status start end
+    → HasRead (λ files. IsWork files config) (Err refusal) before now → is_usage refusal ≡ false → IsRefusalPrinted refusal status start end
     → IsMakingRun (build config) status (outside_at before start) (outside_at now end)
-build_refused config refusal status before now start end read usage told =
+build_refused config refusal status before now start end read usage printed =
     refused_run (build config) status (outside_at before start) (outside_at now end)
-    (record { refusal = refusal; no_usage = usage; reads = tt; work = read.told; files = told_same before.files now.files read.same; cause = read.cause; named = read.named; told = told })
+    (record { refusal = refusal; no_usage = usage; reads = tt; work = read.told; files = told_same before.files now.files read.same; cause = read.cause; named = read.named; printed = printed })
 
 -- a build whose work made views
 pub build_put : (config : List ℕ) (made : Made) (status : ℕ) (before mid : StoreState) (start : SinkState) (now : Outside)
@@ -179,7 +179,7 @@ build_put config made status before mid start now read success (inl cut) =
         files = subst (λ (o : Option Files). Told (EndsAt made.views cut.file cut.fail) o now.store.files) read.same cut.files;
         cause = subst (λ (n : ℕ). HasCause n now.store.faults (is_write_failure cut.fail)) (read.cause.kept refl) cut.cause;
         named = names_on (name_if (is_write_failure cut.fail) cut.file.name) before.failed mid.failed now.store.failed read.named cut.named;
-        told = cut.told;
+        printed = cut.printed;
       };
     })
 build_put config made status before mid start now read success (inr all) =
@@ -190,7 +190,7 @@ build_put config made status before mid start now read success (inr all) =
       files = subst (λ (o : Option Files). Told (AreWritten made.views) o now.store.files) read.same all.files;
       kept = all.kept ∙ read.cause.kept refl;
       unnamed = all.unnamed ∙ read.named;
-      told = all.told;
+      printed = all.printed;
     })
 
 demo_put : (n : ℕ) (status : ℕ) (before mid : StoreState) (start : SinkState) (now : Outside)
@@ -207,7 +207,7 @@ demo_put n status before mid start now written kept unnamed made success work (i
         files = told_cut (demo_files n) made.views cut.file cut.fail before.files mid.files now.store.files written cut.files;
         cause = subst (λ (k : ℕ). HasCause k now.store.faults (is_write_failure cut.fail)) kept cut.cause;
         named = names_on (name_if (is_write_failure cut.fail) cut.file.name) before.failed mid.failed now.store.failed unnamed cut.named;
-        told = cut.told;
+        printed = cut.printed;
       };
     })
 demo_put n status before mid start now written kept unnamed made success work (inr all) =
@@ -218,7 +218,7 @@ demo_put n status before mid start now written kept unnamed made success work (i
       files = told_then (demo_files n) made.views before.files mid.files now.store.files written all.files;
       kept = all.kept ∙ kept;
       unnamed = all.unnamed ∙ unnamed;
-      told = all.told;
+      printed = all.printed;
     })
 
 -- a demonstration whose files are written
@@ -237,7 +237,7 @@ demo_built n status before mid start now written kept unnamed (inr r) =
       cause = subst (λ (s : StoreState). HasCause before.faults s.faults (is_read_failure r.refusal)) (sym store) (kept_cause before.faults mid.faults (is_read_failure r.refusal) kept r.no_read);
       named = subst (λ (s : StoreState). NamesLast (unread_name r.refusal) before.failed s.failed) (sym store)
           (subst (λ (name : Option (List ℕ)). NamesLast name before.failed mid.failed) (sym (no_name r.refusal r.no_read)) unnamed);
-      told = r.told;
+      printed = r.printed;
     })
 
 -- a demonstration whose files are made

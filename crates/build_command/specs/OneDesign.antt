@@ -1,25 +1,37 @@
 -- That files ask for one design, which is made in one way, or are refused in one way.
 use Rattle.std.specs.Prelude.{◌≡◌, ℕ, ◌<◌, List, ◌++◌, Some, Result, Ok, Err}
 use Rattle.gds_records.specs.Bytes.{AreBytes}
+use Rattle.or_host.specs.FileList.{files_of}
 use Rattle.or_host.specs.Files.{Files, Told}
 use Rattle.or_host.specs.Text.{Grows}
 use Rattle.reply_lines.specs.Lines.{lines_text, reply_line}
 use Rattle.reply_lines.specs.Refusals.{refusal_words}
 use Rattle.reply_lines.specs.declared.refusal.Refusal.{Refusal}
-use Rattle.command_steps.specs.Once.{IsDecided, IsLow, IsOnce}
+use Rattle.command_steps.specs.Once.{IsDecided, IsOnce}
 use Rattle.command_steps.specs.Outside.{IfTold, Outside}
 use Rattle.command_steps.specs.Printed.{IsWholeText}
 use Rattle.command_steps.specs.Writing.{AreWritten}
 use Rattle.build_command.specs.declared.made.Made.{Made}
+use Rattle.build_command.specs.Demonstration.{demo_files}
 use Rattle.build_command.specs.Design.{IsDesign}
 use Rattle.build_command.specs.Made.{IsWork}
-use Rattle.build_command.specs.Held.{config_name, files_seen, first_files}
+use Rattle.build_command.specs.Held.{first_files}
 use Rattle.build_command.specs.Run.{IsMakingRun, IsMakingWork}
 use Rattle.build_command.specs.Words.{Making}
+use Rattle.build_command.specs.Words.Making.{build, demo}
 
 -- what stands in the files is bytes
 abbrev pub HoldBytes : Files → Type 0
 HoldBytes files = (name bytes : List ℕ) → files name ≡ Some bytes → AreBytes bytes
+
+-- the files of each demonstration do
+abbrev pub DemoFilesHoldBytes : Type 0
+DemoFilesHoldBytes = (n : ℕ) → HoldBytes (files_of (demo_files n))
+
+-- so bytes are asked for of the files of a build alone
+abbrev pub BytesAsked : Making → Files → Type 0
+BytesAsked (build config) files = HoldBytes files
+BytesAsked (demo n) files = Unit {0}
 
 -- the file of a name asks for one design, or what it names is refused in one way
 abbrev pub DesignsAreOne : Type 0
@@ -45,12 +57,12 @@ abbrev pub EndsWith : Making → ℕ → Outside → Outside → Result Made Ref
 EndsWith m status before now (Ok made) = EndsMade m made status before now
 EndsWith m status before now (Err refusal) = EndsRefused m refusal status before now
 
--- Over told files of bytes: whatever the work on them ends with, failed reads and want of memory aside, a status below 4, the files at
--- the end and the printed line are those of it.
-abbrev pub TellsWork : Making → ℕ → Outside → Outside → Type 0
-TellsWork m status before now = (result : Result Made Refusal) → IsDecided result → status < 4
-    → IfTold before.store.files (λ files. HoldBytes (files_seen m files) → IsMakingWork m files result → EndsWith m status before now result)
+-- Over told files, those of a build being bytes: whatever the work on them ends with, failed reads and want of memory aside, a status
+-- below 4, the files at the end and the printed line are those of it.
+abbrev pub EndsAsWork : Making → ℕ → Outside → Outside → Type 0
+EndsAsWork m status before now = (result : Result Made Refusal) → IsDecided result → status < 4
+    → IfTold before.store.files (λ files. BytesAsked m files → IsMakingWork m files result → EndsWith m status before now result)
 
 -- each run of a build or a demonstration does so
-abbrev pub WorkIsTold : Type 0
-WorkIsTold = (m : Making) (status : ℕ) (before now : Outside) → IsMakingRun m status before now → TellsWork m status before now
+abbrev pub RunsEndAsWork : Type 0
+RunsEndAsWork = (m : Making) (status : ℕ) (before now : Outside) → IsMakingRun m status before now → EndsAsWork m status before now

@@ -1,5 +1,5 @@
 -- How a build and a demonstration end: the status, and the outside before and after.
-use Rattle.std.specs.Prelude.{◌≡◌, ◌⊎◌, ℕ, ◌<◌, List, [], ◌++◌, length, false, Result, Ok, Err, codes}
+use Rattle.std.specs.Prelude.{◌≡◌, ◌⊎◌, ℕ, ◌<◌, List, ◌++◌, length, false, Result, Ok, Err, codes}
 use Rattle.or_host.specs.Fault.{Rose, RoseBy, HasCause, NamesLast, name_if}
 use Rattle.or_host.specs.FileList.{files_of}
 use Rattle.or_host.specs.Files.{Files, Told}
@@ -10,7 +10,7 @@ use Rattle.reply_lines.specs.Lines.{reply_line, lines_text}
 use Rattle.reply_lines.specs.Refusals.{refusal_words}
 use Rattle.reply_lines.specs.Statuses.{is_read_failure, is_usage, refusal_status}
 use Rattle.reply_lines.specs.declared.refusal.Refusal.{Refusal}
-use Rattle.command_steps.specs.Finished.{IsFinished, IsOutOfMemory, IsUnwrittenTold, IsRefusalTold, IsFaultTold, unread_line, unwritten_line}
+use Rattle.command_steps.specs.Finished.{IsFinished, IsOutOfMemory, IsUnwrittenPrinted, IsRefusalPrinted, IsFaultPrinted, unread_line, unwritten_line}
 use Rattle.command_steps.specs.Outcome.{UnlessMemory, unread_name}
 use Rattle.command_steps.specs.Outside.{Outside, StoreState, IfTold, outside_at}
 use Rattle.command_steps.specs.Printed.{IsWholeText}
@@ -33,14 +33,14 @@ pub record IsWriteCut (list : List MemFile) (status : ℕ) (before now : Outside
   pub files : Told (EndsAt list file fail) before.store.files now.store.files
   pub cause : HasCause before.store.faults now.store.faults (is_write_failure fail)
   pub named : NamesLast (name_if (is_write_failure fail) file.name) before.store.failed now.store.failed
-  pub told : IsUnwrittenTold file.name fail status before.sink now.sink
+  pub printed : IsUnwrittenPrinted file.name fail status before.sink now.sink
 
 -- all views are written, and the line is printed, or part of it
 pub record IsAllWritten (made : Made) (status : ℕ) (before now : Outside) : Type 0 where
   pub files : Told (AreWritten made.views) before.store.files now.store.files
   pub kept : now.store.faults ≡ before.store.faults
   pub unnamed : now.store.failed ≡ before.store.failed
-  pub told : IsFinished made.reply status before.sink now.sink
+  pub printed : IsFinished made.reply status before.sink now.sink
 
 -- the views are written one after another, and then the line is printed
 abbrev pub IsPutOut : Made → ℕ → Outside → Outside → Type 0
@@ -60,7 +60,7 @@ pub record IsDemoRefused (files : List MemFile) (status : ℕ) (before now : Out
   pub no_read : is_read_failure refusal ≡ false
   pub work : UnlessMemory (IsWork (files_of files) (codes "demo.toml")) (Err refusal)
   pub same : now.store ≡ before.store
-  pub told : IsRefusalTold refusal status before.sink now.sink
+  pub printed : IsRefusalPrinted refusal status before.sink now.sink
 
 abbrev pub IsDemoBuilt : List MemFile → ℕ → Outside → Outside → Type 0
 IsDemoBuilt files status before now = IsMadeOut files status before now ⊎ IsDemoRefused files status before now
@@ -79,7 +79,7 @@ IsDemoWritten list status before now = IsDemoAfter list status before now ⊎ Is
 -- memory ran out before anything was written
 pub record IsUnstarted (status : ℕ) (before now : Outside) : Type 0 where
   pub same : now.store ≡ before.store
-  pub told : IsOutOfMemory status before.sink now.sink
+  pub printed : IsOutOfMemory status before.sink now.sink
 
 -- a demonstration reads no file: what it looks at are its own bytes
 abbrev pub ReadsFilesOnly : Making → Refusal → Type 0
@@ -95,7 +95,7 @@ pub record IsWorkRefused (m : Making) (status : ℕ) (before now : Outside) : Ty
   pub files : Told (AreWritten (first_files m)) before.store.files now.store.files
   pub cause : HasCause before.store.faults now.store.faults (is_read_failure refusal)
   pub named : NamesLast (unread_name refusal) before.store.failed now.store.failed
-  pub told : IsRefusalTold refusal status before.sink now.sink
+  pub printed : IsRefusalPrinted refusal status before.sink now.sink
 
 -- A view couldn't be written.
 pub record IsViewCut (m : Making) (status : ℕ) (before now : Outside) : Type 0 where
@@ -111,7 +111,7 @@ pub record IsPut (m : Making) (status : ℕ) (before now : Outside) : Type 0 whe
   pub files : Told (AreWritten (first_files m ++ made.views)) before.store.files now.store.files
   pub kept : now.store.faults ≡ before.store.faults
   pub unnamed : now.store.failed ≡ before.store.failed
-  pub told : IsFinished made.reply status before.sink now.sink
+  pub printed : IsFinished made.reply status before.sink now.sink
 
 -- the ends that there are
 abbrev pub IsMakingEnd : Making → ℕ → Outside → Outside → Type 0
@@ -137,8 +137,8 @@ pub record IsMakingRefused (m : Making) (before now : Outside) : Type 0 where
   pub put : RoseBy 1 before.sink.puts now.sink.puts
 
 -- The sink failed; or it has the line of the read or the write that failed, with the name of that call.
-abbrev pub IsMakingFaultTold : Outside → Outside → Type 0
-IsMakingFaultTold before now = Rose before.sink.faults now.sink.faults ⊎ (IsFaultTold unread_line before now ⊎ IsFaultTold unwritten_line before now)
+abbrev pub IsMakingFaultPrinted : Outside → Outside → Type 0
+IsMakingFaultPrinted before now = Rose before.sink.faults now.sink.faults ⊎ (IsFaultPrinted unread_line before now ⊎ IsFaultPrinted unwritten_line before now)
 
 -- What a build or a demonstration does.
 pub record IsMakingRun (m : Making) (status : ℕ) (before now : Outside) : Type 0 where
@@ -149,9 +149,9 @@ pub record IsMakingRun (m : Making) (status : ℕ) (before now : Outside) : Type
   pub done : status ≡ 0 → IsMakingDone m before now
   pub held : status ≡ 0 → Told (IsMemoryHeld m) before.store.files now.store.files
   pub refused : status ≡ 3 → IsMakingRefused m before now
-  -- 4 comes only where a fault rose, and is told by its line unless the sink failed; at 5 the sink didn't fail
+  -- 4 comes only where a fault rose, whose line is printed unless the sink failed; at 5 the sink didn't fail
   pub fault : status ≡ 4 → Rose before.store.faults now.store.faults ⊎ Rose before.sink.faults now.sink.faults
-  pub named : status ≡ 4 → IsMakingFaultTold before now
+  pub named : status ≡ 4 → IsMakingFaultPrinted before now
   pub memory_clean : status ≡ 5 → now.sink.faults ≡ before.sink.faults
   -- what is written and printed at each end, at 4 and 5 too
   pub end : IsMakingEnd m status before now

@@ -1,4 +1,4 @@
-ghost use Rattle.std.specs.Prelude.{◌≡◌, ◌≤◌, IfOk};
+ghost use Rattle.std.specs.Prelude.{◌≡◌, IfOk};
 ghost use Rattle.command_steps.specs.Writing.{HaveAsciiNames};
 ghost use Rattle.build_command.specs.Demonstration.{demo_files};
 

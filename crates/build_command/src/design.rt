@@ -1,18 +1,17 @@
 ghost use Rattle.std.specs.Prelude.{◌≡◌, ◌++◌, codes, false, IfOk};
-ghost use Rattle.std.specs.Str.{IsAscii};
 ghost use Rattle.sram_plan.specs.Config.{IsConfig};
 ghost use Rattle.tech_rules.specs.Facts.{IsTech};
-ghost use Rattle.command_steps.specs.File.{IsFile, IsTechnologyFile};
+ghost use Rattle.command_steps.specs.File.{IsFile};
 ghost use Rattle.command_steps.specs.Outcome.{is_usage_outcome};
 ghost use Rattle.command_steps.specs.Outside.{store_state};
 ghost use Rattle.command_steps.specs.Reading.{HasRead};
 ghost use Rattle.build_command.specs.Design.{IsConfigFile, IsLeafLayoutFile, IsKitOver, IsKitWith, IsKitUnder, IsDesignWith, IsDesignOf, IsDesign, IsGoodDesign};
 ghost use Rattle.leaf_tables.specs.Kits.{IsKit};
 
-use command_steps::{file_text, read_file, read_technology};
+use command_steps::{file_text, read_file, read_technology_under, with_ending};
 use gds_library::read_gds;
 use leaf_tables::{Kit, read_kit};
-use or_geom::{Items, Memory, Name};
+use or_geom::Items;
 use or_host::Store;
 use reply_lines::Refusal;
 use sram_plan::{Config, Plan, plan, read_config};
@@ -27,15 +26,6 @@ pub struct Design {
     pub kit: Kit,
 }
 
-/// The name with an ending.
-fn with_ending(alloc: Global, name: &Name, ending: &str) -> Result<Name, Memory>
-    ensures { IfOk result (λ whole. whole ≡ name.now ++ ending.now) }
-{
-    let mut bytes = Vec::from_slice(alloc, name.as_bytes())?;
-    bytes.extend_from_slice(ending.as_bytes())?;
-    Ok(Name::from_vec(bytes))
-}
-
 fn read_configuration<S: Store>(alloc: Global, name: &str, store: &mut S) -> Result<Config, Refusal>
     ensures read { HasRead (λ files. IsConfigFile files name.now) result (store_state (S.files store.old) (S.faults store.old) (S.failed store.old)) (store_state (S.files store.new) (S.faults store.new) (S.failed store.new)) }
     ensures good { IfOk result IsConfig }
@@ -48,41 +38,23 @@ fn read_configuration<S: Store>(alloc: Global, name: &str, store: &mut S) -> Res
 /// The bytes of the file of this name and ending.
 fn read_under<S: Store>(
     alloc: Global,
-    name: &Name,
+    name: &str,
     ending: &str,
     store: &mut S,
 ) -> Result<Items<u8>, Refusal>
-    requires name { IsAscii name.now }
-    requires ending { IsAscii ending.now }
     ensures read { HasRead (λ files. IsFile files (name.now ++ ending.now)) result (store_state (S.files store.old) (S.faults store.old) (S.failed store.old)) (store_state (S.files store.new) (S.faults store.new) (S.failed store.new)) }
     ensures words { is_usage_outcome result ≡ false }
 {
     let file = with_ending(alloc, name, ending)?;
-    read_file(alloc, file_text(&file), store)
-}
-
-/// The technology of this name.
-fn read_technology_under<S: Store>(
-    alloc: Global,
-    name: &Name,
-    store: &mut S,
-) -> Result<Tech, Refusal>
-    requires { IsAscii name.now }
-    ensures read { HasRead (λ files. IsTechnologyFile files (name.now ++ codes ".toml")) result (store_state (S.files store.old) (S.faults store.old) (S.failed store.old)) (store_state (S.files store.new) (S.faults store.new) (S.failed store.new)) }
-    ensures good { IfOk result IsTech }
-    ensures words { is_usage_outcome result ≡ false }
-{
-    let file = with_ending(alloc, name, ".toml")?;
-    read_technology(alloc, file_text(&file), store)
+    read_file(alloc, file.as_str(), store)
 }
 
 /// The bytes of the GDSII file of this name, which spells a library.
 fn read_leaf_layout<S: Store>(
     alloc: Global,
-    name: &Name,
+    name: &str,
     store: &mut S,
 ) -> Result<Items<u8>, Refusal>
-    requires { IsAscii name.now }
     ensures read { HasRead (λ files. IsLeafLayoutFile files (name.now ++ codes ".gds")) result (store_state (S.files store.old) (S.faults store.old) (S.failed store.old)) (store_state (S.files store.new) (S.faults store.new) (S.failed store.new)) }
     ensures words { is_usage_outcome result ≡ false }
 {
@@ -94,13 +66,12 @@ fn read_leaf_layout<S: Store>(
 /// The kit of a technology, a layout and the SPICE file of this name.
 fn read_kit_over<S: Store>(
     alloc: Global,
-    name: &Name,
+    name: &str,
     tech: Tech,
     gds: &[u8],
     store: &mut S,
 ) -> Result<Kit, Refusal>
-    requires ascii { IsAscii name.now }
-    requires tech { IsTech tech }
+    requires { IsTech tech }
     ensures read { HasRead (λ files. IsKitOver files name.now tech gds.now) result (store_state (S.files store.old) (S.faults store.old) (S.failed store.old)) (store_state (S.files store.new) (S.faults store.new) (S.failed store.new)) }
     ensures good { IfOk result IsKit }
     ensures words { is_usage_outcome result ≡ false }
@@ -112,12 +83,11 @@ fn read_kit_over<S: Store>(
 /// The kit of a technology and of the files of this name. The layout is decoded before the subcircuits are read.
 fn read_kit_with<S: Store>(
     alloc: Global,
-    name: &Name,
+    name: &str,
     tech: Tech,
     store: &mut S,
 ) -> Result<Kit, Refusal>
-    requires ascii { IsAscii name.now }
-    requires tech { IsTech tech }
+    requires { IsTech tech }
     ensures read { HasRead (λ files. IsKitWith files name.now tech) result (store_state (S.files store.old) (S.faults store.old) (S.failed store.old)) (store_state (S.files store.new) (S.faults store.new) (S.failed store.new)) }
     ensures good { IfOk result IsKit }
     ensures words { is_usage_outcome result ≡ false }
@@ -126,9 +96,8 @@ fn read_kit_with<S: Store>(
     read_kit_over(alloc, name, tech, gds.as_slice(), store)
 }
 
-/// The kit of this name.
-fn read_kit_under<S: Store>(alloc: Global, name: &Name, store: &mut S) -> Result<Kit, Refusal>
-    requires { IsAscii name.now }
+/// Reads the kit of this name: the technology, the leaf cells' layouts and their subcircuits, each decoded before the next is read.
+pub fn read_kit_under<S: Store>(alloc: Global, name: &str, store: &mut S) -> Result<Kit, Refusal>
     ensures read { HasRead (λ files. IsKitUnder files name.now) result (store_state (S.files store.old) (S.faults store.old) (S.failed store.old)) (store_state (S.files store.new) (S.faults store.new) (S.failed store.new)) }
     ensures good { IfOk result IsKit }
     ensures words { is_usage_outcome result ≡ false }
@@ -150,7 +119,7 @@ fn design_with<S: Store>(
     ensures good { IfOk result (λ design. IsKit design.kit) }
     ensures words { is_usage_outcome result ≡ false }
 {
-    let kit = read_kit_under(alloc, &config.tech_name, store)?;
+    let kit = read_kit_under(alloc, file_text(&config.tech_name), store)?;
     Ok(Design { config, plan, kit })
 }
 

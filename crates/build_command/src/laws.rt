@@ -1,4 +1,9 @@
-ghost use Rattle.build_command.specs.OneDesign.{DesignsAreOne, WorkIsTold, WorksAreOne};
+ghost use Rattle.build_command.specs.OneDesign.{DemoFilesHoldBytes, DesignsAreOne, RunsEndAsWork, WorksAreOne};
+
+/// A law for proofs: what stands in the files of a demonstration is bytes.
+pub fn demo_files_hold_bytes()
+    ensures { DemoFilesHoldBytes }
+{}
 
 /// A law for proofs: over files of bytes a name has one design, or one refusal, failed reads and want of memory aside.
 pub fn designs_are_one()
@@ -10,7 +15,8 @@ pub fn works_are_one()
     ensures { WorksAreOne }
 {}
 
-/// A law for readers: a run that ends below 4 has the status, the files and the line of the outcome that told files of bytes have.
-pub fn work_is_told()
-    ensures { WorkIsTold }
+/// A law for readers: a run that ends below 4 has the status, the files and the line of the outcome that told files have, those of a
+/// build being bytes.
+pub fn runs_end_as_work()
+    ensures { RunsEndAsWork }
 {}

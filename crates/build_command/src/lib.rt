@@ -10,6 +10,7 @@ mod run;
 mod success;
 mod words;
 
-pub use laws::{designs_are_one, work_is_told, works_are_one};
+pub use design::read_kit_under;
+pub use laws::{demo_files_hold_bytes, designs_are_one, runs_end_as_work, works_are_one};
 pub use run::make;
 pub use words::{Asked, Making, making_in};

@@ -1,7 +1,4 @@
 ghost use Rattle.std.specs.Prelude.{◌≡◌, ◌++◌, ◌<◌, ◌≤◌, false, IfOk};
-ghost use Rattle.std.specs.Str.{IsAscii};
-ghost use Rattle.macro_build.specs.Built.{IsBuilt};
-ghost use Rattle.sram_plan.specs.Config.{IsConfig};
 ghost use Rattle.command_steps.specs.Outcome.{UnlessMemory, is_read_failed, is_usage_outcome};
 ghost use Rattle.command_steps.specs.Writing.{HaveAsciiNames};
 ghost use Rattle.build_command.specs.Design.{IsGoodDesign};
