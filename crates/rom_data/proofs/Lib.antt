@@ -1,0 +1,3 @@
+mod HexLaws
+mod WordLaws
+mod TextLaws
