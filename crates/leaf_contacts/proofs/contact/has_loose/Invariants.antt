@@ -1,0 +1,7 @@
+use Rattle.std.proofs.Common.{◌≡◌, []}
+use Rattle.or_geom.proofs.GatheringLaws.{IsAmongLeft}
+use Rattle.leaf_nets.specs.declared.leaves.LooseLeaf.{LooseLeaf}
+use Rattle.leaf_contacts.proofs.contact.has_loose.Given as goal
+
+abbrev pub invariant-loop-leaf : goal.invariant-loop-leaf
+invariant-loop-leaf l = IsAmongLeft (λ (leaf : LooseLeaf). leaf.shapes ≡ [] → ⊥) l.leaves l.leaf-index

@@ -1,0 +1,4 @@
+pub mod Chains
+pub mod Contact
+pub mod Stands
+pub mod Marks

@@ -1,0 +1,296 @@
+ghost use Rattle.std.specs.Prelude.{◌≡◌, ◌↔◌, ◌≤◌, ◌<◌, ℕ, List, Contains, IfOk, OnOk, IsTrue, Some, [], length, slice_get};
+ghost use Rattle.std.specs.Option.{option_copied};
+ghost use Rattle.or_geom.specs.Adds.{Adds};
+ghost use Rattle.or_geom.specs.Gathering.{SomeHas};
+ghost use Rattle.or_geom.specs.Place.{IsNearPoint};
+ghost use Rattle.or_geom.specs.Reachable.{AreReachable};
+ghost use Rattle.gds_library.specs.Writable.{IsWritable};
+ghost use Rattle.cell_chains.specs.Chains.{IsSound};
+ghost use Rattle.cell_chains.specs.Hierarchy.{AreCells};
+ghost use Rattle.cell_hierarchy.specs.FlatLists.{AreFlatShapes};
+ghost use Rattle.leaf_contacts.specs.Contact.{HasLooseContact};
+ghost use Rattle.leaf_contacts.specs.Marks.{AreLayoutEntries, AreMarks, AreNearLeaves, AreStandsIn, HasContactAt, IsContactOf, IsContactWith, IsListedElsewhere, IsNearOnLayers, IsTouchedElsewhere, ShapeEntry, TouchesElsewhere};
+ghost use Rattle.leaf_contacts.specs.Stands.{AreReachedCells};
+
+use crate::cells::{ReachedCells, is_cell_named, summaries_of};
+use crate::levels::stands_of;
+use crate::marks::{Mark, is_elsewhere, marks_of};
+use crate::stand::{ReferenceStep, Stand, are_same};
+use crate::touching::touch_or_same;
+use bumpalo::Bump;
+use cell_chains::{Cell, ChainFault, cells_below};
+use gds_library::Library;
+use leaf_nets::LooseLeaf;
+use or_geom::{Memory, Name, Shape};
+use shape_bins::Bins;
+use std::alloc::Global;
+use tech_rules::Tech;
+
+/// The flat layout that is looked at: its technology, its cells, its shapes, and in which instances they stand.
+#[derive(Clone, Copy)]
+pub struct MarkedLayout<'a, 'b> {
+    pub tech: &'a Tech,
+    pub tree: &'a ReachedCells<'a>,
+    pub bins: &'a Bins<'b>,
+    pub marks: &'a [Option<Mark<'b>>],
+}
+
+/// Adds the places of all shapes, on whichever layer, whose closed box meets that of the shape.
+fn add_near(bins: &Bins, layers: usize, shape: Shape, places: &mut Vec<usize>) -> Result<(), Memory>
+    requires { layers ≤ 64 }
+    ensures { OnOk result (Adds places.old.items places.new.items (IsNearOnLayers bins.now shape layers)) }
+{
+    for layer in 0..layers {
+        bins.add_near(layer as u16, shape.rect, places)?;
+    }
+    Ok(())
+}
+
+/// Whether the flat shape at this place stands elsewhere than in the instance.
+fn stands_elsewhere(layout: &MarkedLayout, place: usize, instance: &[ReferenceStep]) -> bool
+    requires { place < length layout.now.marks.now }
+    ensures { (entries : List ShapeEntry) (shape : Shape) → AreMarks layout.now.bins.now entries layout.now.marks.now → slice_get layout.now.bins.now place ≡ Some shape → IsTrue result ↔ IsListedElsewhere entries shape (Some instance.now) }
+{
+    match layout.marks[place] {
+        Some(mark) => is_elsewhere(&mark, instance),
+        None => false,
+    }
+}
+
+/// The flat shape at this place.
+fn shape_at(layout: &MarkedLayout, place: usize) -> Shape
+    requires { place < length layout.now.bins.now }
+    ensures { slice_get layout.now.bins.now place ≡ Some result }
+{
+    layout.bins.shapes()[place]
+}
+
+/// Whether the shape touches the flat shape at this place, and that stands elsewhere than in the instance.
+fn touches_at(layout: &MarkedLayout, shape: Shape, instance: &[ReferenceStep], place: usize) -> bool
+    requires within { place < length layout.now.bins.now }
+    requires marks { length layout.now.marks.now ≡ length layout.now.bins.now }
+    ensures { (entries : List ShapeEntry) → AreMarks layout.now.bins.now entries layout.now.marks.now → IsTrue result ↔ IsTouchedElsewhere layout.now.tech.now.connects layout.now.bins.now entries shape instance.now place }
+{
+    let other = shape_at(layout, place);
+    touch_or_same(layout.tech.connects.as_slice(), shape, other)
+        && stands_elsewhere(layout, place, instance)
+}
+
+/// Whether the shape touches one of the flat shapes at these places that stands elsewhere than in the instance.
+fn touches_one_of(
+    layout: &MarkedLayout,
+    shape: Shape,
+    instance: &[ReferenceStep],
+    places: &[usize],
+) -> bool
+    requires within { (place : ℕ) → Contains places.now place → place < length layout.now.bins.now }
+    requires marks { length layout.now.marks.now ≡ length layout.now.bins.now }
+    ensures { (entries : List ShapeEntry) → AreMarks layout.now.bins.now entries layout.now.marks.now → IsTrue result ↔ SomeHas (IsTouchedElsewhere layout.now.tech.now.connects layout.now.bins.now entries shape instance.now) places.now }
+{
+    for place in places {
+        if touches_at(layout, shape, instance, *place) {
+            return true;
+        }
+    }
+    false
+}
+
+/// Whether the shape touches one that stands elsewhere than in the instance. `places` is a list to use again.
+fn touches_elsewhere(
+    layout: &MarkedLayout,
+    shape: Shape,
+    instance: &[ReferenceStep],
+    places: &mut Vec<usize>,
+) -> Result<bool, Memory>
+    requires few { length layout.now.tech.now.layers ≤ 64 }
+    requires marks { length layout.now.marks.now ≡ length layout.now.bins.now }
+    ensures { IfOk result (λ found. (entries : List ShapeEntry) → AreLayoutEntries layout.now entries → IsTrue found ↔ TouchesElsewhere layout.now.tech.now.connects entries shape instance.now) }
+{
+    places.clear();
+    add_near(
+        layout.bins,
+        layout.tech.layers.as_slice().len(),
+        shape,
+        places,
+    )?;
+    Ok(touches_one_of(layout, shape, instance, places.as_slice()))
+}
+
+/// Whether one of the loose shapes, where their cell stands, touches a shape elsewhere.
+fn has_contact_of(
+    layout: &MarkedLayout,
+    loose: &[Shape],
+    stand: &Stand,
+    places: &mut Vec<usize>,
+) -> Result<bool, Memory>
+    requires few { length layout.now.tech.now.layers ≤ 64 }
+    requires marks { length layout.now.marks.now ≡ length layout.now.bins.now }
+    requires near { IsNearPoint stand.now.place.at }
+    requires loose { AreReachable loose.now }
+    ensures { IfOk result (λ found. (entries : List ShapeEntry) → AreLayoutEntries layout.now entries → IsTrue found ↔ SomeHas (IsContactOf layout.now.tech.now.connects entries stand.now) loose.now) }
+{
+    for shape in loose {
+        let moved = Shape {
+            layer: shape.layer,
+            rect: stand.place.apply(shape.rect),
+        };
+        let touches = touches_elsewhere(layout, moved, stand.steps, places)?;
+        if touches {
+            return Ok(true);
+        }
+    }
+    Ok(false)
+}
+
+/// Whether the stand is that of a leaf cell, and not one inside of it.
+fn is_instance(stand: &Stand) -> bool
+    ensures { IsTrue result ↔ (option_copied stand.now.instance ≡ Some stand.now.steps.now) }
+{
+    match stand.instance {
+        Some(instance) => are_same(instance, stand.steps),
+        None => false,
+    }
+}
+
+/// Whether it is the leaf cell that stands there, and a loose shape of it touches a shape elsewhere.
+fn has_contact_with(
+    layout: &MarkedLayout,
+    leaf: &LooseLeaf,
+    stand: &Stand,
+    places: &mut Vec<usize>,
+) -> Result<bool, Memory>
+    requires few { length layout.now.tech.now.layers ≤ 64 }
+    requires tree { AreReachedCells layout.now.tree.now }
+    requires marks { length layout.now.marks.now ≡ length layout.now.bins.now }
+    requires near { IsNearPoint stand.now.place.at }
+    requires cell { stand.now.cell < length layout.now.tree.now.cells.now }
+    requires loose { AreReachable leaf.now.shapes }
+    ensures { IfOk result (λ found. (entries : List ShapeEntry) → AreLayoutEntries layout.now entries → IsTrue found ↔ IsContactWith layout.now.tech.now.connects layout.now.tree.now entries stand.now leaf.now) }
+{
+    if !is_cell_named(layout.tree, stand.cell, &leaf.cell) {
+        return Ok(false);
+    }
+    has_contact_of(layout, leaf.shapes.as_slice(), stand, places)
+}
+
+/// Whether a loose shape of the leaf cell that stands there touches a shape elsewhere.
+fn has_contact_at(
+    layout: &MarkedLayout,
+    stand: &Stand,
+    places: &mut Vec<usize>,
+) -> Result<bool, Memory>
+    requires few { length layout.now.tech.now.layers ≤ 64 }
+    requires tree { AreReachedCells layout.now.tree.now }
+    requires marks { length layout.now.marks.now ≡ length layout.now.bins.now }
+    requires near { IsNearPoint stand.now.place.at }
+    requires cell { stand.now.cell < length layout.now.tree.now.cells.now }
+    requires loose { AreNearLeaves layout.now.tree.now.leaves.now }
+    ensures { IfOk result (λ found. (entries : List ShapeEntry) → AreLayoutEntries layout.now entries → IsTrue found ↔ HasContactAt layout.now.tech.now.connects layout.now.tree.now entries stand.now) }
+{
+    if !is_instance(stand) {
+        return Ok(false);
+    }
+    for leaf in layout.tree.leaves {
+        let found = has_contact_with(layout, leaf, stand, places)?;
+        if found {
+            return Ok(true);
+        }
+    }
+    Ok(false)
+}
+
+/// Whether a loose shape of a leaf cell touches a shape elsewhere, in one of the places where leaf cells stand.
+fn has_contact(alloc: Global, layout: &MarkedLayout, stands: &[Stand]) -> Result<bool, Memory>
+    requires few { length layout.now.tech.now.layers ≤ 64 }
+    requires tree { AreReachedCells layout.now.tree.now }
+    requires marks { length layout.now.marks.now ≡ length layout.now.bins.now }
+    requires stands { AreStandsIn layout.now.tree.now layout.now.bins.now stands.now }
+    requires loose { AreNearLeaves layout.now.tree.now.leaves.now }
+    ensures { IfOk result (λ found. (entries : List ShapeEntry) → AreLayoutEntries layout.now entries → IsTrue found ↔ SomeHas (HasContactAt layout.now.tech.now.connects layout.now.tree.now entries) stands.now) }
+{
+    let mut places = Vec::new(alloc);
+    for stand in stands {
+        let found = has_contact_at(layout, stand, &mut places)?;
+        if found {
+            return Ok(true);
+        }
+    }
+    Ok(false)
+}
+
+/// Whether the leaf cell has loose shapes.
+fn has_shapes(leaf: &LooseLeaf) -> bool
+    ensures { IsTrue result ↔ (leaf.now.shapes ≡ [] → ⊥) }
+{
+    !leaf.shapes.is_empty()
+}
+
+/// Whether a leaf cell has loose shapes.
+fn has_loose(leaves: &[LooseLeaf]) -> bool
+    ensures { IsTrue result ↔ SomeHas (λ leaf. leaf.shapes ≡ [] → ⊥) leaves.now }
+{
+    for leaf in leaves {
+        if has_shapes(leaf) {
+            return true;
+        }
+    }
+    false
+}
+
+/// The cells that the top reaches, from the bottom up.
+fn all_cells_below(alloc: Global, lib: &Library, top: &Name) -> Result<Vec<Cell>, Memory>
+    requires writable { IsWritable lib.now }
+    requires sound { IsSound lib.now.structs top.now }
+    ensures { IfOk result (λ cells. AreCells lib.now.structs top.now cells.items) }
+{
+    match cells_below(alloc, lib.structs.as_slice(), top) {
+        Ok(cells) => Ok(cells),
+        Err(fault) => match fault {
+            ChainFault::Memory => Err(Memory),
+            _ => unreachable!(),
+        },
+    }
+}
+
+/// Whether a loose shape of a leaf cell, as it lies at an instance of the cell below the top, touches or is a shape that stands
+/// outside of this instance. `bins` has the flat shapes of the top.
+pub fn has_loose_contact<'b>(
+    alloc: Global,
+    bump: &'b Bump,
+    tech: &Tech,
+    lib: &Library,
+    top: &Name,
+    bins: &Bins<'b>,
+    leaves: &[LooseLeaf],
+) -> Result<bool, Memory>
+    requires writable { IsWritable lib.now }
+    requires few { length tech.now.layers ≤ 64 }
+    requires flat { AreFlatShapes tech.now.layers lib.now.structs top.now bins.now }
+    requires loose { AreNearLeaves leaves.now }
+    ensures { IfOk result (λ found. IsTrue found ↔ HasLooseContact tech.now lib.now.structs top.now leaves.now) }
+{
+    if !has_loose(leaves) {
+        return Ok(false);
+    }
+    let layers = tech.layers.as_slice();
+    let structs = lib.structs.as_slice();
+    let cells = all_cells_below(alloc, lib, top)?;
+    let summaries = summaries_of(alloc, layers, leaves, structs, &cells)?;
+    let tree = ReachedCells {
+        layers,
+        leaves,
+        top,
+        structs,
+        cells: &cells,
+        summaries: &summaries,
+    };
+    let stands = stands_of(alloc, bump, &tree)?;
+    let marks = marks_of(alloc, &tree, bins.shapes(), &stands)?;
+    let layout = MarkedLayout {
+        tech,
+        tree: &tree,
+        bins,
+        marks: &marks,
+    };
+    has_contact(alloc, &layout, &stands)
+}

@@ -1,0 +1,12 @@
+//! Whether a shape of a leaf cell that belongs to none of its pins touches a shape outside of its instance.
+#![tactic(auto)]
+
+mod cells;
+mod contact;
+mod levels;
+mod marks;
+mod references;
+mod stand;
+mod touching;
+
+pub use contact::has_loose_contact;

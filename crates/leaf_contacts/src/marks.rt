@@ -1,0 +1,124 @@
+ghost use Rattle.std.specs.Prelude.{◌≡◌, ◌↔◌, ◌≢◌, ◌⊎◌, ◌++◌, ◌∷◌, [], List, Contains, IfOk, IsTrue, Some, length, true, false};
+ghost use Rattle.std.specs.List.{AllByRecursion};
+ghost use Rattle.std.specs.List.Sorted.{IsStrictlySortedBy};
+ghost use Rattle.std.specs.Option.{option_copied};
+ghost use Rattle.or_geom.specs.declared.shape.Shape.{Shape};
+ghost use Rattle.or_geom.specs.Place.{IsNearPoint};
+ghost use Rattle.or_geom.specs.ShapeOrder.{shape_order};
+ghost use Rattle.leaf_contacts.specs.Marks.{AreAllEntries, AreEntriesOf, AreMarks, ShapeEntry, HasShapesOf, AreStandsIn, IsListedElsewhere, IsMark, IsMarkOrNone, shape_entry};
+ghost use Rattle.or_geom.specs.Reachable.{AreReachable};
+ghost use Rattle.leaf_contacts.specs.Stands.{AreReachedCells};
+
+use crate::cells::{ReachedCells, summary_at};
+use crate::stand::{ReferenceStep, Stand, are_same};
+use or_geom::{Memory, Shape};
+use std::alloc::Global;
+
+/// In which instances a shape of the flat layout stands: in this one or, where that is none, in no instance; and perhaps elsewhere too.
+#[derive(Clone, Copy)]
+pub struct Mark<'b> {
+    pub instance: Option<&'b [ReferenceStep]>,
+    pub elsewhere: bool,
+}
+
+/// Whether the instances are the same, or neither is one.
+fn is_one(a: Option<&[ReferenceStep]>, b: Option<&[ReferenceStep]>) -> bool
+    ensures { IsTrue result ↔ (option_copied a.entry ≡ option_copied b.entry) }
+{
+    match (a, b) {
+        (Some(a), Some(b)) => are_same(a, b),
+        (None, None) => true,
+        _ => false,
+    }
+}
+
+/// Whether the mark tells of something else than this instance or, where there is none, of an instance.
+fn differs(mark: &Mark, instance: Option<&[ReferenceStep]>) -> bool
+    ensures other { result ≡ true → (mark.now.elsewhere ≡ true) ⊎ (option_copied instance.entry ≢ option_copied mark.now.instance) }
+    ensures same { result ≡ false → (mark.now.elsewhere ≡ false) × (option_copied instance.entry ≡ option_copied mark.now.instance) }
+{
+    mark.elsewhere || !is_one(instance, mark.instance)
+}
+
+/// Whether the shape that is marked so stands elsewhere than in the instance.
+pub fn is_elsewhere(mark: &Mark, instance: &[ReferenceStep]) -> bool
+    ensures { (entries : List ShapeEntry) (shape : Shape) → IsMark entries shape mark.now → IsTrue result ↔ IsListedElsewhere entries shape (Some instance.now) }
+{
+    differs(mark, Some(instance))
+}
+
+/// The mark of a shape that stands in this instance too.
+fn mark_with<'b>(mark: Option<Mark<'b>>, instance: Option<&'b [ReferenceStep]>) -> Mark<'b>
+    ensures { (entries : List ShapeEntry) (shape : Shape) → IsMarkOrNone entries shape mark.entry → IsMark (entries ++ shape_entry shape (option_copied instance.entry) ∷ []) shape result }
+{
+    match mark {
+        None => Mark {
+            instance,
+            elsewhere: false,
+        },
+        Some(mark) => Mark {
+            instance: mark.instance,
+            elsewhere: differs(&mark, instance),
+        },
+    }
+}
+
+/// Marks a shape of the flat layout as one that stands in the instance.
+fn mark_shape<'b>(
+    shapes: &[Shape],
+    shape: Shape,
+    instance: Option<&'b [ReferenceStep]>,
+    marks: &mut [Option<Mark<'b>>],
+)
+    requires rises { IsStrictlySortedBy shape_order shapes.now }
+    requires listed { Contains shapes.now shape }
+    requires sized { length marks.old ≡ length shapes.now }
+    ensures { (entries : List ShapeEntry) → AreMarks shapes.now entries marks.old → AreMarks shapes.now (entries ++ shape_entry shape (option_copied instance.entry) ∷ []) marks.new }
+{
+    if let Ok(index) = shapes.binary_search(&shape) {
+        marks[index] = Some(mark_with(marks[index], instance));
+    }
+}
+
+/// Marks the shapes that a cell draws itself where it stands.
+fn mark_stand<'b>(
+    own: &[Shape],
+    shapes: &[Shape],
+    stand: &Stand<'b>,
+    marks: &mut [Option<Mark<'b>>],
+)
+    requires rises { IsStrictlySortedBy shape_order shapes.now }
+    requires near { IsNearPoint stand.now.place.at }
+    requires own { AreReachable own.now }
+    requires listed { HasShapesOf stand.now own.now shapes.now }
+    requires sized { length marks.old ≡ length shapes.now }
+    ensures { (added : List ShapeEntry) × AreEntriesOf stand.now own.now added × ((entries : List ShapeEntry) → AreMarks shapes.now entries marks.old → AreMarks shapes.now (entries ++ added) marks.new) }
+{
+    for shape in own {
+        let moved = Shape {
+            layer: shape.layer,
+            rect: stand.place.apply(shape.rect),
+        };
+        mark_shape(shapes, moved, stand.instance, marks);
+    }
+}
+
+/// The marks of the flat shapes.
+pub fn marks_of<'b>(
+    alloc: Global,
+    tree: &ReachedCells,
+    shapes: &[Shape],
+    stands: &[Stand<'b>],
+) -> Result<Vec<Option<Mark<'b>>>, Memory>
+    requires tree { AreReachedCells tree.now }
+    requires rises { IsStrictlySortedBy shape_order shapes.now }
+    requires stands { AreStandsIn tree.now shapes.now stands.now }
+    ensures { IfOk result (λ marks. (entries : List ShapeEntry) × AreAllEntries tree.now stands.now entries × AreMarks shapes.now entries marks.items) }
+{
+    let mut marks = vec![in alloc; None; shapes.len()]?;
+    for stand in stands {
+        let summary = summary_at(tree.summaries, stand.cell);
+        mark_stand(&summary.shapes, shapes, stand, &mut marks);
+    }
+    Ok(marks)
+}
