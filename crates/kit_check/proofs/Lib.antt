@@ -1,0 +1,11 @@
+pub mod DigitLaws
+pub mod LeastLaws
+pub mod FreeLaws
+pub mod WindowLaws
+pub mod JudgeLaws
+pub mod VerdictLaws
+pub mod PinLaws
+pub mod ContactLaws
+pub mod ShareLaws
+pub mod WeakLaws
+pub mod FirstLaws

@@ -1,0 +1,18 @@
+//! Whether a kit is good: its rules, connections and leaf cells, and 540 small macros of it.
+#![tactic(auto)]
+
+mod copies;
+mod digits;
+mod first;
+mod free_name;
+mod judge;
+mod maker;
+mod rows;
+mod share;
+mod weak;
+mod window;
+
+pub use first::weakness;
+pub use maker::Maker;
+pub use weak::Weak;
+pub use window::Window;
