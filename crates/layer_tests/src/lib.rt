@@ -20,6 +20,8 @@ mod parts;
 #[cfg(test)]
 mod plans;
 #[cfg(test)]
+mod rom;
+#[cfg(test)]
 mod routes;
 #[cfg(test)]
 mod spice;

@@ -2,3 +2,4 @@ mod RunLaws
 mod NearLaws
 mod WorkLaws
 mod OneAnswer
+mod OneRunLaws

@@ -1,21 +1,17 @@
 -- The words and the files have one answer: at each step one thing follows from the bytes, or one refusal, and not both.
-use Rattle.std.proofs.Common.{◌≡◌, ◌≢◌, ◌⊎◌, inl, inr, ℕ, ◌<◌, ◌≤◌, List, length, Option, Some, None, Result, Ok, Err, refl, sym, ap, subst, ◌∙◌, arith}
+use Rattle.std.proofs.Common.{◌≡◌, ◌≢◌, ℕ, ◌<◌, ◌≤◌, List, length, Option, Some, None, Result, Ok, Err, refl, sym, ap, subst, ◌∙◌, arith}
 use Rattle.std.specs.Prelude.{MatchOption, ◌++◌, codes}
 use Rattle.std.specs.List.{AllByRecursion}
-use Rattle.std.proofs.lemmas.Option.{same_Some}
 use Rattle.or_geom.specs.declared.shape.Shape.{Shape}
 use Rattle.or_host.specs.Files.{Files}
 use Rattle.gds_library.specs.declared.library.Library.{Library}
 use Rattle.gds_library.specs.declared.fault.GdsFault.{GdsFault}
-use Rattle.gds_library.specs.declared.fault.GdsFault.TheVariants as gds
 use Rattle.gds_library.specs.FirstFault.{IsFaultOf}
 use Rattle.gds_library.specs.Grammar.{Spells}
 use Rattle.gds_library.specs.ReadLibrary.{LibrariesAreUnique}
 use Rattle.gds_library.specs.Writable.{IsWritable, IsWritableCell, LibrariesAreWritable}
 use Rattle.gds_library.specs.OneFault.{FaultsAreUnique, FaultsExcludeLibraries}
 use Rattle.gds_records.specs.Bytes.{AreBytes}
-use Rattle.tech_rules.specs.declared.fault.TechFault.{TechFault}
-use Rattle.tech_rules.specs.Technology.{technology}
 use Rattle.tech_rules.specs.declared.tech.Tech.{Tech}
 use Rattle.cell_hierarchy.specs.declared.fault.FlattenFault.{FlattenFault}
 use Rattle.cell_hierarchy.specs.declared.fault.FlattenFault.TheVariants as flatten_fault
@@ -26,7 +22,6 @@ use Rattle.tile_checker.specs.OneReport.{ReportsAreUnique}
 use Rattle.netlist.specs.declared.deck.Deck.{Deck}
 use Rattle.netlist.specs.declared.rows.Rows.{Rows}
 use Rattle.netlist.specs.declared.rows.RowPin.{RowPin}
-use Rattle.spice_text.specs.declared.fault.SpiceFault.{SpiceFault}
 use Rattle.spice_text.specs.Deck.{deck}
 use Rattle.spice_netlist.specs.declared.fault.FlatFault.{FlatFault}
 use Rattle.spice_netlist.specs.declared.fault.FlatFault.TheVariants as rows_fault
@@ -51,26 +46,28 @@ use Rattle.device_lvs.specs.OneAnswer.{DeviceAnswersAreUnique, DeviceFaultsAreUn
 use Rattle.device_lvs.specs.RoleSteps.{leaf_files}
 use Rattle.device_lvs.proofs.OneAnswerLaws.{one_device_answer, one_device_fault, no_device_answer}
 use Rattle.device_command.proofs.OneReplyLaws.{on_devices_answered}
+use Rattle.kit_command.proofs.OneReplyLaws.{on_kit_answered}
 use Rattle.reply_lines.specs.declared.refusal.Refusal.{Refusal}
 use Rattle.reply_lines.specs.declared.refusal.Refusal.TheVariants as refusal_of
 use Rattle.reply_lines.specs.declared.reply.Reply.{Reply}
-use Rattle.reply_lines.specs.Reply.{refusal_reply, report_reply}
+use Rattle.reply_lines.specs.Reply.{report_reply}
 use Rattle.reply_lines.specs.NetLines.{nets_reply}
 use Rattle.reply_lines.specs.Differences.{comparison_reply}
-use Rattle.reply_lines.specs.Statuses.{refusal_status}
 use Rattle.openram_cli.specs.declared.inputs.Inputs.{Inputs}
 use Rattle.openram_cli.specs.declared.inputs.Inputs.TheVariants as inputs
 use Rattle.openram_cli.specs.declared.inputs.Layout.{Layout}
 use Rattle.openram_cli.specs.declared.inputs.LeafCells.{LeafCells}
 use Rattle.openram_cli.specs.Command.{Command, LayoutWords, command_of}
-use Rattle.openram_cli.specs.Command.Command.{check, nets, compare, devices}
+use Rattle.openram_cli.specs.Command.Command.{check, nets, compare, devices, kit}
+use Rattle.build_command.specs.Design.{IsKitUnder}
 use Rattle.build_command.specs.OneDesign.{HoldBytes}
+use Rattle.build_command.proofs.OneDesignLaws.{on_kit_under}
 use Rattle.command_steps.proofs.OnceLaws.{gds_lasts, on_fault, on_file, on_gives, on_tech_file, on_then, on_value}
 use Rattle.command_steps.specs.Once.{IsDecided, IsLow, IsOnce}
-use Rattle.command_steps.specs.Outcome.{WithoutRefusal, ValueOrFault, Then}
-use Rattle.command_steps.specs.File.{limit, IsReadable, IsFile, IsTechnology, IsTechnologyFile}
+use Rattle.command_steps.specs.Outcome.{WithoutRefusal, Then}
+use Rattle.command_steps.specs.File.{limit, IsFile, IsTechnologyFile}
 use Rattle.openram_cli.specs.Inputs.{IsLibrary, IsDeck, IsLibraryFile, IsDeckFile, IsLayoutWith, IsLayout, AreCompared, HasDevices, IsDeviceTechnology, AreCellsOver, AreCellsWith, AreLeafCells, AreInputs}
-use Rattle.openram_cli.specs.Answer.{AreFlatShapesOf, AreFlat, leaves_of, AreLeafRows, IsReported, IsNetListing, IsDifference, IsCompared, IsCheckAnswer, IsNetsAnswer, IsCompareAnswer, IsReplyTo, IsUsage, IsCommandWork, IsWork, IsAnswer, reply_of}
+use Rattle.openram_cli.specs.Answer.{AreFlatShapesOf, AreFlat, leaves_of, AreLeafRows, IsReported, IsNetListing, IsDifference, IsCompared, IsCheckAnswer, IsNetsAnswer, IsCompareAnswer, IsReplyTo, IsUsage, IsCommandWork, reply_of}
 use Rattle.openram_cli.specs.OneAnswer.{IsOnly, HaveOneAnswer}
 
 reported : ReportsAreUnique → (tech : Tech) (shapes : List Shape) → IsOnly (IsReported tech shapes)
@@ -213,6 +210,8 @@ module _ (l : AreLaws) where
       (λ layout made. on_then (IsDeckFile files netlist) (λ d. WithoutRefusal (λ (read : Inputs). read ≡ inputs.Compare layout d)) (on_deck_file files netlist) (λ d read. on_gives (λ (read : Inputs). read ≡ inputs.Compare layout d) (λ x y p q. p ∙ sym q)))
   on_inputs files (devices name) hold =
       on_then (AreLeafCells files name) (λ cells. WithoutRefusal (λ (read : Inputs). read ≡ inputs.Devices cells)) (on_cells files name hold) (λ cells made. on_gives (λ (read : Inputs). read ≡ inputs.Devices cells) (λ x y p q. p ∙ sym q))
+  on_inputs files (kit name) hold =
+      on_then (IsKitUnder files name) (λ made. WithoutRefusal (λ (read : Inputs). read ≡ inputs.Kit made)) (on_kit_under files hold name) (λ made read_so. on_gives (λ (read : Inputs). read ≡ inputs.Kit made) (λ x y p q. p ∙ sym q))
 
   cells_writable : (files : Files) (name : List ℕ) (cells : LeafCells) → HoldBytes files → AreLeafCells files name (Ok cells) → AllByRecursion IsWritableCell cells.lib.structs
   cells_writable files name cells hold made =
@@ -249,6 +248,7 @@ module _ (l : AreLaws) where
       let cells = made.0 in
       subst (λ (x : Inputs). IsOnce (IsReplyTo x)) (sym made.2)
       (on_devices_answered l.devices l.device_faults l.no_device_faults (leaf_files cells.tech cells.lib cells.deck) (cells_writable files name cells hold made.1))
+  on_reply files (kit name) read hold made = subst (λ (x : Inputs). IsOnce (IsReplyTo x)) (sym made.2) (on_kit_answered made.0)
 
   on_command : (files : Files) (c : Command) → HoldBytes files → IsOnce (IsCommandWork files c)
   on_command files c hold = on_then (AreInputs files c) IsReplyTo (on_inputs files c hold) (λ read made. on_reply files c read hold made)

@@ -1,11 +1,10 @@
 -- From the outcome of the work and the printing of it to what a run does.
-use Rattle.std.proofs.Common.{◌≡◌, ◌<◌, ◌↔◌, ℕ, Bool, true, false, List, [], Option, Some, None, Result, Ok, Err, refl, sym, ap, inl, inr, subst, ◌∙◌, arith}
+use Rattle.std.proofs.Common.{◌≡◌, ◌<◌, ◌↔◌, ℕ, Bool, true, false, List, [], Option, Some, None, Ok, Err, refl, sym, ap, inl, inr, subst, ◌∙◌, arith}
 use Rattle.std.proofs.lemmas.List.{append-nil}
 use Rattle.std.specs.Prelude.{MatchOption, if◌then◌else◌}
 use Rattle.std.specs.Option.{is_none}
 use Rattle.or_host.specs.Fault.{Rose, IsNameTold}
 use Rattle.or_host.specs.Files.{Files}
-use Rattle.or_host.specs.Text.{Grows}
 use Rattle.reply_lines.specs.declared.refusal.Refusal.{Refusal}
 use Rattle.reply_lines.specs.declared.refusal.Refusal.TheVariants.{Usage, ReadFailed}
 use Rattle.reply_lines.specs.declared.reply.Reply.{Reply}
@@ -13,14 +12,14 @@ use Rattle.reply_lines.specs.Lines.{reply_line, lines_text}
 use Rattle.reply_lines.specs.Refusals.{refusal_words}
 use Rattle.reply_lines.specs.Reply.{refusal_reply}
 use Rattle.reply_lines.specs.Statuses.{is_memory, is_read_failure, is_usage, refusal_status}
-use Rattle.openram_cli.specs.Answer.{IsWork, IsAnswer, IsRead, IsUsage, IsCommandWork, reply_of}
+use Rattle.openram_cli.specs.Answer.{IsWork, IsAnswer, IsRead, IsUsage, IsCommandWork}
 use Rattle.openram_cli.specs.Command.{Command, command_of}
-use Rattle.command_steps.specs.Finished.{AreSomeLines, IsCut, IsStopped, IsMemorySaid, IsFinished, IsOutOfMemory, IsUnreadTold, IsRefusalTold, memory_line, unread_line}
-use Rattle.command_steps.specs.Outcome.{UnlessMemory, is_usage_outcome}
-use Rattle.command_steps.specs.Outside.{Outside, SinkState, StoreState, IfTold}
+use Rattle.command_steps.specs.Finished.{AreSomeLines, IsCut, IsStopped, IsMemorySaid, IsFinished, IsOutOfMemory, IsFaultLinePrinted, IsRefusalPrinted, memory_line, unread_line}
+use Rattle.command_steps.specs.Outcome.{UnlessMemory}
+use Rattle.command_steps.specs.Outside.{Outside, IfTold}
 use Rattle.command_steps.specs.Printed.{IsWholeText, IsPrefixOf}
 use Rattle.command_steps.specs.Reading.{HasRead}
-use Rattle.openram_cli.specs.Run.{IsRunEnd, IsAnswerRun, IsAnswered, IsCutText, IsMemoryText, AreAnswerLines, IsReadText, IsNothingOf, usage_line}
+use Rattle.openram_cli.specs.Run.{IsRunEnd, IsAnswerRun, IsCutText, IsMemoryText, AreAnswerLines, IsReadText, IsNothingOf, usage_line}
 use Rattle.command_steps.proofs.EndLaws.{grows, followed, alone}
 use Rattle.command_steps.proofs.OutcomeLaws.{told_all, told_map}
 
@@ -77,7 +76,7 @@ memory_end words files ended before now kept (inr said) = record {
 
 -- a read failed
 unread_end : (words : List (List ℕ)) (files : Files) (name : List ℕ) (ended : ℕ) (before now : Outside) → IsRead words files name → Rose before.store.faults now.store.faults → IsNameTold now.store.failed name
-    → IsUnreadTold (unread_line name) ended before.sink now.sink → IsRunEnd words files ended before now
+    → IsFaultLinePrinted (unread_line name) ended before.sink now.sink → IsRunEnd words files ended before now
 unread_end words files name ended before now read rose named (inl whole) = record {
   answered = λ below. absurd (omega arith);
   cut = λ four. inl (
@@ -187,7 +186,7 @@ memory_run words ended before now same kept (inr said) = record {
 
 -- the run where a read failed; words that are no form read nothing
 unread_run : (words : List (List ℕ)) (name : List ℕ) (ended : ℕ) (before now : Outside) → (command_of words ≡ None → ⊥) → IfTold before.store.files (λ files. IsRead words files name)
-    → now.store.files ≡ before.store.files → Rose before.store.faults now.store.faults → IsNameTold now.store.failed name → IsUnreadTold (unread_line name) ended before.sink now.sink → IsAnswerRun words ended before now
+    → now.store.files ≡ before.store.files → Rose before.store.faults now.store.faults → IsNameTold now.store.failed name → IsFaultLinePrinted (unread_line name) ended before.sink now.sink → IsAnswerRun words ended before now
 unread_run words name ended before now form told same rose named (inl whole) = record {
   range = omega arith;
   told = told_map before.store.files (λ files. IsRead words files name) (λ files. IsRunEnd words files ended before now) (λ files read. unread_end words files name ended before now read rose named (inl whole)) told;
@@ -296,18 +295,18 @@ refused_run words refusal ended before now read usage lasts readable finished =
 
 -- the run of a failed read
 read_failed_run : (words : List (List ℕ)) (refusal : Refusal) (ended : ℕ) (before now : Outside) → HasRead (IsWork words) (Err refusal) before.store now.store → is_usage refusal ≡ is_none (command_of words)
-    → is_read_failure refusal ≡ true → IsUnreadTold (reply_line (refusal_words refusal)) ended before.sink now.sink → IsAnswerRun words ended before now
-read_failed_run words (ReadFailed name) ended before now read usage failed told =
+    → is_read_failure refusal ≡ true → IsFaultLinePrinted (reply_line (refusal_words refusal)) ended before.sink now.sink → IsAnswerRun words ended before now
+read_failed_run words (ReadFailed name) ended before now read usage failed printed =
     unread_run words name ended before now (formed (command_of words) usage)
-    (told_map before.store.files (λ files. UnlessMemory (IsWork words files) (Err (ReadFailed name))) (λ files. IsRead words files name) (λ files work. work refl) read.told) read.same (read.cause.rose refl) read.named told
-read_failed_run words other ended before now read usage failed told = absurd cc
+    (told_map before.store.files (λ files. UnlessMemory (IsWork words files) (Err (ReadFailed name))) (λ files. IsRead words files name) (λ files work. work refl) read.told) read.same (read.cause.rose refl) read.named printed
+read_failed_run words other ended before now read usage failed printed = absurd cc
 
 readable : (refusal : Refusal) → is_memory refusal ≡ true → is_read_failure refusal ≡ false
 readable (ReadFailed name) e = absurd cc
 readable other e = refl
 
 pub refusal_run : (words : List (List ℕ)) (refusal : Refusal) (ended : ℕ) (before now : Outside) → HasRead (IsWork words) (Err refusal) before.store now.store → is_usage refusal ≡ is_none (command_of words)
-    → IsRefusalTold refusal ended before.sink now.sink → IsAnswerRun words ended before now
+    → IsRefusalPrinted refusal ended before.sink now.sink → IsAnswerRun words ended before now
 refusal_run words refusal ended before now read usage (inl out) = memory_run words ended before now read.same (read.cause.kept (readable refusal out.0)) out.1
 refusal_run words refusal ended before now read usage (inr (inl unread)) = read_failed_run words refusal ended before now read usage unread.0 unread.1
 refusal_run words refusal ended before now read usage (inr (inr finished)) = refused_run words refusal ended before now read usage finished.0 finished.1 finished.2

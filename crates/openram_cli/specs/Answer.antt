@@ -1,5 +1,5 @@
 -- What the program answers to its words, over the files that a store tells.
-use Rattle.std.specs.Prelude.{◌≡◌, ℕ, ◌<◌, List, map, Option, Some, None, Result, Ok, Err, MatchOption}
+use Rattle.std.specs.Prelude.{◌≡◌, ℕ, ◌<◌, List, map, Option, Result, Ok, Err, MatchOption}
 use Rattle.or_geom.specs.declared.shape.Shape.{Shape}
 use Rattle.or_host.specs.Files.{Files}
 use Rattle.tech_rules.specs.declared.tech.Tech.{Tech}
@@ -20,6 +20,7 @@ use Rattle.netlist.specs.declared.rows.RowPin.{RowPin}
 use Rattle.spice_netlist.specs.Faults.{AreFlatRows, IsFlatFault}
 use Rattle.device_lvs.specs.RoleSteps.{leaf_files}
 use Rattle.device_command.specs.DeviceLines.{AreDevicesAnswered}
+use Rattle.kit_command.specs.WeakLines.{IsKitAnswered}
 use Rattle.reply_lines.specs.declared.refusal.Refusal.{Refusal}
 use Rattle.reply_lines.specs.declared.refusal.Refusal.TheVariants as refusal_of
 use Rattle.reply_lines.specs.declared.reply.Reply.{Reply}
@@ -105,6 +106,7 @@ IsReplyTo (inputs.Check layout) = IsCheckAnswer layout
 IsReplyTo (inputs.Nets layout) = IsNetsAnswer layout
 IsReplyTo (inputs.Compare layout d) = IsCompareAnswer layout d
 IsReplyTo (inputs.Devices cells) = AreDevicesAnswered (leaf_files cells.tech cells.lib cells.deck)
+IsReplyTo (inputs.Kit kit) = IsKitAnswered kit
 
 -- words that are no form are refused, whatever the files are
 abbrev pub IsUsage : Result Reply Refusal → Type 0

@@ -11,12 +11,13 @@ pub record LayoutWords : Type 0 where
   pub top : List ℕ
 
 -- the report of a structure, its nets, or its first difference from the netlist in the file of this name; or the first difference of
--- transistors in the leaf cells of the technology of this name
+-- transistors in the leaf cells of the technology of this name, or the first weakness of the kit of this name
 pub data Command : Type 0 where
   check : LayoutWords → Command
   nets : LayoutWords → Command
   compare : LayoutWords → List ℕ → Command
   devices : List ℕ → Command
+  kit : List ℕ → Command
 
 -- check TECH GDS TOP WORKERS
 abbrev pub check_form : List (List ℕ) → Option Command
@@ -41,10 +42,15 @@ abbrev pub devices_form : List (List ℕ) → Option Command
 devices_form (command ∷ tech ∷ []) = if bytes_eq command (codes "devices") && is_file_text tech then Some (devices tech) else None
 devices_form words = None
 
+-- kit TECH WORKERS
+abbrev pub kit_form : List (List ℕ) → Option Command
+kit_form (command ∷ tech ∷ workers ∷ []) = if bytes_eq command (codes "kit") && is_file_text tech && is_workers workers then Some (kit tech) else None
+kit_form words = None
+
 abbrev pub or_else : Option Command → Option Command → Option Command
 or_else None other = other
 or_else (Some command) other = Some command
 
 -- the command that the words are, if they are one
 abbrev pub command_of : List (List ℕ) → Option Command
-command_of words = or_else (check_form words) (or_else (nets_form words) (or_else (compare_form words) (devices_form words)))
+command_of words = or_else (check_form words) (or_else (nets_form words) (or_else (compare_form words) (or_else (devices_form words) (kit_form words))))

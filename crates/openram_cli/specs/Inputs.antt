@@ -9,6 +9,7 @@ use Rattle.tech_rules.specs.Facts.{IsTech}
 use Rattle.tech_rules.specs.declared.tech.Tech.{Tech}
 use Rattle.netlist.specs.declared.deck.Deck.{Deck}
 use Rattle.spice_text.specs.Deck.{deck}
+use Rattle.leaf_tables.specs.Kits.{IsKit}
 use Rattle.reply_lines.specs.declared.refusal.Refusal.{Refusal}
 use Rattle.reply_lines.specs.declared.refusal.Refusal.TheVariants as refusal_of
 use Rattle.openram_cli.specs.declared.inputs.Inputs.{Inputs}
@@ -16,7 +17,8 @@ use Rattle.openram_cli.specs.declared.inputs.Inputs.TheVariants as inputs
 use Rattle.openram_cli.specs.declared.inputs.Layout.{Layout}
 use Rattle.openram_cli.specs.declared.inputs.LeafCells.{LeafCells}
 use Rattle.openram_cli.specs.Command.{Command, LayoutWords}
-use Rattle.openram_cli.specs.Command.Command.{check, nets, compare, devices}
+use Rattle.openram_cli.specs.Command.Command.{check, nets, compare, devices, kit}
+use Rattle.build_command.specs.Design.{IsKitUnder}
 use Rattle.command_steps.specs.File.{IsFile, IsTechnologyFile}
 use Rattle.command_steps.specs.Outcome.{WithoutRefusal, ValueOrFault, Then}
 
@@ -76,6 +78,7 @@ AreInputs files (check words) = Then (IsLayout files words) (λ layout. WithoutR
 AreInputs files (nets words) = Then (IsLayout files words) (λ layout. WithoutRefusal (λ read. read ≡ inputs.Nets layout))
 AreInputs files (compare words netlist) = Then (IsLayout files words) (AreCompared files netlist)
 AreInputs files (devices name) = Then (AreLeafCells files name) (λ cells. WithoutRefusal (λ read. read ≡ inputs.Devices cells))
+AreInputs files (kit name) = Then (IsKitUnder files name) (λ made. WithoutRefusal (λ read. read ≡ inputs.Kit made))
 
 -- what is known of every technology and every library that is read
 pub record IsSoundLayout (layout : Layout) : Type 0 where
@@ -91,3 +94,4 @@ AreSound (inputs.Check layout) = IsSoundLayout layout
 AreSound (inputs.Nets layout) = IsSoundLayout layout
 AreSound (inputs.Compare layout d) = IsSoundLayout layout
 AreSound (inputs.Devices cells) = AreSoundCells cells
+AreSound (inputs.Kit made) = IsKit made

@@ -10,7 +10,7 @@ use Rattle.build_command.specs.Run.{IsMakingRun}
 use Rattle.build_command.specs.Words.{Making, IsMakingForm, AreNoMaking}
 use Rattle.openram_cli.specs.Answer.{IsAnswer, IsRead}
 use Rattle.openram_cli.specs.Command.{command_of}
-use Rattle.command_steps.specs.Finished.{memory_line, IsMemorySaid, IsFaultTold, unread_line}
+use Rattle.command_steps.specs.Finished.{memory_line, IsMemorySaid, IsFaultPrinted, unread_line}
 use Rattle.command_steps.specs.Outside.{Outside, IfTold}
 use Rattle.command_steps.specs.Printed.{IsWholeText, IsPrefixOf, AreFirstLines, IsFollowedBy}
 
@@ -87,7 +87,7 @@ pub record IsAnswerRun (words : List (List ℕ)) (status : ℕ) (before now : Ou
   -- 4 comes only where a fault rose
   pub fault : status ≡ 4 → Rose before.store.faults now.store.faults ⊎ Rose before.sink.faults now.sink.faults
   -- and unless the sink failed, the line of the failed read is printed
-  pub named : status ≡ 4 → Rose before.sink.faults now.sink.faults ⊎ IsFaultTold unread_line before now
+  pub named : status ≡ 4 → Rose before.sink.faults now.sink.faults ⊎ IsFaultPrinted unread_line before now
   -- at 5 the sink didn't fail, and where a read failed nothing is printed
   pub memory_clean : status ≡ 5 → now.sink.faults ≡ before.sink.faults
   pub silent : status ≡ 5 → (now.store.faults ≡ before.store.faults) ⊎ (Rose before.store.faults now.store.faults × Grows (λ text. text ≡ []) before.sink.text now.sink.text)

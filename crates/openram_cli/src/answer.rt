@@ -13,6 +13,7 @@ use crate::inputs::{Inputs, Layout};
 use bumpalo::Bump;
 use cell_hierarchy::{Flat, flatten, flatten_shapes};
 use device_command::answer_devices;
+use kit_command::answer_kit;
 use net_extractor::{Nets, compare, extract};
 use netlist::{Deck, Rows};
 use or_geom::{Memory, Name};
@@ -189,5 +190,6 @@ pub fn answer<R: Threads + Sync, G: Gate + Sync>(
         Inputs::Nets(layout) => answer_nets(rt, alloc, &layout),
         Inputs::Compare { layout, deck } => answer_compare(rt, alloc, &layout, &deck),
         Inputs::Devices(cells) => answer_devices(alloc, &cells.tech, &cells.lib, &cells.deck),
+        Inputs::Kit(kit) => answer_kit(rt, alloc, &kit, workers),
     }
 }

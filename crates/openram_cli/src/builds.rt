@@ -2,7 +2,7 @@
 
 use crate::tests::{Ended, NONE, file, run_on};
 use demo_kit::demo;
-use or_host::MemFile;
+use or_host::{MemFile, MemStore};
 use std::alloc::Global;
 use std::test::Fail;
 use std::thread::Threads;
@@ -76,6 +76,11 @@ fn has(bytes: &[u8], part: &[u8]) -> bool {
     parted(bytes, part).is_some()
 }
 
+/// Whether each of these files is there.
+fn all_there(store: &MemStore, names: &[&str]) -> bool {
+    names.iter().all(|name| store.contents(name).is_some())
+}
+
 /// The line is the same with 1 and with 64 workers, and the eight files are there.
 #[test]
 fn demonstrations(rt: HostRuntime) -> Result<(), Fail> {
@@ -85,9 +90,7 @@ fn demonstrations(rt: HostRuntime) -> Result<(), Fail> {
         let ended = run_on(&rt, alloc, &words, Vec::new(alloc), NONE)?;
         assert_eq!(rt; ended.status, 0);
         assert_eq!(rt; ended.out.written(), DEMO_LINE.as_bytes());
-        for name in FILES {
-            assert!(rt; ended.store.contents(name).is_some());
-        }
+        assert!(rt; all_there(&ended.store, &FILES));
     }
     Ok(())
 }

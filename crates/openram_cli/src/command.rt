@@ -1,7 +1,7 @@
 ghost use Rattle.std.specs.Prelude.{◌≡◌, map, string_bytes, codes, IfSome};
 ghost use Rattle.std.specs.List.{list_all};
 ghost use Rattle.std.specs.Str.{bytes_eq};
-ghost use Rattle.openram_cli.specs.Command.{command_of, check_form, nets_form, compare_form, devices_form};
+ghost use Rattle.openram_cli.specs.Command.{command_of, check_form, nets_form, compare_form, devices_form, kit_form};
 ghost use Rattle.openram_cli.specs.CommandWords.{HasWorkers, told_asked, told_command};
 ghost use Rattle.std.specs.Option.{option_map};
 ghost use Rattle.sram_plan.specs.Config.{is_file_text, is_printable_byte};
@@ -37,6 +37,8 @@ pub enum Asked<'a> {
     },
     /// The first difference of transistors in a technology's leaf cells: `devices TECH`.
     Devices(&'a str),
+    /// The first weakness of a kit: `kit TECH WORKERS`.
+    Kit(&'a str),
 }
 
 /// A command of one worker.
@@ -171,6 +173,32 @@ fn devices_in(words: &[String]) -> Option<Command<'_>>
     }
 }
 
+fn is_kit(command: &String) -> bool
+    ensures { result ≡ bytes_eq (string_bytes command.now) (codes "kit") }
+{
+    command.as_str() == "kit"
+}
+
+/// `kit TECH WORKERS`, if the words are that.
+fn kit_in(words: &[String]) -> Option<Command<'_>>
+    ensures words { option_map told_command result ≡ kit_form (map string_bytes words.now) }
+    ensures workers { IfSome result HasWorkers }
+{
+    match words {
+        [command, tech, workers] => {
+            if !is_kit(command) || !is_tech_name(tech) {
+                return None;
+            }
+            let Some(workers) = workers_in(workers) else {
+                return None;
+            };
+            let asked = Asked::Kit(tech.as_str());
+            Some(Command { asked, workers })
+        }
+        _ => None,
+    }
+}
+
 /// The command that the words are, if they are one.
 pub fn command_in(words: &[String]) -> Option<Command<'_>>
     ensures words { option_map told_command result ≡ command_of (map string_bytes words.now) }
@@ -185,5 +213,8 @@ pub fn command_in(words: &[String]) -> Option<Command<'_>>
     if let Some(command) = compare_in(words) {
         return Some(command);
     }
-    devices_in(words)
+    if let Some(command) = devices_in(words) {
+        return Some(command);
+    }
+    kit_in(words)
 }

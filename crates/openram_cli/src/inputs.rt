@@ -8,8 +8,10 @@ ghost use Rattle.command_steps.specs.Outside.{store_state};
 ghost use Rattle.command_steps.specs.Reading.{HasRead};
 
 use crate::command::{Asked, LayoutWords};
+use build_command::read_kit_under;
 use command_steps::{read_file, read_technology, read_technology_under, with_ending};
 use gds_library::{Library, read_gds};
+use leaf_tables::Kit;
 use netlist::Deck;
 use or_geom::Name;
 use or_host::Store;
@@ -41,6 +43,7 @@ pub enum Inputs {
     Nets(Layout),
     Compare { layout: Layout, deck: Deck },
     Devices(LeafCells),
+    Kit(Kit),
 }
 
 fn read_library<S: Store>(alloc: Global, name: &str, store: &mut S) -> Result<Library, Refusal>
@@ -159,5 +162,6 @@ pub fn read_inputs<S: Store>(
             Ok(Inputs::Compare { layout, deck })
         }
         Asked::Devices(name) => Ok(Inputs::Devices(read_leaf_cells(alloc, name, store)?)),
+        Asked::Kit(name) => Ok(Inputs::Kit(read_kit_under(alloc, name, store)?)),
     }
 }

@@ -333,48 +333,35 @@ fn references_that_are_refused(rt: HostRuntime) -> Result<(), Fail> {
     Ok(())
 }
 
+/// A structure of this name that is an array of 32767 by 32767 cells.
+fn large_array(out: &mut Vec<u8>, alloc: Global, name: &[u8], cell: &[u8]) -> Result<(), Fail> {
+    let all = [0x7F, 0xFF, 0x7F, 0xFF];
+    begin(out, name)?;
+    array(out, alloc, cell, all, [[0, 0], [32767, 0], [0, 32767]])?;
+    end(out)
+}
+
+/// A library whose structure `c` is one square.
+fn square(alloc: Global) -> Result<Vec<u8>, Fail> {
+    let mut out = started(alloc)?;
+    begin(&mut out, b"c\0")?;
+    rectangle(&mut out, alloc, 10, [0, 0, 10, 10])?;
+    end(&mut out)?;
+    Ok(out)
+}
+
 /// An array of 32767 by 32767 cells, once and in itself again.
 #[test]
 fn arrays_that_are_too_large(rt: HostRuntime) -> Result<(), Fail> {
     let alloc = rt.alloc();
-    let all = [0x7F, 0xFF, 0x7F, 0xFF];
-    let side = [[0, 0], [32767, 0], [0, 32767]];
-    let mut once = started(alloc)?;
-    begin(&mut once, b"c\0")?;
-    rectangle(&mut once, alloc, 10, [0, 0, 10, 10])?;
-    end(&mut once)?;
-    begin(&mut once, b"t\0")?;
-    array(&mut once, alloc, b"c\0", all, side)?;
-    end(&mut once)?;
-    assert!(rt;
-        gives(
-            &rt,
-            alloc,
-            NARROW,
-            once,
-            3,
-            b"openram: 34 TooMany 1073676289 0\n"
-        )?
-    );
-    let mut twice = started(alloc)?;
-    begin(&mut twice, b"c\0")?;
-    rectangle(&mut twice, alloc, 10, [0, 0, 10, 10])?;
-    end(&mut twice)?;
-    begin(&mut twice, b"b\0")?;
-    array(&mut twice, alloc, b"c\0", all, side)?;
-    end(&mut twice)?;
-    begin(&mut twice, b"t\0")?;
-    array(&mut twice, alloc, b"b\0", all, side)?;
-    end(&mut twice)?;
-    assert!(rt;
-        gives(
-            &rt,
-            alloc,
-            NARROW,
-            twice,
-            3,
-            b"openram: 34 TooMany 4294967296 0\n"
-        )?
-    );
+    let mut once = square(alloc)?;
+    large_array(&mut once, alloc, b"t\0", b"c\0")?;
+    let line = b"openram: 34 TooMany 1073676289 0\n";
+    assert!(rt; gives(&rt, alloc, NARROW, once, 3, line)?);
+    let mut twice = square(alloc)?;
+    large_array(&mut twice, alloc, b"b\0", b"c\0")?;
+    large_array(&mut twice, alloc, b"t\0", b"b\0")?;
+    let line = b"openram: 34 TooMany 4294967296 0\n";
+    assert!(rt; gives(&rt, alloc, NARROW, twice, 3, line)?);
     Ok(())
 }

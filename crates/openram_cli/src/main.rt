@@ -25,6 +25,8 @@ mod run;
 mod tests;
 #[cfg(test)]
 mod transistors;
+#[cfg(test)]
+mod weak_kits;
 
 use crate::run::run;
 use command_steps::NO_MEMORY;

@@ -1,13 +1,14 @@
 //! Changes of demonstration 0 that are refused: one line says why, and no view is written.
 
 use crate::builds::{Change, FILES, built};
+use or_host::MemStore;
 use std::test::Fail;
 
 /// Changes, and the line that the build is refused with.
 type Refused = (&'static [Change], &'static [u8]);
 
 /// On `m3`, from 14, 27 to 18, 31.
-const RECTANGLE: &[u8] = &[
+pub const RECTANGLE: &[u8] = &[
     0, 4, 8, 0, 0, 6, 13, 2, 0, 14, 0, 6, 14, 2, 0, 0, 0, 44, 16, 3, 0, 0, 0, 14, 0, 0, 0, 27, 0,
     0, 0, 18, 0, 0, 0, 27, 0, 0, 0, 18, 0, 0, 0, 31, 0, 0, 0, 14, 0, 0, 0, 31, 0, 0, 0, 14, 0, 0,
     0, 27, 0, 4, 17, 0,
@@ -107,6 +108,14 @@ const REFUSED: [Refused; 15] = [
     ),
 ];
 
+/// Whether no view is there.
+fn no_view(store: &MemStore) -> bool {
+    FILES
+        .iter()
+        .skip(4)
+        .all(|name| store.contents(name).is_none())
+}
+
 #[test]
 fn refused_builds(rt: HostRuntime) -> Result<(), Fail> {
     let alloc = rt.alloc();
@@ -114,9 +123,7 @@ fn refused_builds(rt: HostRuntime) -> Result<(), Fail> {
         let ended = built(&rt, alloc, changes)?;
         assert_eq!(rt; ended.out.written(), line);
         assert_eq!(rt; ended.status, 3);
-        for view in FILES.iter().skip(4) {
-            assert!(rt; ended.store.contents(view).is_none());
-        }
+        assert!(rt; no_view(&ended.store));
     }
     Ok(())
 }

@@ -1,9 +1,8 @@
 ghost use Rattle.std.specs.Prelude.{◌≡◌, ◌<◌, IfOk, map, string_bytes};
 ghost use Rattle.std.specs.Option.{is_none};
-ghost use Rattle.or_host.specs.Files.{Files};
 ghost use Rattle.openram_cli.specs.Answer.{IsWork};
 ghost use Rattle.openram_cli.specs.Command.{command_of};
-ghost use Rattle.openram_cli.specs.OneAnswer.{HaveOneAnswer, HaveToldWork};
+ghost use Rattle.openram_cli.specs.OneAnswer.{EndsAsAnswer, EndAsAsked};
 ghost use Rattle.command_steps.specs.Outcome.{is_usage_outcome};
 ghost use Rattle.command_steps.specs.Outside.{store_state, sink_state, outside_at};
 ghost use Rattle.command_steps.specs.Reading.{HasRead};
@@ -49,7 +48,7 @@ fn answer_words<R: Threads + Sync, G: Gate + Sync, S: Store, K: Sink>(
     out: &mut K,
 ) -> u8
     ensures run { IsAnswerRun (map string_bytes words.now) result (outside_at (store_state (S.files store.old) (S.faults store.old) (S.failed store.old)) (sink_state (K.written out.old) (K.faults out.old) (K.puts out.old))) (outside_at (store_state (S.files store.new) (S.faults store.new) (S.failed store.new)) (sink_state (K.written out.new) (K.faults out.new) (K.puts out.new))) }
-    ensures one { (files : Files) → HaveOneAnswer (map string_bytes words.now) files }
+    ensures one { EndsAsAnswer (map string_bytes words.now) result (outside_at (store_state (S.files store.old) (S.faults store.old) (S.failed store.old)) (sink_state (K.written out.old) (K.faults out.old) (K.puts out.old))) (outside_at (store_state (S.files store.new) (S.faults store.new) (S.failed store.new)) (sink_state (K.written out.new) (K.faults out.new) (K.puts out.new))) }
 {
     match reply_to(rt, alloc, gate, words, store) {
         Ok(reply) => finish(alloc, &reply, out),
@@ -67,11 +66,11 @@ pub fn run_gated<R: Threads + Sync, G: Gate + Sync, S: Store, K: Sink>(
     out: &mut K,
 ) -> u8
     ensures run { IsProgramRun (map string_bytes words.now) result (outside_at (store_state (S.files store.old) (S.faults store.old) (S.failed store.old)) (sink_state (K.written out.old) (K.faults out.old) (K.puts out.old))) (outside_at (store_state (S.files store.new) (S.faults store.new) (S.failed store.new)) (sink_state (K.written out.new) (K.faults out.new) (K.puts out.new))) }
-    // Over files of bytes words that are no build and no demonstration have one answer at most, so status and text are a
-    // function of them.
-    ensures one { (files : Files) → HaveOneAnswer (map string_bytes words.now) files }
+    // Over files of bytes words that are no build and no demonstration have one answer at most, and the run ends as it says:
+    // status and text are a function of words and files.
+    ensures one { EndsAsAnswer (map string_bytes words.now) result (outside_at (store_state (S.files store.old) (S.faults store.old) (S.failed store.old)) (sink_state (K.written out.old) (K.faults out.old) (K.puts out.old))) (outside_at (store_state (S.files store.new) (S.faults store.new) (S.failed store.new)) (sink_state (K.written out.new) (K.faults out.new) (K.puts out.new))) }
     // So they are of a build and a demonstration, with the files at the end.
-    ensures work { HaveToldWork (map string_bytes words.now) result (outside_at (store_state (S.files store.old) (S.faults store.old) (S.failed store.old)) (sink_state (K.written out.old) (K.faults out.old) (K.puts out.old))) (outside_at (store_state (S.files store.new) (S.faults store.new) (S.failed store.new)) (sink_state (K.written out.new) (K.faults out.new) (K.puts out.new))) }
+    ensures work { EndAsAsked (map string_bytes words.now) result (outside_at (store_state (S.files store.old) (S.faults store.old) (S.failed store.old)) (sink_state (K.written out.old) (K.faults out.old) (K.puts out.old))) (outside_at (store_state (S.files store.new) (S.faults store.new) (S.failed store.new)) (sink_state (K.written out.new) (K.faults out.new) (K.puts out.new))) }
 {
     match making_in(words) {
         Some(making) => make(rt, alloc, gate, making, store, out),
@@ -80,7 +79,7 @@ pub fn run_gated<R: Threads + Sync, G: Gate + Sync, S: Store, K: Sink>(
 }
 
 /// All that the program does: it reads the files that the words name, writes the views of a build, prints each line by one call
-/// of `put`, and answers the exit status. 0: done. 1: a check found violations, a comparison a difference, or leaf cells differ
+/// of `put`, and answers the exit status. 0: done. 1: a check found violations, a comparison a difference, a kit is weak, or leaf cells differ
 /// from their subcircuits in a transistor. 2: the words are no
 /// form. 3: an input is refused, or the memory that it asks for can't be built soundly. 4: the store or the sink failed, and its
 /// count of faults rose. 5: out of memory.
@@ -92,11 +91,11 @@ pub fn run<R: Threads + Sync, S: Store, K: Sink>(
     out: &mut K,
 ) -> u8
     ensures run { IsProgramRun (map string_bytes words.now) result (outside_at (store_state (S.files store.old) (S.faults store.old) (S.failed store.old)) (sink_state (K.written out.old) (K.faults out.old) (K.puts out.old))) (outside_at (store_state (S.files store.new) (S.faults store.new) (S.failed store.new)) (sink_state (K.written out.new) (K.faults out.new) (K.puts out.new))) }
-    // Over files of bytes words that are no build and no demonstration have one answer at most, so status and text are a
-    // function of them.
-    ensures one { (files : Files) → HaveOneAnswer (map string_bytes words.now) files }
+    // Over files of bytes words that are no build and no demonstration have one answer at most, and the run ends as it says:
+    // status and text are a function of words and files.
+    ensures one { EndsAsAnswer (map string_bytes words.now) result (outside_at (store_state (S.files store.old) (S.faults store.old) (S.failed store.old)) (sink_state (K.written out.old) (K.faults out.old) (K.puts out.old))) (outside_at (store_state (S.files store.new) (S.faults store.new) (S.failed store.new)) (sink_state (K.written out.new) (K.faults out.new) (K.puts out.new))) }
     // So they are of a build and a demonstration, with the files at the end.
-    ensures work { HaveToldWork (map string_bytes words.now) result (outside_at (store_state (S.files store.old) (S.faults store.old) (S.failed store.old)) (sink_state (K.written out.old) (K.faults out.old) (K.puts out.old))) (outside_at (store_state (S.files store.new) (S.faults store.new) (S.failed store.new)) (sink_state (K.written out.new) (K.faults out.new) (K.puts out.new))) }
+    ensures work { EndAsAsked (map string_bytes words.now) result (outside_at (store_state (S.files store.old) (S.faults store.old) (S.failed store.old)) (sink_state (K.written out.old) (K.faults out.old) (K.puts out.old))) (outside_at (store_state (S.files store.new) (S.faults store.new) (S.failed store.new)) (sink_state (K.written out.new) (K.faults out.new) (K.puts out.new))) }
 {
     run_gated(rt, alloc, &OpenGate, words, store, out)
 }

@@ -2,6 +2,7 @@ use Rattle.std.proofs.Common.{◌≡◌, Err}
 use Rattle.std.proofs.lemmas.Result.{err_from_is_err_and}
 use Rattle.openram_cli.specs.CommandWords.{told_layout}
 use Rattle.openram_cli.specs.Inputs.{IsDeckFile, IsLayout, AreCompared, AreLeafCells}
+use Rattle.build_command.specs.Design.{IsKitUnder}
 use Rattle.command_steps.specs.Outcome.{WithoutRefusal}
 use Rattle.command_steps.specs.Outside.{store_state}
 use Rattle.openram_cli.specs.declared.inputs.Inputs.{Inputs}
@@ -60,3 +61,13 @@ returns-in_err-read_leaf_cells-in-Devices-clause-read g c =
     let now = store_state (g.S.Store.files c.read_leaf_cells.new.store) (g.S.Store.faults c.read_leaf_cells.new.store) (g.S.Store.failed c.read_leaf_cells.new.store) in
     rw (p.1, p.2, c.in-Devices.is)
     (read_ends (λ files. AreLeafCells files name) (λ files cells. WithoutRefusal (λ (read : Inputs). read ≡ inputs.Devices cells)) c.in_err-read_leaf_cells-in-Devices.field-0.0 before now c.in_err-read_leaf_cells-in-Devices.ensures.read)
+
+pub returns-in_err-read_kit_under-in-Kit-clause-read : goal.returns-in_err-read_kit_under-in-Kit-clause-read
+returns-in_err-read_kit_under-in-Kit-clause-read g c =
+    let from = c.from_residual-in_err-read_kit_under-in-Kit in
+    let p = err_from_is_err_and from.result from.ensures.1 in
+    let name = c.in-Kit.name.now in
+    let before = store_state (g.S.Store.files c.args.store.now) (g.S.Store.faults c.args.store.now) (g.S.Store.failed c.args.store.now) in
+    let now = store_state (g.S.Store.files c.read_kit_under.new.store) (g.S.Store.faults c.read_kit_under.new.store) (g.S.Store.failed c.read_kit_under.new.store) in
+    rw (p.1, p.2, c.in-Kit.is)
+    (read_ends (λ files. IsKitUnder files name) (λ files made. WithoutRefusal (λ (read : Inputs). read ≡ inputs.Kit made)) c.in_err-read_kit_under-in-Kit.field-0.0 before now c.in_err-read_kit_under-in-Kit.ensures.read)
