@@ -15,7 +15,7 @@ fn key_text(alloc: Global, path: &[u8], name: &[u8]) -> Result<Name, Memory>
     let mut bytes = Vec::from_slice(alloc, path)?;
     bytes.push(0)?;
     bytes.extend_from_slice(name)?;
-    Ok(Name::from_bytes(alloc, &bytes)?)
+    Ok(Name::from_vec(bytes))
 }
 
 /// The key of a pin.

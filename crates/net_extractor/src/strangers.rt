@@ -54,11 +54,18 @@ fn is_placed_among(path: &[u8], pins: &[RowPin]) -> bool
     false
 }
 
-/// The paths of the pins' instances in order, each with the place of the pin.
+/// The paths of the pins' instances in order, each with the place of a pin. Of pins that follow one another at one instance
+/// the first stands for all.
 fn instances_of<'a>(alloc: Global, pins: &'a [RowPin]) -> Result<Vec<(&'a [u8], usize)>, Memory> {
     let mut instances = Vec::new(alloc);
+    let mut last: &[u8] = &[];
     for place in 0..pins.len() {
-        instances.push((pins[place].path.as_bytes(), place))?;
+        let path = pins[place].path.as_bytes();
+        if path == last {
+            continue;
+        }
+        last = path;
+        instances.push((path, place))?;
     }
     instances.sort_unstable();
     Ok(instances)
@@ -91,11 +98,16 @@ fn stands_at(path: &[u8], pins: &[RowPin], place: usize) -> bool
     is_along(path, instance)
 }
 
-/// Whether a pin is found by the path, or by a path above it, at whose instance the path stands.
-fn is_found(path: &[u8], pins: &[RowPin], instances: &[(&[u8], usize)]) -> bool
+/// Whether a pin is found by the path, or by a path above it, at whose instance the path stands. The pin at the place `likely`
+/// is looked at first, and the pin that the path leads to is left there for the next path.
+fn is_found(path: &[u8], pins: &[RowPin], instances: &[(&[u8], usize)], likely: &mut usize) -> bool
     ensures { IsTrue result → IsPlaced pins.now path.now }
 {
-    if stands_at(path, pins, likely_pin(instances, path)) {
+    if stands_at(path, pins, *likely) {
+        return true;
+    }
+    *likely = likely_pin(instances, path);
+    if stands_at(path, pins, *likely) {
         return true;
     }
     for at in 0..path.len() {
@@ -110,10 +122,10 @@ fn is_found(path: &[u8], pins: &[RowPin], instances: &[(&[u8], usize)]) -> bool
 }
 
 /// Whether the path stands at a leaf instance that has a pin.
-fn is_placed(path: &[u8], pins: &[RowPin], instances: &[(&[u8], usize)]) -> bool
+fn is_placed(path: &[u8], pins: &[RowPin], instances: &[(&[u8], usize)], likely: &mut usize) -> bool
     ensures { IsTrue result ↔ IsPlaced pins.now path.now }
 {
-    if is_found(path, pins, instances) {
+    if is_found(path, pins, instances, likely) {
         return true;
     }
     is_placed_among(path, pins)
@@ -135,13 +147,15 @@ pub fn first_stranger(
     ensures { IfOk result (λ found. MatchOption found (AreNoStrangers labels.now pins.now) (IsStrangerAt labels.now pins.now)) }
 {
     let instances = instances_of(alloc, pins)?;
+    // Labels of one instance mostly follow one another.
+    let mut likely = 0;
     for place in 0..labels.len() {
         let path = labels[place].path.as_bytes();
         if path.is_empty() {
             continue;
         }
         let lower = lowered(alloc, path)?;
-        if !is_placed(&lower, pins, &instances) {
+        if !is_placed(&lower, pins, &instances, &mut likely) {
             return Ok(Some(place));
         }
     }

@@ -58,21 +58,33 @@ fn from_zero(low: i64, high: i64) -> u64 {
     (twice >> 1) & 0xffff_ffff
 }
 
-/// The lower 32 bits, with a zero before each.
-fn spread(bits: u64) -> u64 {
-    let x = bits & 0xffff_ffff;
-    let x = (x | (x << 16)) & 0x0000_ffff_0000_ffff;
-    let x = (x | (x << 8)) & 0x00ff_00ff_00ff_00ff;
-    let x = (x | (x << 4)) & 0x0f0f_0f0f_0f0f_0f0f;
-    let x = (x | (x << 2)) & 0x3333_3333_3333_3333;
-    (x | (x << 1)) & 0x5555_5555_5555_5555
+/// A step along Hilbert's curve: in which quarter of a square the point lies, by the order in which the curve goes through
+/// them, and the point as the curve within that quarter sees it.
+fn quarter_of(x: u64, y: u64, bit: u32) -> (u64, u64, u64)
+    requires { bit < 32 }
+{
+    let right = (x >> bit) & 1 == 1;
+    let up = (y >> bit) & 1 == 1;
+    match (right, up) {
+        (false, false) => (0, y, x),
+        (false, true) => (1, x, y),
+        (true, true) => (2, x, y),
+        (true, false) => (3, !y, !x),
+    }
 }
 
-/// Where the middle of the rectangle stands on a curve that fills the plane, so that what stands near on the curve lies near.
+/// Where the middle of the rectangle stands on Hilbert's curve, which fills the plane: what stands near on the curve lies near.
 fn curve_of(rect: Rect, scale: Scale) -> u64 {
-    let x = from_zero(rect.x1, rect.x2) >> scale.across;
-    let y = from_zero(rect.y1, rect.y2) >> scale.upward;
-    spread(x) | (spread(y) << 1)
+    let mut x = from_zero(rect.x1, rect.x2) >> scale.across;
+    let mut y = from_zero(rect.y1, rect.y2) >> scale.upward;
+    let mut curve: u64 = 0;
+    for bit in (0..32).rev() {
+        let (quarter, along, beside) = quarter_of(x, y, bit);
+        curve = (curve << 2) | quarter;
+        x = along;
+        y = beside;
+    }
+    curve
 }
 
 /// The places with their numbers.

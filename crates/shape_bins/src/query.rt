@@ -19,6 +19,7 @@ pub enum Query {
 }
 
 /// Whether the closed rectangles have a point in common.
+#[inline(always)]
 fn meet(a: Rect, b: Rect) -> bool
     ensures { IsTrue result ↔ Meet a b }
 {
@@ -38,6 +39,7 @@ fn meet(a: Rect, b: Rect) -> bool
 }
 
 /// Whether the rectangles share area.
+#[inline(always)]
 fn overlap(a: Rect, b: Rect) -> bool
     ensures { IsTrue result ↔ Overlap a b }
 {
@@ -57,6 +59,7 @@ fn overlap(a: Rect, b: Rect) -> bool
 }
 
 /// Whether the closed rectangle contains the point.
+#[inline(always)]
 fn has_point(rect: Rect, point: Point) -> bool
     ensures { IsTrue result ↔ IsIn rect point }
 {
@@ -76,6 +79,7 @@ fn has_point(rect: Rect, point: Point) -> bool
 }
 
 /// Whether a shape with this rectangle is looked for.
+#[inline(always)]
 pub fn fits(query: Query, rect: Rect) -> bool
     ensures { IsTrue result ↔ FitsQuery query rect }
 {

@@ -9,6 +9,7 @@ use crate::query::{Query, fits};
 use or_geom::Memory;
 
 /// Whether the node is of the layer and its hull is one that is looked for. Then so may be shapes below it.
+#[inline(always)]
 pub fn is_wanted(node: Node, layer: u16, query: Query) -> bool
     ensures { IsTrue result ↔ IsNodeNear layer query node }
 {
