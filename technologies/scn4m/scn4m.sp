@@ -126,3 +126,9 @@ M5 vdd i1 i2 vdd pfet W=0.8u L=4.0u
 M6 i3 i2 vdd vdd pfet W=0.8u L=4.0u
 M7 vdd i3 z vdd pfet W=1.6u L=0.4u
 .ENDS delay
+.SUBCKT rom0 bl br wl vdd gnd
+M0 bl wl gnd gnd nfet W=1.6u L=0.4u
+.ENDS rom0
+.SUBCKT rom1 bl br wl vdd gnd
+M0 gnd wl br gnd nfet W=1.6u L=0.4u
+.ENDS rom1
