@@ -11,7 +11,7 @@ use Rattle.or_geom.specs.Distance.{IsNear}
 use Rattle.cell_roles.specs.declared.role.Role.TheVariants.{Precharge, Sense}
 use Rattle.tech_rules.specs.declared.route.Tap.{Tap}
 use Rattle.tech_rules.specs.declared.tech.Wire.{Wire}
-use Rattle.sram_netlist.specs.Organization.{Organization, bank_rows, words_per_row}
+use Rattle.sram_netlist.specs.Organization.{Organization, inputs_of, bank_rows, words_per_row}
 use Rattle.sram_netlist.specs.InstanceList.{tabulate}
 use Rattle.sram_deck.specs.Deck.{bank_ports}
 use Rattle.leaf_shapes.specs.declared.pins.LeafPin.{LeafPin}
@@ -46,7 +46,7 @@ pub record IsDrawnBank (kit : Kit) (plan : Organization) (wire : Wire) (track : 
 abbrev pub pins_of : Kit → Organization → Wire → Floorplan → List ℕ → List Tap → LeafPin → List PartPin
 pins_of kit plan wire fl n taps sense =
     tabulate (rail_count plan) (rail_pin plan wire taps)
-    ++ (tabulate plan.word_size (output_pin plan (layout_kit kit) fl sense)
+    ++ (tabulate (inputs_of plan) (output_pin plan (layout_kit kit) fl sense)
     ++ (map (pin_moved (columns_x plan (layout_kit kit) fl) (pos 0)) (data_pins kit plan fl n)
     ++ (map (pin_moved (columns_x plan (layout_kit kit) fl) (fl.precharge_y -ℤ fl.write_y)) (pre_pins kit plan n)
     ++ map (pin_moved fl.row_x (fl.array_y -ℤ fl.write_y)) (array_pins kit plan))))
@@ -73,7 +73,7 @@ top_shown : (kit : Kit) (plan : Organization) (wire : Wire) (track : List ℕ) (
     → AddsClockEdge kit.leaves wire (bank_ports plan) (line_count plan.groups + 2) (pos ((layout_kit kit).height Precharge)) [] clock
     → shown (ends_at (upper_y (layout_kit kit) fl -ℤ fl.write_y)) (pins_of kit plan wire fl n taps sense) ≡ clock ++ map (edge_moved (columns_x plan (layout_kit kit) fl)) (edges_at (Upper (pos ((layout_kit kit).height Precharge))) (pre_pins kit plan n))
 top_shown kit plan wire track fl n taps sense s clock adds =
-    five_shown (ends_at (upper_y (layout_kit kit) fl -ℤ fl.write_y)) (tabulate (rail_count plan) (rail_pin plan wire taps)) (tabulate plan.word_size (output_pin plan (layout_kit kit) fl sense)) (map (pin_moved (columns_x plan (layout_kit kit) fl) (pos 0)) (data_pins kit plan fl n))
+    five_shown (ends_at (upper_y (layout_kit kit) fl -ℤ fl.write_y)) (tabulate (rail_count plan) (rail_pin plan wire taps)) (tabulate (inputs_of plan) (output_pin plan (layout_kit kit) fl sense)) (map (pin_moved (columns_x plan (layout_kit kit) fl) (pos 0)) (data_pins kit plan fl n))
     (map (pin_moved (columns_x plan (layout_kit kit) fl) (fl.precharge_y -ℤ fl.write_y)) (pre_pins kit plan n)) (map (pin_moved fl.row_x (fl.array_y -ℤ fl.write_y)) (array_pins kit plan))
     ∙ ((λ i. rails i ++ (outputs i ++ (lower i ++ (columns i ++ array i)))) ∙ ap (λ (l : List Edge). clock ++ l) (append-nil (map (edge_moved (columns_x plan (layout_kit kit) fl)) (edges_at (Upper (pos ((layout_kit kit).height Precharge))) (pre_pins kit plan n))))) where
       tall : pos 0 <ℤ pos ((layout_kit kit).height Precharge)
@@ -96,8 +96,8 @@ top_shown kit plan wire track fl n taps sense s clock adds =
           rails_shown kit plan wire track fl taps s.raised s.of_taps
           ∙ (ap (λ (p : LeafPin). cond (int_eq (p.rect.y1 +ℤ wire.width) (pos ((layout_kit kit).height Precharge))) (rail_edge wire (bank_ports plan) (line_count plan.groups + 2) ∷ []) []) pin_is ∙ sym adds.adds)
 
-      outputs : shown (ends_at (upper_y (layout_kit kit) fl -ℤ fl.write_y)) (tabulate plan.word_size (output_pin plan (layout_kit kit) fl sense)) ≡ []
-      outputs = none_made (ends_at (upper_y (layout_kit kit) fl -ℤ fl.write_y)) plan.word_size (output_pin plan (layout_kit kit) fl sense) (λ k lt. other_numbers (fl.sense_y -ℤ fl.write_y) (upper_y (layout_kit kit) fl -ℤ fl.write_y) (λ e. omega (arith, ints, e, low, column, rows, tall)))
+      outputs : shown (ends_at (upper_y (layout_kit kit) fl -ℤ fl.write_y)) (tabulate (inputs_of plan) (output_pin plan (layout_kit kit) fl sense)) ≡ []
+      outputs = none_made (ends_at (upper_y (layout_kit kit) fl -ℤ fl.write_y)) (inputs_of plan) (output_pin plan (layout_kit kit) fl sense) (λ k lt. other_numbers (fl.sense_y -ℤ fl.write_y) (upper_y (layout_kit kit) fl -ℤ fl.write_y) (λ e. omega (arith, ints, e, low, column, rows, tall)))
 
       lower : shown (ends_at (upper_y (layout_kit kit) fl -ℤ fl.write_y)) (map (pin_moved (columns_x plan (layout_kit kit) fl) (pos 0)) (data_pins kit plan fl n)) ≡ []
       lower = ends_below (upper_y (layout_kit kit) fl -ℤ fl.write_y) (pos 0) (fl.array_y -ℤ fl.write_y) (columns_x plan (layout_kit kit) fl) (pos 0) (data_pins kit plan fl n) (omega (arith, ints, rows, tall)) (data_within kit plan fl n s.narrow s.stacked)
@@ -112,20 +112,20 @@ top_shown kit plan wire track fl n taps sense s clock adds =
 -- at the bottom
 bottom_shown : (kit : Kit) (plan : Organization) (wire : Wire) (track : List ℕ) (fl : Floorplan) (n : List ℕ) (taps : List Tap) (sense : LeafPin) → IsDrawnBank kit plan wire track fl taps sense
     → shown (begins_at (pos 0)) (pins_of kit plan wire fl n taps sense) ≡ tabulate (rail_count plan) (rail_edge wire (bank_ports plan))
-    ++ (tabulate plan.word_size (output_edge (columns_x plan (layout_kit kit) fl +ℤ sense.rect.x1) (words_per_row plan) (bit_width (layout_kit kit)))
+    ++ (tabulate (inputs_of plan) (output_edge (columns_x plan (layout_kit kit) fl +ℤ sense.rect.x1) (words_per_row plan) (bit_width (layout_kit kit)))
     ++ map (edge_moved (columns_x plan (layout_kit kit) fl)) (shown (begins_at (pos 0)) (data_pins kit plan fl n)))
 bottom_shown kit plan wire track fl n taps sense s =
-    five_shown (begins_at (pos 0)) (tabulate (rail_count plan) (rail_pin plan wire taps)) (tabulate plan.word_size (output_pin plan (layout_kit kit) fl sense)) (map (pin_moved (columns_x plan (layout_kit kit) fl) (pos 0)) (data_pins kit plan fl n))
+    five_shown (begins_at (pos 0)) (tabulate (rail_count plan) (rail_pin plan wire taps)) (tabulate (inputs_of plan) (output_pin plan (layout_kit kit) fl sense)) (map (pin_moved (columns_x plan (layout_kit kit) fl) (pos 0)) (data_pins kit plan fl n))
     (map (pin_moved (columns_x plan (layout_kit kit) fl) (fl.precharge_y -ℤ fl.write_y)) (pre_pins kit plan n)) (map (pin_moved fl.row_x (fl.array_y -ℤ fl.write_y)) (array_pins kit plan))
-    ∙ ((λ i. rails i ++ (outputs i ++ (lower i ++ (columns i ++ array i)))) ∙ ap (λ (l : List Edge). tabulate (rail_count plan) (rail_edge wire (bank_ports plan)) ++ (tabulate plan.word_size (output_edge (columns_x plan (layout_kit kit) fl +ℤ sense.rect.x1) (words_per_row plan) (bit_width (layout_kit kit))) ++ l)) (append-nil (map (edge_moved (columns_x plan (layout_kit kit) fl)) (shown (begins_at (pos 0)) (data_pins kit plan fl n))))) where
+    ∙ ((λ i. rails i ++ (outputs i ++ (lower i ++ (columns i ++ array i)))) ∙ ap (λ (l : List Edge). tabulate (rail_count plan) (rail_edge wire (bank_ports plan)) ++ (tabulate (inputs_of plan) (output_edge (columns_x plan (layout_kit kit) fl +ℤ sense.rect.x1) (words_per_row plan) (bit_width (layout_kit kit))) ++ l)) (append-nil (map (edge_moved (columns_x plan (layout_kit kit) fl)) (shown (begins_at (pos 0)) (data_pins kit plan fl n))))) where
       zero_low : int_eq (pos 0) (pos 0) ≡ true
       zero_low = equal_numbers (pos 0) (pos 0) refl
 
       rails : shown (begins_at (pos 0)) (tabulate (rail_count plan) (rail_pin plan wire taps)) ≡ tabulate (rail_count plan) (rail_edge wire (bank_ports plan))
       rails = all_shown (begins_at (pos 0)) (rail_count plan) (rail_pin plan wire taps) (λ k. zero_low)
 
-      outputs : shown (begins_at (pos 0)) (tabulate plan.word_size (output_pin plan (layout_kit kit) fl sense)) ≡ tabulate plan.word_size (output_edge (columns_x plan (layout_kit kit) fl +ℤ sense.rect.x1) (words_per_row plan) (bit_width (layout_kit kit)))
-      outputs = all_shown (begins_at (pos 0)) plan.word_size (output_pin plan (layout_kit kit) fl sense) (λ k. zero_low)
+      outputs : shown (begins_at (pos 0)) (tabulate (inputs_of plan) (output_pin plan (layout_kit kit) fl sense)) ≡ tabulate (inputs_of plan) (output_edge (columns_x plan (layout_kit kit) fl +ℤ sense.rect.x1) (words_per_row plan) (bit_width (layout_kit kit)))
+      outputs = all_shown (begins_at (pos 0)) (inputs_of plan) (output_pin plan (layout_kit kit) fl sense) (λ k. zero_low)
 
       lower : shown (begins_at (pos 0)) (map (pin_moved (columns_x plan (layout_kit kit) fl) (pos 0)) (data_pins kit plan fl n)) ≡ map (edge_moved (columns_x plan (layout_kit kit) fl)) (shown (begins_at (pos 0)) (data_pins kit plan fl n))
       lower = moved_shown (begins_at (pos 0)) (begins_at (pos 0)) (columns_x plan (layout_kit kit) fl) (pos 0) (λ x. equal_moved x.low (pos 0) (pos 0) (x.low +ℤ pos 0) (pos 0) refl refl) (data_pins kit plan fl n)
@@ -137,7 +137,7 @@ bottom_shown kit plan wire track fl n taps sense s =
       array = let rows = s.raised.rows in begins_above (pos 0) (pos (bank_rows plan * bit_height (layout_kit kit))) fl.row_x (fl.array_y -ℤ fl.write_y) (array_pins kit plan) (omega (arith, ints, rows)) (array_within kit plan s.narrow)
 
 abbrev output_list : Kit → Organization → Floorplan → LeafPin → List Edge
-output_list kit plan fl p = tabulate plan.word_size (output_edge (columns_x plan (layout_kit kit) fl +ℤ p.rect.x1) (words_per_row plan) (bit_width (layout_kit kit)))
+output_list kit plan fl p = tabulate (inputs_of plan) (output_edge (columns_x plan (layout_kit kit) fl +ℤ p.rect.x1) (words_per_row plan) (bit_width (layout_kit kit)))
 
 abbrev listed : Kit → Organization → Wire → Floorplan → LeafPin → List Edge → List Edge
 listed kit plan wire fl p l = tabulate (rail_count plan) (rail_edge wire (bank_ports plan)) ++ (output_list kit plan fl p ++ map (edge_moved (columns_x plan (layout_kit kit) fl)) l)

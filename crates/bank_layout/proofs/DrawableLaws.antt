@@ -3,11 +3,9 @@ use Rattle.std.proofs.Common.{inl, inr, ℕ, ◌*◌, ◌<◌, ◌≤◌, ℤ, p
 use Rattle.std.specs.Prelude.{Contains, slice_index}
 use Rattle.std.proofs.lemmas.Int.{ints}
 use Rattle.std.proofs.lemmas.Nat.{mul-le}
-use Rattle.std.proofs.lemmas.Option.{slice_get-get_or}
 use Rattle.or_geom.specs.declared.shape.Shape.{Shape}
 use Rattle.or_geom.specs.Distance.{IsNear}
 use Rattle.or_geom.proofs.GatheringLaws.{giver}
-use Rattle.or_geom.proofs.ListLaws.{contained_at}
 use Rattle.tech_rules.specs.declared.route.Tap.{Tap}
 use Rattle.tech_rules.specs.declared.tech.Wire.{Wire}
 use Rattle.tech_rules.specs.Drawing.{IsBox, IsVia}

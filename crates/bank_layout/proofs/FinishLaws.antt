@@ -1,7 +1,8 @@
 -- A bank's rails can be drawn, and all of its wires fit 32 bits.
-use Rattle.std.proofs.Common.{◌≡◌, ◌⊎◌, inl, inr, ℕ, ◌*◌, ◌<◌, ◌≤◌, ℤ, pos, ◌+ℤ◌, ◌-ℤ◌, ◌≤ℤ◌, List, length, get_or, sym, subst, arith}
+use Rattle.std.proofs.Common.{◌≡◌, ◌⊎◌, inl, inr, ℕ, ◌*◌, ◌<◌, ◌≤◌, ℤ, pos, ◌+ℤ◌, ◌-ℤ◌, ◌≤ℤ◌, List, length, get_or, sym, subst, le_trans, arith}
 use Rattle.std.specs.Prelude.{Contains}
 use Rattle.std.proofs.lemmas.Int.{ints}
+use Rattle.std.proofs.lemmas.Nat.{mul-le}
 use Rattle.std.proofs.lemmas.List.Elements.{Contains-append_cases}
 use Rattle.or_geom.specs.declared.shape.Shape.{Shape}
 use Rattle.or_geom.specs.Distance.{IsNear}
@@ -14,7 +15,8 @@ use Rattle.tech_rules.specs.Facts.{IsWire}
 use Rattle.channel_router.specs.declared.channel.Routed.{Routed}
 use Rattle.rail_bus.specs.Rails.{AreNearTaps, AreOfRails, EndBeyondRails, AreTapped}
 use Rattle.sram_netlist.specs.InstanceList.{tabulate}
-use Rattle.sram_netlist.specs.Organization.{columns_of, words_per_row}
+use Rattle.sram_netlist.specs.Organization.{inputs_of, columns_of, words_per_row}
+use Rattle.sram_netlist.proofs.Bounds.{written_most}
 use Rattle.sram_plan.specs.PlanNumbers.{organization}
 use Rattle.sram_plan.specs.declared.numbers.Plan.{Plan}
 use Rattle.leaf_tables.specs.declared.kit.Kit.{Kit}
@@ -121,7 +123,7 @@ all_drawable kit plan sides n wire routed g by channel rails moved outputs all p
       let near = (site_of kit plan sides n wire routed g).sense_near in
       let to = is_wire.sizes.width.to in
       let from = is_wire.sizes.width.from in
-      joiner_drawable kit.tech.layers wire n.write_y _ _ _ _ s is_wire low (omega (arith, ints, high)) (omega (arith, ints, above, to)) (omega (arith, ints, near, from)) (omega (arith, ints, low)) (omega (arith, ints, high, far)) above near l
+      joiner_drawable kit.tech.layers wire n.write_y _ _ _ _ s is_wire low (omega (arith, ints, high)) (omega (arith, ints, above, to)) (omega (arith, ints, near, from)) (omega (arith, ints, low)) (omega (arith, ints, high, far)) above near (record { inner = l.inner; is = l.is.1; shifted = l.shifted })
 
   corner_drawable : IsLowered n.write_y (IsCornerJoiner (organization plan) (layout_kit kit) wire (floorplan_of n)) s → IsDrawableWire wire s
   corner_drawable l =
@@ -136,7 +138,7 @@ all_drawable kit plan sides n wire routed g by channel rails moved outputs all p
       let from = is_wire.sizes.width.from in
       joiner_drawable kit.tech.layers wire n.write_y _ _ _ _ s is_wire left (omega (arith, ints, right)) (omega (arith, ints, above, to)) (omega (arith, ints, near, from)) (omega (arith, ints, low)) (omega (arith, ints, high, far)) above near l
 
-  out_drawable : IsOutputBelow wire (columns_x (organization plan) (layout_kit kit) (floorplan_of n) +ℤ parts.outputs_are.pin.rect.x1) (words_per_row (organization plan)) (bit_width (layout_kit kit)) (n.sense_y -ℤ n.write_y) plan.word_size s → IsDrawableWire wire s
+  out_drawable : IsOutputBelow wire (columns_x (organization plan) (layout_kit kit) (floorplan_of n) +ℤ parts.outputs_are.pin.rect.x1) (words_per_row (organization plan)) (bit_width (layout_kit kit)) (n.sense_y -ℤ n.write_y) (inputs_of (organization plan)) s → IsDrawableWire wire s
   out_drawable o =
       let low = columns_near.0 in
       let high = columns_near.1 in
@@ -146,5 +148,6 @@ all_drawable kit plan sides n wire routed g by channel rails moved outputs all p
       let wide = parts.outputs_are.pin.rect.wide in
       let bit = g.sides_of.bit_width in
       let few = g.sides_are.bit_width.to in
-      output_drawable kit.tech.layers wire _ (words_per_row (organization plan)) (bit_width (layout_kit kit)) _ plan.word_size s is_wire g.plan_is.plan.columns (omega (arith, bit, few)) (omega (arith, ints, low, left)) (omega (arith, ints, high, right, wide))
+      let most : inputs_of (organization plan) * words_per_row (organization plan) ≤ columns_of (organization plan) = mul-le _ _ _ _ (written_most plan.write_size plan.word_size) (omega arith) in
+      output_drawable kit.tech.layers wire _ (words_per_row (organization plan)) (bit_width (layout_kit kit)) _ (inputs_of (organization plan)) s is_wire (le_trans most g.plan_is.plan.columns) (omega (arith, bit, few)) (omega (arith, ints, low, left)) (omega (arith, ints, high, right, wide))
       (site_of kit plan sides n wire routed g).sense (site_of kit plan sides n wire routed g).sense_near o

@@ -1,5 +1,5 @@
 -- A bank's numbers are near.
-use Rattle.std.proofs.Common.{◌≡◌, inl, inr, ℕ, ◌-◌, ◌*◌, ◌≤◌, ℤ, pos, ◌+ℤ◌, ◌*ℤ◌, ◌<ℤ◌, List, [], ◌∷◌, length, Option, Some, refl, ap, subst, arith}
+use Rattle.std.proofs.Common.{◌≡◌, inl, inr, ℕ, ◌-◌, ◌*◌, ◌<◌, ◌≤◌, ℤ, pos, ◌+ℤ◌, ◌*ℤ◌, ◌<ℤ◌, List, [], ◌∷◌, length, Option, Some, refl, ap, subst, arith}
 use Rattle.std.specs.Prelude.{IfSome}
 use Rattle.std.specs.List.{AllByRecursion}
 use Rattle.std.proofs.lemmas.Int.{ints}
@@ -8,10 +8,12 @@ use Rattle.tech_rules.specs.declared.tech.Wire.{Wire}
 use Rattle.tech_rules.specs.Drawing.{pitch}
 use Rattle.tech_rules.specs.Facts.{IsWire}
 use Rattle.channel_router.specs.declared.channel.Routed.{Routed}
-use Rattle.sram_netlist.specs.Organization.{IsGroupSize, columns_of, words_per_row}
+use Rattle.sram_netlist.specs.Organization.{IsGroupSize, IsWritten, columns_of, words_per_row}
+use Rattle.sram_netlist.proofs.Bounds.{written_all}
 use Rattle.sram_netlist.specs.Numbers.{ArePlanNumbers}
 use Rattle.sram_plan.specs.PlanNumbers.{numbers_of, organization}
 use Rattle.sram_plan.specs.declared.numbers.Plan.{Plan}
+use Rattle.cell_roles.specs.declared.role.Role.TheVariants.{Write}
 use Rattle.leaf_tables.specs.declared.kit.Kit.{Kit}
 use Rattle.leaf_tables.specs.Kits.{IsKit}
 use Rattle.macro_layout.specs.Places.{bit_width}
@@ -22,7 +24,9 @@ use Rattle.macro_wires.specs.declared.sides.LeafSides.{LeafSides}
 use Rattle.macro_wires.specs.declared.numbers.FloorplanNumbers.{FloorplanNumbers}
 use Rattle.macro_wires.specs.Sides.{AreLeafSides, AreSidesOf}
 use Rattle.macro_wires.specs.FloorplanNumbers.{floorplan_of, IsNearFloorplan}
+use Rattle.macro_cells.proofs.SideLaws.{height_is}
 use Rattle.macro_wires.proofs.CountLaws.{counted}
+use Rattle.port_data.proofs.KitLaws.{leaf_exists}
 use Rattle.row_decoder.proofs.TapLaws.{few_in_group}
 use Rattle.bank_layout.specs.Near.{IsBankGiven}
 use Rattle.bank_layout.proofs.GoodLaws.{pos_of}
@@ -74,7 +78,7 @@ site_of kit plan sides n wire routed g =
     let array_y = stands.array_y in
     let precharge_y = stands.precharge_y in
     let write = g.sides_of.write_height in
-    let write_few = g.sides_are.write_height.to in
+    let write_few = g.sides_are.write_height in
     let sense = g.sides_of.sense_height in
     let sense_few = g.sides_are.sense_height.to in
     let gate = g.sides_of.gate_width in
@@ -106,10 +110,14 @@ site_of kit plan sides n wire routed g =
       tracks = g.given.near.tracks;
     }
 
--- the write cells are above nothing
-pub sense_above : (kit : Kit) (plan : Plan) (sides : LeafSides) (n : FloorplanNumbers) (wire : Wire) (routed : Routed) → AreGiven kit plan sides n wire routed → (n.sense_y ≡ n.write_y +ℤ pos sides.write_height) × (n.write_y <ℤ n.sense_y)
+-- a write cell is above nothing
+write_tall : (kit : Kit) → IsKit kit → 0 < (layout_kit kit).height Write
+write_tall kit is = let leaf = leaf_exists kit is Write in (height_is kit is Write leaf.0 leaf.1).some
+
+-- where there are any, the sense cells stand above these
+pub sense_above : (kit : Kit) (plan : Plan) (sides : LeafSides) (n : FloorplanNumbers) (wire : Wire) (routed : Routed) → AreGiven kit plan sides n wire routed → (n.sense_y ≡ n.write_y +ℤ pos sides.write_height) × (IsWritten (organization plan) → n.write_y <ℤ n.sense_y)
 sense_above kit plan sides n wire routed g =
     let sense_y = g.given.stands.1.sense_y in
     let write = g.sides_of.write_height in
-    let some = g.sides_are.write_height.from in
-    (omega (arith, ints, sense_y, write), omega (arith, ints, sense_y, write, some))
+    let some = write_tall kit g.is in
+    (omega (arith, ints, sense_y, write), λ written. let all = written_all plan.write_size ((layout_kit kit).height Write) written in omega (arith, ints, sense_y, write, some, all))

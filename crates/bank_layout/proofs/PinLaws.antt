@@ -1,26 +1,23 @@
 -- The pins of a kit's leaf cells: where they lie, and that a layout finds them.
-use Rattle.std.proofs.Common.{◌≡◌, inl, ℕ, zero, suc, ◌<◌, pos, ◌≤ℤ◌, List, [], ◌∷◌, length, Some, Option, option_map, option_and_then, find, Bool, true, false, cond, refl, ap, sym, subst, ◌∙◌, arith}
-use Rattle.std.specs.Prelude.{slice_get, slice_index, Contains, IfSome, ◌==◌}
+use Rattle.std.proofs.Common.{◌≡◌, inl, ℕ, zero, suc, pos, ◌≤ℤ◌, List, [], ◌∷◌, length, Some, Option, option_map, option_and_then, find, Bool, true, false, cond, refl, ap, sym, subst, ◌∙◌, arith}
+use Rattle.std.specs.Prelude.{slice_get, Contains, ◌==◌}
 use Rattle.std.specs.Str.{bytes_eq}
 use Rattle.std.proofs.lemmas.Int.{ints}
-use Rattle.std.proofs.lemmas.Option.{same_Some, slice_get-get_or, slice_get_within}
+use Rattle.std.proofs.lemmas.Option.{same_Some, slice_get_within}
 use Rattle.or_geom.specs.declared.shape.Rect.{Rect}
 use Rattle.or_geom.specs.declared.shape.Shape.{Shape}
-use Rattle.or_geom.proofs.ListLaws.{contained_at}
 use Rattle.cell_roles.specs.declared.role.Role.{Role}
-use Rattle.cell_roles.specs.declared.role.Role.TheVariants.{Bitcell, Precharge, Mux, Tie, Sense, Write, RowNand2, RowNand3, Driver, Nand2, Nand3, Inv, Dff, Delay}
-use Rattle.cell_roles.specs.Roles.{all_roles, role_ports}
+use Rattle.cell_roles.specs.declared.leaf_role.LeafRole.TheVariants.{Common}
+use Rattle.cell_roles.specs.Roles.{role_ports}
 use Rattle.tech_rules.specs.declared.tech.Wire.{Wire}
-use Rattle.tech_rules.specs.Facts.{IsWire}
 use Rattle.leaf_shapes.specs.declared.demand.Metal.{Metal}
-use Rattle.leaf_shapes.specs.declared.demand.Metal.TheVariants.{M1, M2, M3, M4}
 use Rattle.leaf_shapes.specs.declared.pins.LeafPin.{LeafPin}
 use Rattle.leaf_shapes.specs.Demands.{PinDemand, metal_layer, role_demands}
 use Rattle.leaf_shapes.specs.Outline.{IsWireLayer}
 use Rattle.leaf_shapes.proofs.PinLaws.{exists_at}
 use Rattle.leaf_tables.specs.declared.kit.Kit.{Kit}
 use Rattle.leaf_tables.specs.declared.kit.Leaf.{Leaf}
-use Rattle.leaf_tables.specs.Alignment.{role_number, leaf_in}
+use Rattle.leaf_tables.specs.Alignment.{leaf_in}
 use Rattle.leaf_tables.specs.Kits.{IsKit, source_of}
 use Rattle.leaf_tables.specs.Leaves.{LeafSource, IsLeaf}
 use Rattle.leaf_tables.proofs.RoleLaws.{metal_listed, in_kit}
@@ -38,7 +35,7 @@ pub record IsInsideLeaf (leaf : Leaf) (r : Rect) : Type 0 where
   pub narrow : leaf.width ≤ℤ pos 65536
   pub flat : leaf.height ≤ℤ pos 65536
 
-inside_pin : (source : LeafSource) (role : Role) (leaf : Leaf) → length source.wire.metals ≡ 4 → IsLeaf source role leaf → (k : ℕ) (pin : LeafPin) → slice_get leaf.pins k ≡ Some pin → IsInsideLeaf leaf pin.rect
+inside_pin : (source : LeafSource) (role : Role) (leaf : Leaf) → length source.wire.metals ≡ 4 → IsLeaf source (Common role) leaf → (k : ℕ) (pin : LeafPin) → slice_get leaf.pins k ≡ Some pin → IsInsideLeaf leaf pin.rect
 inside_pin source role leaf four is k pin there =
     let sized = is.pins.sized in
     let within = slice_get_within leaf.pins k pin there in

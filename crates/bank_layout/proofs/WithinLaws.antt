@@ -10,7 +10,8 @@ use Rattle.cell_roles.specs.declared.role.Role.{Role}
 use Rattle.cell_roles.specs.declared.role.Role.TheVariants.{Bitcell, Precharge, Sense, Write}
 use Rattle.netlist.specs.declared.deck.Instance.{Instance}
 use Rattle.cell_builder.specs.declared.cell.PlacedInstance.{PlacedInstance}
-use Rattle.sram_netlist.specs.Organization.{Organization, bank_rows, columns_of, words_per_row}
+use Rattle.sram_netlist.specs.Organization.{Organization, inputs_of, bank_rows, columns_of, words_per_row}
+use Rattle.sram_netlist.proofs.Bounds.{written_fits, some_written, written_all}
 use Rattle.sram_netlist.specs.InstanceList.{numbers_from, tabulate, tabulate_lists}
 use Rattle.sram_deck.specs.Deck.{row_bit, pre_instances, data_instances}
 use Rattle.leaf_shapes.specs.Demands.{PinDemand, role_demands}
@@ -22,7 +23,7 @@ use Rattle.leaf_tables.specs.Kits.{IsKit}
 use Rattle.port_lists.specs.Cells.{cell_in}
 use Rattle.macro_layout.specs.LayoutKit.{LayoutKit}
 use Rattle.macro_layout.specs.Places.{Floorplan, bit_width, bit_height, drive_width, in_row_at, upright, mirrored_at}
-use Rattle.macro_layout.specs.Floorplan.{column_role}
+use Rattle.macro_layout.specs.Floorplan.{column_role, write_height}
 use Rattle.macro_layout.specs.Cells.{slice_x, write_at, sense_at, column_at, precharge_at}
 use Rattle.macro_cells.specs.LeafSides.{side_of}
 use Rattle.macro_cells.specs.LayoutOfKit.{layout_kit}
@@ -30,7 +31,7 @@ use Rattle.leaf_tables.proofs.RoleLaws.{near_in_kit}
 use Rattle.part_edges.specs.PartPins.{PartPin, placed_pin, side_pins, edge_pins_of, leaf_pins, part_pins, is_at_side, net_of}
 use Rattle.cell_roles.specs.Roles.{role_ports}
 use Rattle.part_edges.proofs.PinLaws.{upright_pin, pin_at}
-use Rattle.bitcell_array.specs.ArrayPart.{bit_pins, array_pins}
+use Rattle.bitcell_array.specs.ArrayPart.{stored, bit_pins, array_pins}
 use Rattle.port_data.specs.DataPart.{data_pins}
 use Rattle.bank_layout.specs.BankPart.{pre_pins}
 use Rattle.bank_layout.proofs.PinLaws.{inside_leaf}
@@ -215,16 +216,16 @@ pre_within kit plan n s =
 
 -- the heights of the data
 pub record AreStacked (kit : LayoutKit) (plan : Organization) (fl : Floorplan) : Type 0 where
-  pub write : pos (kit.height Write) ≤ℤ (fl.sense_y -ℤ fl.write_y)
+  pub write : pos (write_height plan kit) ≤ℤ (fl.sense_y -ℤ fl.write_y)
   pub sense : ((fl.sense_y -ℤ fl.write_y) +ℤ pos (kit.height Sense)) ≤ℤ (fl.column_y -ℤ fl.write_y)
   pub column : (fl.column_y -ℤ fl.write_y) +ℤ pos (kit.height (column_role plan.col_bits)) ≡ fl.array_y -ℤ fl.write_y
 
 -- the pins of the data
 pub data_within : (kit : Kit) (plan : Organization) (fl : Floorplan) (n : List ℕ) → AreNarrow kit plan → AreStacked (layout_kit kit) plan fl → AllByRecursion (IsPinWithin (pos 0) (fl.array_y -ℤ fl.write_y)) (data_pins kit plan fl n)
 data_within kit plan fl n s h =
-    part_all kit P (tabulate plan.word_size (λ i. Write) ++ (tabulate plan.word_size (λ i. Sense) ++ tabulate (columns_of plan) (λ c. column_role plan.col_bits))) (data_instances plan (cell_in kit.tech.roles))
-    (tabulate plan.word_size (write_at plan lk) ++ (tabulate plan.word_size (sense_at plan lk fl) ++ tabulate (columns_of plan) (column_at plan lk fl)))
-    (two_made (HoldsIn kit P) plan.word_size (λ i. Write) (write_at plan lk) _ _ writes
+    part_all kit P (tabulate (inputs_of plan) (λ i. Write) ++ (tabulate plan.word_size (λ i. Sense) ++ tabulate (columns_of plan) (λ c. column_role plan.col_bits))) (data_instances plan (cell_in kit.tech.roles))
+    (tabulate (inputs_of plan) (write_at plan lk) ++ (tabulate plan.word_size (sense_at plan lk fl) ++ tabulate (columns_of plan) (column_at plan lk fl)))
+    (two_made (HoldsIn kit P) (inputs_of plan) (λ i. Write) (write_at plan lk) _ _ writes
     (two_made (HoldsIn kit P) plan.word_size (λ i. Sense) (sense_at plan lk fl) _ _ senses
     (two_made_last (HoldsIn kit P) (columns_of plan) (λ c. column_role plan.col_bits) (column_at plan lk fl) columns))) where
       lk : LayoutKit
@@ -233,7 +234,7 @@ data_within kit plan fl n s h =
       P : PartPin → Type 0
       P = IsPinWithin (pos 0) (fl.array_y -ℤ fl.write_y)
 
-      write_low : pos (lk.height Write) ≤ℤ (fl.sense_y -ℤ fl.write_y)
+      write_low : pos (write_height plan lk) ≤ℤ (fl.sense_y -ℤ fl.write_y)
       write_low = h.write
 
       sense_low : ((fl.sense_y -ℤ fl.write_y) +ℤ pos (lk.height Sense)) ≤ℤ (fl.column_y -ℤ fl.write_y)
@@ -242,10 +243,11 @@ data_within kit plan fl n s h =
       column_low : (fl.column_y -ℤ fl.write_y) +ℤ pos (lk.height (column_role plan.col_bits)) ≡ fl.array_y -ℤ fl.write_y
       column_low = h.column
 
-      writes : (i : ℕ) → i < plan.word_size → HoldsIn kit P Write (write_at plan lk i)
+      writes : (i : ℕ) → i < inputs_of plan → HoldsIn kit P Write (write_at plan lk i)
       writes i lt =
-          let far = few_wide (i * words_per_row plan) 256 (bit_width lk) (slice_few plan i lt s.few) (omega arith) s.narrow in
-          upright_in kit Write (slice_x plan lk i) (pos 0) (pos 0) (fl.array_y -ℤ fl.write_y) s.is (omega (arith, far)) (omega (arith, ints)) (omega (arith, ints, write_low, sense_low, column_low))
+          let far = few_wide (i * words_per_row plan) 256 (bit_width lk) (slice_few plan i (written_fits plan.write_size plan.word_size i lt) s.few) (omega arith) s.narrow in
+          let high = written_all plan.write_size (lk.height Write) (some_written plan.write_size plan.word_size i lt) in
+          upright_in kit Write (slice_x plan lk i) (pos 0) (pos 0) (fl.array_y -ℤ fl.write_y) s.is (omega (arith, far)) (omega (arith, ints)) (omega (arith, ints, write_low, high, sense_low, column_low))
 
       senses : (i : ℕ) → i < plan.word_size → HoldsIn kit P Sense (sense_at plan lk fl i)
       senses i lt =
@@ -271,7 +273,7 @@ array_within kit plan s = lists_all P (bank_rows plan) (λ r. tabulate_lists (co
   P = IsPinWithin (pos 0) (pos (bank_rows plan * bit_height lk))
 
   bits : (r c : ℕ) → r < bank_rows plan → c < columns_of plan → AllByRecursion P (bit_pins kit plan r c)
-  bits r c below lt = leaf_all kit Bitcell (row_bit (cell_in kit.tech.roles) c).nodes (in_row_at lk (pos 0) r (pos x)) P (by (r % 2 == 0)) where
+  bits r c below lt = leaf_all kit Bitcell (row_bit (stored (cell_in kit.tech.roles)) r c).nodes (in_row_at lk (pos 0) r (pos x)) P (by (r % 2 == 0)) where
     x : ℕ
     x = drive_width plan lk + c * bit_width lk
 

@@ -1,5 +1,5 @@
 -- What a bank adds: its cells and its subcircuits; its pins; and why it can't be built. Lengths are nanometres from its lower left
--- corner, which is the macro's left end at the lower edge of the write cells.
+-- corner, which is the macro's left end at the lower edge of the data.
 use Rattle.std.specs.Prelude.{◌≡◌, ◌⊎◌, ℕ, ◌==◌, ℤ, pos, ◌+ℤ◌, ◌-ℤ◌, List, [], ◌∷◌, ◌++◌, cond, map, Contains, Some, slice_index_or, codes}
 use Rattle.std.specs.Int.{int_max}
 use Rattle.std.specs.List.Sorted.{IsStrictlySortedBy}
@@ -13,7 +13,7 @@ use Rattle.channel_router.specs.declared.channel.Routed.{Routed}
 use Rattle.netlist.specs.declared.deck.Deck.{Deck}
 use Rattle.netlist.specs.declared.deck.Subckt.{Subckt}
 use Rattle.cell_builder.specs.CellList.{CellList, with_drawn}
-use Rattle.sram_netlist.specs.Organization.{Organization, columns_of, words_per_row}
+use Rattle.sram_netlist.specs.Organization.{Organization, inputs_of, columns_of, words_per_row}
 use Rattle.sram_netlist.specs.InstanceList.{tabulate}
 use Rattle.sram_netlist.specs.Names.{with_number}
 use Rattle.sram_deck.specs.Deck.{made_subckt, pre_instances, bank_ports, bank_instances}
@@ -84,7 +84,7 @@ pub record AreBankPins (kit : Kit) (plan : Organization) (wire : Wire) (floorpla
   pub sense : LeafPin
   pub is_sense : IsLeafPin kit.leaves Sense 2 sense
   pub are : pins ≡ tabulate (rail_count plan) (rail_pin plan wire taps)
-      ++ (tabulate plan.word_size (output_pin plan (layout_kit kit) floorplan sense)
+      ++ (tabulate (inputs_of plan) (output_pin plan (layout_kit kit) floorplan sense)
       ++ (map (pin_moved (columns_x plan (layout_kit kit) floorplan) (pos 0)) (data_pins kit plan floorplan n)
       ++ (map (pin_moved (columns_x plan (layout_kit kit) floorplan) (floorplan.precharge_y -ℤ floorplan.write_y)) (pre_pins kit plan n)
       ++ map (pin_moved floorplan.row_x (floorplan.array_y -ℤ floorplan.write_y)) (array_pins kit plan))))

@@ -33,7 +33,7 @@ fn part_at(
 }
 
 /// The cell of a bank: its array, its precharge cells and its data, with the bank's wires. Coordinates are nanometres from
-/// the lower edge of the write cells. `name` is the macro's.
+/// the bank's lower edge. `name` is the macro's.
 pub fn bank_cell(
     alloc: Global,
     name: &Name,

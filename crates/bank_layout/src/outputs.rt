@@ -2,7 +2,7 @@ ghost use Rattle.std.specs.Prelude.{◌≡◌, ◌<◌, ◌≤◌, ◌^◌, pos,
 ghost use Rattle.or_geom.specs.Adds.{Adds};
 ghost use Rattle.tech_rules.specs.Facts.{AreSizes};
 ghost use Rattle.tech_rules.specs.Drawing.{IsBox};
-ghost use Rattle.sram_netlist.specs.Organization.{words_per_row};
+ghost use Rattle.sram_netlist.specs.Organization.{IsWritten, inputs_of, words_per_row};
 ghost use Rattle.sram_netlist.specs.Numbers.{ArePlanNumbers};
 ghost use Rattle.sram_plan.specs.PlanNumbers.{numbers_of, organization};
 ghost use Rattle.macro_wires.specs.FloorplanNumbers.{IsUpTo};
@@ -10,7 +10,7 @@ ghost use Rattle.bank_layout.specs.Outputs.{IsOutputBelow};
 
 use crate::numbers::{column_offset, first_column};
 use or_geom::{Memory, Rect, Shape};
-use sram_plan::Plan;
+use sram_plan::{Plan, inputs_of};
 use tech_rules::Wire;
 
 /// Adds a wire on the fourth metal, from the lower edge up.
@@ -34,8 +34,8 @@ fn add_output(x: i64, top: i64, wire: &Wire, shapes: &mut Vec<Shape>) -> Result<
     Ok(())
 }
 
-/// Adds the wires of the outputs, one for each bit of the word: the first at `first`, and the others as far from each other
-/// as the bits' columns, which are so wide. They end at `top`.
+/// Adds the wires of the outputs, one for each bit of the word where something is written: the first at `first`, and the others as
+/// far from each other as the bits' columns, which are so wide. They end at `top`.
 pub fn add_outputs(
     plan: &Plan,
     first: i64,
@@ -49,10 +49,10 @@ pub fn add_outputs(
     requires metals { 3 < length wire.now.metals }
     requires near { IsUpTo (2 ^ 25) first }
     requires width { width ≤ 65536 }
-    requires tall { pos 0 <ℤ top }
-    ensures { OnOk result (Adds shapes.old.items shapes.new.items (IsOutputBelow wire.now first (words_per_row (organization plan.now)) width top plan.now.word_size)) }
+    requires tall { IsWritten (organization plan.now) → pos 0 <ℤ top }
+    ensures { OnOk result (Adds shapes.old.items shapes.new.items (IsOutputBelow wire.now first (words_per_row (organization plan.now)) width top (inputs_of (organization plan.now)))) }
 {
-    for bit in 0..plan.word_size {
+    for bit in 0..inputs_of(plan) {
         let x = first + column_offset(first_column(plan, bit), width);
         add_output(x, top, wire, shapes)?;
     }

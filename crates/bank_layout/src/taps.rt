@@ -27,7 +27,7 @@ use sram_plan::Plan;
 use std::alloc::Global;
 use tech_rules::{Tap, Wire};
 
-/// The place of a cell of a column, at this height above the write cells.
+/// The place of a cell of a column, at this height above the bank's lower edge.
 fn column_place(column: u32, sides: &LeafSides, floorplan: &FloorplanNumbers, y: i64) -> Place
     requires column { column ≤ 256 }
     requires sides { AreLeafSides sides.now }

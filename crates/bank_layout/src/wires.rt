@@ -6,6 +6,7 @@ ghost use Rattle.tech_rules.specs.declared.tech.Wire.{Wire};
 ghost use Rattle.leaf_tables.specs.declared.part.PartFault.{PartFault};
 ghost use Rattle.leaf_tables.specs.Kits.{IsKit};
 ghost use Rattle.tech_rules.specs.Facts.{IsWire};
+ghost use Rattle.sram_netlist.specs.Organization.{IsWritten};
 ghost use Rattle.sram_netlist.specs.Numbers.{ArePlanNumbers};
 ghost use Rattle.sram_plan.specs.PlanNumbers.{numbers_of, organization};
 ghost use Rattle.macro_cells.specs.LayoutOfKit.{layout_kit};
@@ -33,9 +34,9 @@ use std::alloc::Global;
 use tech_rules::Wire;
 
 /// The wires of a bank: its column channel, its rails and their taps, its outputs, and its joiners, each once and in order, in
-/// nanometres from the lower left corner of the write cells' row in the macro's first bank. `routed` is the column channel,
-/// routed from the left end of the columns and the lower edge of the write cells. `TapsClose` names two taps that are nearer to
-/// each other than the pitch. `Memory`.
+/// nanometres from the lower left corner of the macro's first bank. `routed` is the column channel, routed from the left end of the
+/// columns and the bank's lower edge. Where nothing is written there are no outputs: the sense cells stand at the lower edge.
+/// `TapsClose` names two taps that are nearer to each other than the pitch. `Memory`.
 pub fn bank_wires(
     alloc: Global,
     kit: &Kit,
@@ -115,7 +116,7 @@ fn add_output_wires(
     requires sides_of { AreSidesOf (organization plan.now) (layout_kit kit.now) sides.now }
     requires near { IsNearFloorplan floorplan.now }
     requires wire { IsWire kit.now.tech.layers wire.now }
-    requires above { floorplan.now.write_y <ℤ floorplan.now.sense_y }
+    requires above { IsWritten (organization plan.now) → floorplan.now.write_y <ℤ floorplan.now.sense_y }
     ensures { OnOk result (AddsOutputs kit.now.leaves (organization plan.now) (layout_kit kit.now) wire.now (floorplan_of floorplan.now) shapes.old.items shapes.new.items) }
 {
     let pin = pin_of(kit, Role::Sense, 2);

@@ -6,9 +6,10 @@ use Rattle.netlist.specs.declared.deck.Subckt.{Subckt}
 use Rattle.netlist.specs.declared.deck.Deck.{Deck}
 use Rattle.sram_netlist.specs.Organization.{Organization, columns_of, bank_rows}
 use Rattle.sram_netlist.specs.InstanceList.{tabulate_lists}
+use Rattle.sram_netlist.specs.BitCells.{BitCells, Alike}
 use Rattle.leaf_tables.specs.declared.kit.Kit.{Kit}
 use Rattle.port_lists.specs.Cells.{cell_in}
-use Rattle.sram_deck.specs.Deck.{made_subckt, row_bit, row_ports, row_instances, array_ports, array_instances, pre_ports, pre_instances}
+use Rattle.sram_deck.specs.Deck.{made_subckt, row_bit, row_subckt, array_ports, array_instances, pre_ports, pre_instances}
 use Rattle.cell_builder.specs.declared.cell.DrawnCell.{DrawnCell}
 use Rattle.cell_builder.specs.CellList.{CellList}
 use Rattle.macro_layout.specs.LayoutKit.{LayoutKit}
@@ -17,15 +18,19 @@ use Rattle.macro_layout.specs.Cells.{row_cell, array_cell, pre_cell}
 use Rattle.macro_cells.specs.LayoutOfKit.{layout_kit}
 use Rattle.part_edges.specs.PartPins.{PartPin, leaf_pins}
 
--- a row, the array of rows, and the precharge cells
-abbrev pub array_cells : Organization → LayoutKit → List ℕ → List DrawnCell
-array_cells plan kit n = row_cell plan kit n ∷ array_cell plan kit n ∷ pre_cell plan kit n ∷ []
+-- all bits are of the bitcell; `cell` is the name of a role's cell
+abbrev pub stored : (Role → List ℕ) → BitCells
+stored cell = Alike (cell Bitcell)
 
--- the subcircuits of these; `cell` is the name of a role's cell
+-- the row that all are like, the array of rows, and the precharge cells
+abbrev pub array_cells : Organization → LayoutKit → List ℕ → List DrawnCell
+array_cells plan kit n = row_cell plan kit (stored kit.cell) n 0 ∷ array_cell plan kit (stored kit.cell) n ∷ pre_cell plan kit n ∷ []
+
+-- the subcircuits of these
 abbrev pub array_subckts : Organization → (Role → List ℕ) → List ℕ → List Subckt
 array_subckts plan cell n =
-    made_subckt (n ++ codes "_row") (row_ports plan) (row_instances plan cell)
-    ∷ made_subckt (n ++ codes "_array") (array_ports plan) (array_instances plan n)
+    row_subckt plan cell (stored cell) n 0
+    ∷ made_subckt (n ++ codes "_array") (array_ports plan) (array_instances plan (stored cell) n)
     ∷ made_subckt (n ++ codes "_pre") (pre_ports plan) (pre_instances plan cell)
     ∷ []
 
@@ -45,7 +50,7 @@ array_height plan kit = bank_rows plan * bit_height kit
 
 -- the pins at the sides of the bitcell in row r and column c, in the array's coordinates
 abbrev pub bit_pins : Kit → Organization → ℕ → ℕ → List PartPin
-bit_pins kit plan r c = leaf_pins kit.leaves Bitcell (row_bit (cell_in kit.tech.roles) c).nodes
+bit_pins kit plan r c = leaf_pins kit.leaves Bitcell (row_bit (stored (cell_in kit.tech.roles)) r c).nodes
     (in_row_at (layout_kit kit) (pos 0) r (pos (drive_width plan (layout_kit kit) + c * bit_width (layout_kit kit))))
 
 -- Those of all bitcells. (A row's gate and its driver have no pin at their upper or lower side; and the bit lines of a row are

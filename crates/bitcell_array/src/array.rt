@@ -20,6 +20,7 @@ use macro_cells::{array_cell, pre_cell, row_cell, sides_of};
 use macro_wires::LeafSides;
 use netlist::Deck;
 use or_geom::{Memory, Name};
+use port_lists::Contents;
 use sram_plan::Plan;
 use sram_subckts::{array_subckt, precharge_subckt, row_subckt};
 use std::alloc::Global;
@@ -63,8 +64,8 @@ fn add_cells(
     requires few { length cells.old.cells < 2 ^ 31 }
     ensures { OnOk result (cells.new ≡ with_array_cells (organization plan.now) (layout_kit kit.now) name.now cells.old) }
 {
-    cells.draw(row_cell(alloc, kit, plan, name)?)?;
-    cells.draw(array_cell(alloc, kit, plan, name)?)?;
+    cells.draw(row_cell(alloc, kit, plan, name, Contents::Stored, 0)?)?;
+    cells.draw(array_cell(alloc, kit, plan, name, Contents::Stored)?)?;
     cells.draw(pre_cell(alloc, kit, plan, name)?)?;
     Ok(())
 }
@@ -81,8 +82,10 @@ fn add_subckts(
     ensures { OnOk result (deck.new ≡ with_array_subckts (organization plan.now) (cell_in kit.now.tech.roles) name.now deck.old) }
 {
     let roles = kit.tech.roles.as_slice();
-    deck.subckts.push(row_subckt(alloc, plan, roles, name)?)?;
-    deck.subckts.push(array_subckt(alloc, plan, name)?)?;
+    deck.subckts
+        .push(row_subckt(alloc, plan, roles, name, Contents::Stored, 0)?)?;
+    deck.subckts
+        .push(array_subckt(alloc, plan, name, Contents::Stored)?)?;
     deck.subckts
         .push(precharge_subckt(alloc, plan, roles, name)?)?;
     Ok(())

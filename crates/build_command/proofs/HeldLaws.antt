@@ -10,10 +10,11 @@ use Rattle.sram_plan.specs.declared.config.Config.{Config}
 use Rattle.command_steps.specs.Outside.{IfTold}
 use Rattle.command_steps.specs.Writing.{AreWritten}
 use Rattle.build_command.specs.declared.made.Made.{Made}
-use Rattle.build_command.specs.Held.{first_files, HoldViews, IsMemoryHeld}
-use Rattle.build_command.specs.Made.{view_name, views}
+use Rattle.build_command.specs.Held.{first_files, HoldViews, IsMemoryHeld, IsOrdered}
+use Rattle.build_command.specs.Made.{IsMadeOf, Ordered, order_of, order_of_rom, view_name, views}
 use Rattle.build_command.specs.Run.{IsMakingWork}
 use Rattle.build_command.specs.Words.{Making}
+use Rattle.build_command.specs.Words.Making.{build, demo, rom}
 
 -- a name of none of the files holds what it held
 other_kept : (files : List MemFile) (name : List ℕ) (before now : Files) → AllByRecursion (λ (file : MemFile). name ≢ file.name) files → AreWritten files before now → now name ≡ before name
@@ -58,18 +59,33 @@ views_held config built before now written =
       behaviour = last_held v [] written.2.2.0 now tt written.2.2.2;
     }
 
-held_by : (m : Making) (made : Made) (before now : Files) → IsMakingWork m before (Ok made) → AreWritten (first_files m ++ made.views) before now → IsMemoryHeld m before now
-held_by m made before now work written =
-    let of = work.2 in
-    let same : made.views ≡ views work.0.config of.built = ap (λ (it : Made). it.views) of.is in
+-- what the files ask for, and what is made of it
+pub record IsMadeFor (m : Making) (made : Made) (before : Files) : Type 0 where
+  pub order : Ordered
+  pub is_ordered : IsOrdered m before order
+  pub made_of : IsMadeOf order made
+
+made_for : (m : Making) (made : Made) (before : Files) → IsMakingWork m before (Ok made) → IsMadeFor m made before
+made_for (build config) made before work = record { order = order_of work.0; is_ordered = (work.0, work.1, refl); made_of = work.2 }
+made_for (demo n) made before work = record { order = order_of work.0; is_ordered = (work.0, work.1, refl); made_of = work.2 }
+made_for (rom config content) made before work = record { order = order_of_rom work.0; is_ordered = (work.0, work.1, refl); made_of = work.2 }
+
+held_for : (m : Making) (made : Made) (before now : Files) → IsMadeFor m made before → AreWritten (first_files m ++ made.views) before now → IsMemoryHeld m before now
+held_for m made before now is written =
+    let order = is.order in
+    let built = is.made_of.built in
+    let same : made.views ≡ views order.config built = ap (λ (it : Made). it.views) is.made_of.is in
     let later = later_written (first_files m) made.views before now written in
     record {
-      design = work.0;
-      is_design = work.1;
-      built = of.built;
-      is_built = of.is_built;
-      held = views_held work.0.config of.built later.0 now (subst (λ (list : List MemFile). AreWritten list later.0 now) same later.1);
+      order = order;
+      is_ordered = is.is_ordered;
+      built = built;
+      is_built = is.made_of.is_built;
+      held = views_held order.config built later.0 now (subst (λ (list : List MemFile). AreWritten list later.0 now) same later.1);
     }
+
+held_by : (m : Making) (made : Made) (before now : Files) → IsMakingWork m before (Ok made) → AreWritten (first_files m ++ made.views) before now → IsMemoryHeld m before now
+held_by m made before now work written = held_for m made before now (made_for m made before work) written
 
 pub told_held : (m : Making) (made : Made) (before now : Option Files) → IfTold before (λ files. IsMakingWork m files (Ok made)) → Told (AreWritten (first_files m ++ made.views)) before now
     → Told (IsMemoryHeld m) before now

@@ -3,6 +3,8 @@ mod StepLaws
 mod WriteLaws
 mod RunLaws
 mod NameLaws
+mod GoodLaws
 mod DemoByteLaws
 pub mod OneDesignLaws
+mod OneRomLaws
 pub mod OneWorkLaws

@@ -30,13 +30,13 @@ use Rattle.build_command.specs.Design.{IsConfigFile, IsConfiguration, IsDesign, 
 use Rattle.build_command.specs.OneDesign.{DesignsAreOne, HoldBytes}
 
 -- a refusal of a kit that is neither a failed read nor want of memory is no want of memory below
-kit_lasts : (f : KitFault) → IsLow (refusal_of.Kit f) → f ≢ kit_fault.Memory
+pub kit_lasts : (f : KitFault) → IsLow (refusal_of.Kit f) → f ≢ kit_fault.Memory
 kit_lasts f low e = let five : 5 < 4 = subst (λ (g : KitFault). IsLow (refusal_of.Kit g)) e low in omega (arith, five)
 
 one_plan_fault : (f g : PlanFault) → f ≡ g
 one_plan_fault Shape Shape = refl
 
-on_config_file : (files : Files) (name : List ℕ) → IsOnce (IsConfigFile files name)
+pub on_config_file : (files : Files) (name : List ℕ) → IsOnce (IsConfigFile files name)
 on_config_file files name = on_then (IsFile files name) IsConfiguration (on_file files name) (λ bytes there. on_value (configuration bytes) refusal_of.Config)
 
 on_plan : (config : Config) → IsOnce (IsPlanned config)
@@ -86,7 +86,7 @@ module _ (files : Files) (hold : HoldBytes files) where
       let last : Kit → Design → Type 0 = λ kit design. design ≡ record { config = config; plan = plan; kit = kit } in
       on_then (IsKitUnder files config.tech_name) (λ kit. WithoutRefusal (last kit)) (on_kit_under config.tech_name) (λ kit made. on_gives (last kit) (λ x y p q. p ∙ sym q))
 
-  on_design_of : (config : Config) → IsOnce (IsDesignOf files config)
+  pub on_design_of : (config : Config) → IsOnce (IsDesignOf files config)
   on_design_of config = on_then (IsPlanned config) (IsDesignWith files config) (on_plan config) (λ plan made. on_design_with config plan)
 
   on_design : (name : List ℕ) → IsOnce (IsDesign files name)

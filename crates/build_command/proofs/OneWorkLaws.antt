@@ -2,6 +2,7 @@
 use Rattle.std.proofs.Common.{◌≡◌, ◌≢◌, inl, inr, ℕ, ◌<◌, List, [], ◌∷◌, ◌++◌, Result, Ok, Err, sym, subst, ◌∙◌, arith}
 use Rattle.std.specs.Prelude.{codes}
 use Rattle.std.specs.Fmt.{decimal, signed_decimal}
+use Rattle.or_host.specs.FileList.{files_of}
 use Rattle.or_host.specs.Files.{Files}
 use Rattle.leaf_tables.specs.Kits.{IsKit}
 use Rattle.tech_rules.specs.declared.tech.Layer.{Layer}
@@ -22,14 +23,16 @@ use Rattle.command_steps.specs.Outside.{Outside}
 use Rattle.build_command.specs.declared.design.Design.{Design}
 use Rattle.build_command.specs.declared.made.Made.{Made}
 use Rattle.build_command.specs.Design.{IsDesign}
-use Rattle.build_command.specs.Held.{config_name, files_seen}
-use Rattle.build_command.specs.Made.{IsDesignMade, IsMadeOf, count_words, made_of, refusal_in, view_name}
-use Rattle.build_command.specs.OneDesign.{BytesAsked, EndsWith, HoldBytes, RunsEndAsWork, WorksAreOne}
+use Rattle.build_command.specs.Demonstration.{demo_files}
+use Rattle.build_command.specs.Made.{IsMadeOf, IsOrderMade, Ordered, count_words, made_of, order_of, order_of_rom, refusal_in, view_name}
+use Rattle.build_command.specs.OneDesign.{BytesAsked, EndsWith, RomWorksAreOne, RunsEndAsWork, WorksAreOne}
+use Rattle.build_command.specs.RomDesign.{IsRomDesign}
 use Rattle.build_command.specs.Run.{IsMakingWork}
 use Rattle.build_command.specs.Words.{Making}
-use Rattle.build_command.specs.Words.Making.{build, demo}
+use Rattle.build_command.specs.Words.Making.{build, demo, rom}
 use Rattle.build_command.proofs.DemoByteLaws.{demo_files_hold_bytes}
 use Rattle.build_command.proofs.OneDesignLaws.{designs_are_one}
+use Rattle.build_command.proofs.OneRomLaws.{kit_of_design, on_rom, rom_kit}
 
 -- the same views make the same files and line
 made_as : (config : Config) (plan : Plan) (a b : Built) → AreSameViews a b → made_of config plan a ≡ made_of config plan b
@@ -51,27 +54,33 @@ made_as config plan a b same = λ i. record {
 build_lasts : (layers : List Layer) (f : BuildFault) → IsLow (refusal_in layers f) → f ≢ build_fault.Memory
 build_lasts layers f low e = let five : 5 < 4 = subst (λ (g : BuildFault). IsLow (refusal_in layers g)) e low in omega (arith, five)
 
-on_made : (design : Design) → IsKit design.kit → IsOnce (IsDesignMade design)
-on_made design kit =
-    let layers = design.kit.tech.layers in
-    let name = design.config.output_name in
-    on_fault (IsMadeOf design) (IsBuildFault design.kit design.plan name) (refusal_in layers)
-    (λ a b p q. p.is ∙ made_as design.config design.plan p.built q.built (one_build design.kit design.plan name p.built q.built kit p.is_built q.is_built) ∙ sym q.is)
-    (λ f g s t p q. one_build_fault design.kit design.plan name f g kit (build_lasts layers f s) (build_lasts layers g t) p q)
-    (λ f made s p q. no_build_beside design.kit design.plan name f q.built kit (build_lasts layers f s) p q.is_built)
+on_made : (order : Ordered) → IsKit order.kit → IsOnce (IsOrderMade order)
+on_made order kit =
+    let layers = order.kit.tech.layers in
+    let name = order.config.output_name in
+    on_fault (IsMadeOf order) (IsBuildFault order.kit order.plan order.held name) (refusal_in layers)
+    (λ a b p q. p.is ∙ made_as order.config order.plan p.built q.built (one_build order.kit order.plan order.held name p.built q.built kit p.is_built q.is_built) ∙ sym q.is)
+    (λ f g s t p q. one_build_fault order.kit order.plan order.held name f g kit (build_lasts layers f s) (build_lasts layers g t) p q)
+    (λ f made s p q. no_build_beside order.kit order.plan order.held name f q.built kit (build_lasts layers f s) p q.is_built)
 
 -- a design that files ask for has a kit
 has_kit : (files : Files) (name : List ℕ) (design : Design) → IsDesign files name (Ok design) → IsKit design.kit
-has_kit files name design is = let under = is.2.2 in subst (λ (d : Design). IsKit d.kit) (sym under.2) under.1.2.2.2.is
+has_kit files name design is = kit_of_design files is.0 design is.2
 
 pub works_are_one : WorksAreOne
-works_are_one files name hold = on_then (IsDesign files name) IsDesignMade (designs_are_one files name hold) (λ design is. on_made design (has_kit files name design is))
+works_are_one files name hold =
+    on_then (IsDesign files name) (λ design. IsOrderMade (order_of design)) (designs_are_one files name hold) (λ design is. on_made (order_of design) (has_kit files name design is))
+
+pub rom_works_are_one : RomWorksAreOne
+rom_works_are_one files name content hold =
+    on_then (IsRomDesign files name content) (λ rom. IsOrderMade (order_of_rom rom)) (on_rom files content hold name) (λ rom is. on_made (order_of_rom rom) (rom_kit files name content rom is))
 
 -- what a run ends with
 
-seen_bytes : (m : Making) (files : Files) → BytesAsked m files → HoldBytes (files_seen m files)
-seen_bytes (build config) files hold = hold
-seen_bytes (demo n) files asked = demo_files_hold_bytes n
+making_once : (m : Making) (files : Files) → BytesAsked m files → IsOnce (IsMakingWork m files)
+making_once (build config) files hold = works_are_one files config hold
+making_once (demo n) files asked = works_are_one (files_of (demo_files n)) (codes "demo.toml") (demo_files_hold_bytes n)
+making_once (rom config content) files hold = rom_works_are_one files config content hold
 
 -- whatever the files ask for, the run ended with that
 abbrev EndsSo : Making → ℕ → Outside → Outside → Result Made Refusal → Files → Type 0
@@ -79,7 +88,7 @@ EndsSo m status before now result files = BytesAsked m files → IsMakingWork m 
 
 ends_so : (m : Making) (status : ℕ) (before now : Outside) (result other : Result Made Refusal) → IsDecided result → IsDecided other → EndsWith m status before now other → (files : Files) → IsMakingWork m files other → EndsSo m status before now result files
 ends_so m status before now result other decided also ends files work asked wanted =
-    subst (EndsWith m status before now) (works_are_one (files_seen m files) (config_name m) (seen_bytes m files asked) other result also decided work wanted) ends
+    subst (EndsWith m status before now) (making_once m files asked other result also decided work wanted) ends
 
 pub runs_end_as_work : RunsEndAsWork
 runs_end_as_work m status before now run result decided below = elim (run.kinds below) [

@@ -1,5 +1,5 @@
--- From how the work and the writing end to what a build or a demonstration does.
-use Rattle.std.proofs.Common.{◌≡◌, ◌⊎◌, ℕ, ◌<◌, ◌≤◌, Bool, true, false, List, [], ◌∷◌, Option, Ok, Err, refl, sym, inl, inr, subst, ◌∙◌, arith}
+-- From how the work and the writing end to what a run does that builds a memory.
+use Rattle.std.proofs.Common.{◌≡◌, ◌⊎◌, ℕ, ◌<◌, ◌≤◌, Bool, true, false, List, [], ◌∷◌, ◌++◌, Option, Ok, Err, refl, sym, inl, inr, subst, ◌∙◌, arith}
 use Rattle.std.proofs.lemmas.List.{append-nil}
 use Rattle.std.specs.Prelude.{codes, if◌then◌else◌}
 use Rattle.or_host.specs.Fault.{Rose, HasCause, NamesLast, IsNameTold, name_if}
@@ -25,9 +25,9 @@ use Rattle.build_command.specs.declared.made.Made.{Made}
 use Rattle.build_command.specs.Demonstration.{demo_files}
 use Rattle.build_command.specs.Made.{IsWork}
 use Rattle.build_command.specs.Held.{first_files}
-use Rattle.build_command.specs.Run.{IsMakingWork, IsWriteCut, IsPutOut, IsDemoBuilt, IsDemoWritten, IsWorkRefused, IsViewCut, IsPut, IsMakingEnd, IsMakingFaultPrinted, IsMakingRun}
+use Rattle.build_command.specs.Run.{IsMakingWork, IsWriteCut, IsPutOut, IsDemoBuilt, IsDemoWritten, IsWorkRefused, IsViewCut, IsPut, IsMakingEnd, IsMakingFaultPrinted, IsMakingRun, ReadsFilesOnly}
 use Rattle.build_command.specs.Words.{Making}
-use Rattle.build_command.specs.Words.Making.{build, demo}
+use Rattle.build_command.specs.Words.Making.{demo}
 use Rattle.build_command.proofs.HeldLaws.{told_held}
 use Rattle.build_command.proofs.StepLaws.{kept_cause}
 use Rattle.build_command.proofs.WriteLaws.{told_same, told_then, told_cut}
@@ -157,37 +157,47 @@ unstarted_run m status store before now printed =
 pub first_run : (m : Making) (status : ℕ) (before now : Outside) → IsWriteCut (first_files m) status before now → IsMakingRun m status before now
 first_run m status before now cut = high_run m status before now (cut_end (first_files m) status before now cut) (inr (inl cut))
 
--- a build whose work ended with a refusal
-pub build_refused : (config : List ℕ) (refusal : Refusal) (status : ℕ) (before now : StoreState) (start end : SinkState)
-    → HasRead (λ files. IsWork files config) (Err refusal) before now → is_usage refusal ≡ false → IsRefusalPrinted refusal status start end
-    → IsMakingRun (build config) status (outside_at before start) (outside_at now end)
-build_refused config refusal status before now start end read usage printed =
-    refused_run (build config) status (outside_at before start) (outside_at now end)
-    (record { refusal = refusal; no_usage = usage; reads = tt; work = read.told; files = told_same before.files now.files read.same; cause = read.cause; named = read.named; printed = printed })
+-- a run that writes nothing before the work, which ended with a refusal
+pub work_refused : (m : Making) → first_files m ≡ [] → (refusal : Refusal) (status : ℕ) (before now : StoreState) (start end : SinkState) → ReadsFilesOnly m refusal
+    → HasRead (λ files. IsMakingWork m files) (Err refusal) before now → is_usage refusal ≡ false → IsRefusalPrinted refusal status start end
+    → IsMakingRun m status (outside_at before start) (outside_at now end)
+work_refused m none refusal status before now start end reads read usage printed =
+    refused_run m status (outside_at before start) (outside_at now end) (record {
+      refusal = refusal;
+      no_usage = usage;
+      reads = reads;
+      work = read.told;
+      files = subst (λ (list : List MemFile). Told (AreWritten list) before.files now.files) (sym none) (told_same before.files now.files read.same);
+      cause = read.cause;
+      named = read.named;
+      printed = printed;
+    })
 
--- a build whose work made views
-pub build_put : (config : List ℕ) (made : Made) (status : ℕ) (before mid : StoreState) (start : SinkState) (now : Outside)
-    → HasRead (λ files. IsWork files config) (Ok made) before mid → made.reply.status ≡ 0 → IsPutOut made status (outside_at mid start) now
-    → IsMakingRun (build config) status (outside_at before start) now
-build_put config made status before mid start now read success (inl cut) =
-    view_run (build config) status (outside_at before start) now (record {
+-- such a run whose work made views
+pub work_put : (m : Making) → first_files m ≡ [] → (made : Made) (status : ℕ) (before mid : StoreState) (start : SinkState) (now : Outside)
+    → HasRead (λ files. IsMakingWork m files) (Ok made) before mid → made.reply.status ≡ 0 → IsPutOut made status (outside_at mid start) now
+    → IsMakingRun m status (outside_at before start) now
+work_put m none made status before mid start now read success (inl cut) =
+    view_run m status (outside_at before start) now (record {
       made = made;
       work = read.told;
-      cut = record {
+      cut = subst (λ (list : List MemFile). IsWriteCut (list ++ made.views) status (outside_at before start) now) (sym none) (record {
         file = cut.file;
         fail = cut.fail;
         files = subst (λ (o : Option Files). Told (EndsAt made.views cut.file cut.fail) o now.store.files) read.same cut.files;
         cause = subst (λ (n : ℕ). HasCause n now.store.faults (is_write_failure cut.fail)) (read.cause.kept refl) cut.cause;
         named = names_on (name_if (is_write_failure cut.fail) cut.file.name) before.failed mid.failed now.store.failed read.named cut.named;
         printed = cut.printed;
-      };
+      });
     })
-build_put config made status before mid start now read success (inr all) =
-    put_run (build config) status (outside_at before start) now (record {
+work_put m none made status before mid start now read success (inr all) =
+    put_run m status (outside_at before start) now (record {
       made = made;
       success = success;
       work = read.told;
-      files = subst (λ (o : Option Files). Told (AreWritten made.views) o now.store.files) read.same all.files;
+      files =
+          subst (λ (list : List MemFile). Told (AreWritten (list ++ made.views)) before.files now.store.files) (sym none)
+          (subst (λ (o : Option Files). Told (AreWritten made.views) o now.store.files) read.same all.files);
       kept = all.kept ∙ read.cause.kept refl;
       unnamed = all.unnamed ∙ read.named;
       printed = all.printed;

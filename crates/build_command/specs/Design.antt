@@ -69,5 +69,6 @@ IsDesign files name = Then (IsConfigFile files name) (IsDesignOf files)
 -- what is known of every design that is read
 pub record IsGoodDesign (design : Design) : Type 0 where
   pub config : IsConfig design.config
+  pub planned : IsPlanOf design.config design.plan
   pub numbers : ArePlanNumbers (numbers_of design.plan)
   pub kit : IsKit design.kit

@@ -14,11 +14,11 @@ use Rattle.command_steps.specs.Writing.{AreWritten}
 use Rattle.build_command.specs.declared.made.Made.{Made}
 use Rattle.build_command.specs.Demonstration.{demo_files}
 use Rattle.build_command.specs.Design.{IsDesign}
-use Rattle.build_command.specs.Made.{IsWork}
+use Rattle.build_command.specs.Made.{IsWork, IsRomWork}
 use Rattle.build_command.specs.Held.{first_files}
 use Rattle.build_command.specs.Run.{IsMakingRun, IsMakingWork}
 use Rattle.build_command.specs.Words.{Making}
-use Rattle.build_command.specs.Words.Making.{build, demo}
+use Rattle.build_command.specs.Words.Making.{build, demo, rom}
 
 -- what stands in the files is bytes
 abbrev pub HoldBytes : Files → Type 0
@@ -28,10 +28,11 @@ HoldBytes files = (name bytes : List ℕ) → files name ≡ Some bytes → AreB
 abbrev pub DemoFilesHoldBytes : Type 0
 DemoFilesHoldBytes = (n : ℕ) → HoldBytes (files_of (demo_files n))
 
--- so bytes are asked for of the files of a build alone
+-- so bytes are asked for of the files that are read: those of a build and of a read-only memory
 abbrev pub BytesAsked : Making → Files → Type 0
 BytesAsked (build config) files = HoldBytes files
 BytesAsked (demo n) files = Unit {0}
+BytesAsked (rom config content) files = HoldBytes files
 
 -- the file of a name asks for one design, or what it names is refused in one way
 abbrev pub DesignsAreOne : Type 0
@@ -40,6 +41,10 @@ DesignsAreOne = (files : Files) (name : List ℕ) → HoldBytes files → IsOnce
 -- what is asked for is made in one way, or refused in one way
 abbrev pub WorksAreOne : Type 0
 WorksAreOne = (files : Files) (name : List ℕ) → HoldBytes files → IsOnce (IsWork files name)
+
+-- and so is a read-only memory
+abbrev pub RomWorksAreOne : Type 0
+RomWorksAreOne = (files : Files) (name content : List ℕ) → HoldBytes files → IsOnce (IsRomWork files name content)
 
 -- status 0, the files with the views put under their names, and the line
 pub record EndsMade (m : Making) (made : Made) (status : ℕ) (before now : Outside) : Type 0 where
@@ -57,12 +62,12 @@ abbrev pub EndsWith : Making → ℕ → Outside → Outside → Result Made Ref
 EndsWith m status before now (Ok made) = EndsMade m made status before now
 EndsWith m status before now (Err refusal) = EndsRefused m refusal status before now
 
--- Over told files, those of a build being bytes: whatever the work on them ends with, failed reads and want of memory aside, a status
+-- Over told files, bytes where they are read: whatever the work on them ends with, failed reads and want of memory aside, a status
 -- below 4, the files at the end and the printed line are those of it.
 abbrev pub EndsAsWork : Making → ℕ → Outside → Outside → Type 0
 EndsAsWork m status before now = (result : Result Made Refusal) → IsDecided result → status < 4
     → IfTold before.store.files (λ files. BytesAsked m files → IsMakingWork m files result → EndsWith m status before now result)
 
--- each run of a build or a demonstration does so
+-- each run that builds a memory does so
 abbrev pub RunsEndAsWork : Type 0
 RunsEndAsWork = (m : Making) (status : ℕ) (before now : Outside) → IsMakingRun m status before now → EndsAsWork m status before now

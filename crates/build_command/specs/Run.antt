@@ -1,4 +1,4 @@
--- How a build and a demonstration end: the status, and the outside before and after.
+-- How a build, a read-only memory's and a demonstration's end: the status, and the outside before and after.
 use Rattle.std.specs.Prelude.{◌≡◌, ◌⊎◌, ℕ, ◌<◌, List, ◌++◌, length, false, Result, Ok, Err, codes}
 use Rattle.or_host.specs.Fault.{Rose, RoseBy, HasCause, NamesLast, name_if}
 use Rattle.or_host.specs.FileList.{files_of}
@@ -17,12 +17,13 @@ use Rattle.command_steps.specs.Printed.{IsWholeText}
 use Rattle.command_steps.specs.Writing.{AreWritten, EndsAt, is_write_failure}
 use Rattle.build_command.specs.declared.made.Made.{Made}
 use Rattle.build_command.specs.Held.{files_seen, config_name, first_files, IsMemoryHeld}
-use Rattle.build_command.specs.Made.{IsWork}
+use Rattle.build_command.specs.Made.{IsWork, IsRomWork}
 use Rattle.build_command.specs.Words.{Making}
-use Rattle.build_command.specs.Words.Making.{build, demo}
+use Rattle.build_command.specs.Words.Making.{build, demo, rom}
 
 -- what the work ends with, over the store's files
 abbrev pub IsMakingWork : Making → Files → Result Made Refusal → Type 0
+IsMakingWork (rom config content) files = IsRomWork files config content
 IsMakingWork m files = IsWork (files_seen m files) (config_name m)
 
 -- Writing these files ended at one of them: those before it are whole, and it holds what it held or a prefix of its bytes. The
@@ -85,6 +86,7 @@ pub record IsUnstarted (status : ℕ) (before now : Outside) : Type 0 where
 abbrev pub ReadsFilesOnly : Making → Refusal → Type 0
 ReadsFilesOnly (build config) refusal = Unit {0}
 ReadsFilesOnly (demo n) refusal = is_read_failure refusal ≡ false
+ReadsFilesOnly (rom config content) refusal = Unit {0}
 
 -- An input is refused, a read failed, or memory ran out on the way: no view is written.
 pub record IsWorkRefused (m : Making) (status : ℕ) (before now : Outside) : Type 0 where
@@ -140,7 +142,7 @@ pub record IsMakingRefused (m : Making) (before now : Outside) : Type 0 where
 abbrev pub IsMakingFaultPrinted : Outside → Outside → Type 0
 IsMakingFaultPrinted before now = Rose before.sink.faults now.sink.faults ⊎ (IsFaultPrinted unread_line before now ⊎ IsFaultPrinted unwritten_line before now)
 
--- What a build or a demonstration does.
+-- What a build, a read-only memory's too, or a demonstration does.
 pub record IsMakingRun (m : Making) (status : ℕ) (before now : Outside) : Type 0 where
   pub range : status < 6
   -- below 4 it is done, or an input is refused, and no fault rose

@@ -1,4 +1,4 @@
--- The words of a build and of a demonstration.
+-- The words of a build, of a demonstration and of a read-only memory.
 use Rattle.std.specs.Prelude.{◌≡◌, ℕ, ◌<◌, ◌≤◌, List, [], ◌∷◌, ◌&&◌, Option, Some, None, if◌then◌else◌, codes}
 use Rattle.std.specs.Fmt.{decimal}
 use Rattle.std.specs.Str.{bytes_eq}
@@ -6,12 +6,15 @@ use Rattle.command_steps.specs.Workers.{is_workers}
 use Rattle.build_command.specs.declared.words.Asked.{Asked}
 use Rattle.build_command.specs.declared.words.Asked.TheVariants as asked
 use Rattle.build_command.specs.declared.words.FormWords.{FormWords}
+use Rattle.build_command.specs.declared.words.RomForm.{RomForm}
 use Rattle.build_command.specs.declared.words.Making as declared
 
--- the memory of the configuration in the file of this name, or the demonstration with this number
+-- the memory of the configuration in the file of this name; the demonstration with this number; or the read-only memory of a
+-- configuration's file and a data file
 pub data Making : Type 0 where
   build : List ℕ → Making
   demo : ℕ → Making
+  rom : List ℕ → List ℕ → Making
 
 -- build CONFIG WORKERS
 abbrev pub build_form : List (List ℕ) → Option (List ℕ)
@@ -23,12 +26,23 @@ abbrev pub demo_form : List (List ℕ) → Option (List ℕ)
 demo_form (command ∷ number ∷ workers ∷ []) = if bytes_eq command (codes "demo") && is_workers workers then Some number else None
 demo_form words = None
 
--- the words are this build, or this demonstration: its number is 0 to 65535 in decimal digits, without a leading zero
+-- the files that a read-only memory is made of
+pub record RomFiles : Type 0 where
+  pub config : List ℕ
+  pub content : List ℕ
+
+-- rom CONFIG DATA WORKERS
+abbrev pub rom_form : List (List ℕ) → Option RomFiles
+rom_form (command ∷ config ∷ content ∷ workers ∷ []) = if bytes_eq command (codes "rom") && is_workers workers then Some (record { config = config; content = content }) else None
+rom_form words = None
+
+-- the words are this build, this read-only memory, or this demonstration: its number is 0 to 65535 in decimal digits, without a leading zero
 abbrev pub IsMakingForm : List (List ℕ) → Making → Type 0
 IsMakingForm words (build config) = build_form words ≡ Some config
 IsMakingForm words (demo n) = (n ≤ 65535) × (demo_form words ≡ Some (decimal n))
+IsMakingForm words (rom config content) = rom_form words ≡ Some (record { config = config; content = content })
 
--- the words are neither a build nor a demonstration
+-- the words are none of these
 abbrev pub AreNoMaking : List (List ℕ) → Type 0
 AreNoMaking words = (m : Making) → ¬ IsMakingForm words m
 
@@ -36,9 +50,13 @@ AreNoMaking words = (m : Making) → ¬ IsMakingForm words m
 abbrev pub told_form : FormWords → List ℕ
 told_form form = form.object.now
 
+abbrev pub told_files : RomForm → RomFiles
+told_files form = record { config = form.config.now; content = form.content.now }
+
 abbrev pub told_request : Asked → Making
 told_request (asked.Build config) = build config.now
 told_request (asked.Demo number) = demo number
+told_request (asked.Rom config content) = rom config.now content.now
 
 -- how many workers may do it is no part of what is asked
 abbrev pub told_making : declared.Making → Making

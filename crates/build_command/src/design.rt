@@ -26,7 +26,12 @@ pub struct Design {
     pub kit: Kit,
 }
 
-fn read_configuration<S: Store>(alloc: Global, name: &str, store: &mut S) -> Result<Config, Refusal>
+/// The configuration in the file of this name.
+pub fn read_configuration<S: Store>(
+    alloc: Global,
+    name: &str,
+    store: &mut S,
+) -> Result<Config, Refusal>
     ensures read { HasRead (λ files. IsConfigFile files name.now) result (store_state (S.files store.old) (S.faults store.old) (S.failed store.old)) (store_state (S.files store.new) (S.faults store.new) (S.failed store.new)) }
     ensures good { IfOk result IsConfig }
     ensures words { is_usage_outcome result ≡ false }
@@ -124,9 +129,10 @@ fn design_with<S: Store>(
 }
 
 /// The design of a configuration.
-fn design_of<S: Store>(alloc: Global, config: Config, store: &mut S) -> Result<Design, Refusal>
-    requires config { IsConfig config }
+pub fn design_of<S: Store>(alloc: Global, config: Config, store: &mut S) -> Result<Design, Refusal>
+    requires { IsConfig config }
     ensures read { HasRead (λ files. IsDesignOf files config) result (store_state (S.files store.old) (S.faults store.old) (S.failed store.old)) (store_state (S.files store.new) (S.faults store.new) (S.failed store.new)) }
+    ensures config { IfOk result (λ design. design.config ≡ config) }
     ensures good { IfOk result IsGoodDesign }
     ensures words { is_usage_outcome result ≡ false }
 {

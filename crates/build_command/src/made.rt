@@ -1,16 +1,27 @@
 ghost use Rattle.std.specs.Prelude.{◌≡◌, ◌++◌, ◌<◌, ◌≤◌, false, IfOk};
 ghost use Rattle.command_steps.specs.Outcome.{UnlessMemory, is_read_failed, is_usage_outcome};
 ghost use Rattle.command_steps.specs.Writing.{HaveAsciiNames};
+ghost use Rattle.leaf_tables.specs.Kits.{IsKit};
+ghost use Rattle.macro_build.specs.Memory.{FitsPlan};
+ghost use Rattle.port_lists.specs.Held.{held_of};
+ghost use Rattle.sram_macro.specs.Leaves.{HasCellsFor};
+ghost use Rattle.sram_netlist.specs.Numbers.{ArePlanNumbers};
+ghost use Rattle.sram_plan.specs.Config.{IsConfig};
+ghost use Rattle.sram_plan.specs.PlanNumbers.{numbers_of};
 ghost use Rattle.build_command.specs.Design.{IsGoodDesign};
-ghost use Rattle.build_command.specs.Made.{view_name, views, success_reply, made_of, refusal_in, IsDesignMade};
+ghost use Rattle.build_command.specs.RomDesign.{IsGoodRom};
+ghost use Rattle.build_command.specs.Made.{view_name, views, success_reply, made_of, refusal_in, ordered, order_of, order_of_rom, IsOrderMade};
 
 use crate::design::Design;
+use crate::rom_design::RomDesign;
 use crate::success::success_line;
+use leaf_tables::Kit;
 use macro_build::{BuildFault, Built, build};
 use or_geom::{Items, Memory, Name};
 use or_host::MemFile;
+use port_lists::Contents;
 use reply_lines::{Refusal, Reply, ReplyLines};
-use sram_plan::{Config, Plan};
+use sram_plan::{Config, Plan, read_only};
 use std::alloc::Global;
 use std::thread::Threads;
 use tech_rules::Layer;
@@ -98,7 +109,41 @@ fn refusal_in(layers: Items<Layer>, fault: BuildFault) -> Refusal
     }
 }
 
-/// Builds the memory of a design, and makes all that is written and printed of it.
+/// Builds the memory of a configuration, a kit, a plan and contents, and makes all that is written and printed of it.
+fn make_ordered<R: Threads + Sync, G: Gate + Sync>(
+    rt: &R,
+    alloc: Global,
+    gate: &G,
+    config: &Config,
+    kit: Kit,
+    plan: &Plan,
+    contents: Contents<'_>,
+    workers: u8,
+) -> Result<Made, Refusal>
+    requires config { IsConfig config.now }
+    requires kit { IsKit kit }
+    requires plan { ArePlanNumbers (numbers_of plan.now) }
+    requires held { FitsPlan plan.now (held_of contents) }
+    requires cells { HasCellsFor kit (held_of contents) }
+    requires some { 0 < workers }
+    requires at_most { workers ≤ 64 }
+    ensures made { UnlessMemory (IsOrderMade (ordered config.now kit plan.now (held_of contents.entry))) result }
+    ensures names { IfOk result (λ made. HaveAsciiNames made.views) }
+    ensures done { IfOk result (λ made. made.reply.status ≡ 0) }
+    ensures read { is_read_failed result ≡ false }
+    ensures words { is_usage_outcome result ≡ false }
+{
+    let name = &config.output_name;
+    match build(rt, alloc, gate, &kit, plan, name, contents, workers) {
+        Ok(built) => Ok(made_of(alloc, config, plan, built)?),
+        Err(fault) => {
+            let tech = kit.tech;
+            Err(refusal_in(tech.layers, fault))
+        }
+    }
+}
+
+/// Builds the memory of a design, which is written and read.
 pub fn make_design<R: Threads + Sync, G: Gate + Sync>(
     rt: &R,
     alloc: Global,
@@ -109,19 +154,37 @@ pub fn make_design<R: Threads + Sync, G: Gate + Sync>(
     requires good { IsGoodDesign design }
     requires some { 0 < workers }
     requires at_most { workers ≤ 64 }
-    ensures made { UnlessMemory (IsDesignMade design) result }
+    ensures made { UnlessMemory (IsOrderMade (order_of design)) result }
     ensures names { IfOk result (λ made. HaveAsciiNames made.views) }
     ensures done { IfOk result (λ made. made.reply.status ≡ 0) }
     ensures read { is_read_failed result ≡ false }
     ensures words { is_usage_outcome result ≡ false }
 {
     let Design { config, plan, kit } = design;
-    let name = &config.output_name;
-    match build(rt, alloc, gate, &kit, &plan, name, workers) {
-        Ok(built) => Ok(made_of(alloc, &config, &plan, built)?),
-        Err(fault) => {
-            let tech = kit.tech;
-            Err(refusal_in(tech.layers, fault))
-        }
-    }
+    let contents = Contents::Stored;
+    make_ordered(rt, alloc, gate, &config, kit, &plan, contents, workers)
+}
+
+/// Builds the read-only memory of a design and words.
+pub fn make_rom<R: Threads + Sync, G: Gate + Sync>(
+    rt: &R,
+    alloc: Global,
+    gate: &G,
+    rom: RomDesign,
+    workers: u8,
+) -> Result<Made, Refusal>
+    requires good { IsGoodRom rom }
+    requires some { 0 < workers }
+    requires at_most { workers ≤ 64 }
+    ensures made { UnlessMemory (IsOrderMade (order_of_rom rom)) result }
+    ensures names { IfOk result (λ made. HaveAsciiNames made.views) }
+    ensures done { IfOk result (λ made. made.reply.status ≡ 0) }
+    ensures read { is_read_failed result ≡ false }
+    ensures words { is_usage_outcome result ≡ false }
+{
+    let RomDesign { design, words } = rom;
+    let Design { config, plan, kit } = design;
+    let plan = read_only(&plan);
+    let contents = Contents::Fixed(words.as_slice());
+    make_ordered(rt, alloc, gate, &config, kit, &plan, contents, workers)
 }

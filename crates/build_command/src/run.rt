@@ -4,14 +4,15 @@ ghost use Rattle.command_steps.specs.Outcome.{UnlessMemory, is_read_failed, is_u
 ghost use Rattle.command_steps.specs.Outside.{store_state, sink_state, outside_at};
 ghost use Rattle.command_steps.specs.Reading.{HasRead};
 ghost use Rattle.command_steps.specs.Writing.{HaveAsciiNames};
-ghost use Rattle.build_command.specs.Made.{IsWork};
+ghost use Rattle.build_command.specs.Made.{IsRomWork, IsWork};
 ghost use Rattle.build_command.specs.Run.{IsMakingRun, IsPutOut, IsDemoBuilt, IsDemoWritten};
 ghost use Rattle.build_command.specs.Words.{HasMakingWorkers, told_making};
-ghost use Rattle.build_command.specs.Words.Making.{build, demo};
+ghost use Rattle.build_command.specs.Words.Making.{build, demo, rom};
 
 use crate::demo_files::demo_files;
 use crate::design::read_design;
-use crate::made::{Made, make_design};
+use crate::made::{Made, make_design, make_rom};
+use crate::rom_design::read_rom;
 use crate::words::{Asked, Making};
 use command_steps::{finish, finish_unwritten, no_memory, refuse, write_files};
 use or_host::{MemFile, Sink, Store, SureStore};
@@ -38,6 +39,27 @@ fn work_on<R: Threads + Sync, G: Gate + Sync, S: Store>(
 {
     let design = read_design(alloc, config, store)?;
     make_design(rt, alloc, gate, design, workers)
+}
+
+/// The read-only memory that the files of a configuration and of words ask for.
+fn work_on_rom<R: Threads + Sync, G: Gate + Sync, S: Store>(
+    rt: &R,
+    alloc: Global,
+    gate: &G,
+    config: &str,
+    content: &str,
+    workers: u8,
+    store: &mut S,
+) -> Result<Made, Refusal>
+    requires some { 0 < workers }
+    requires at_most { workers ≤ 64 }
+    ensures read { HasRead (λ files. IsRomWork files config.now content.now) result (store_state (S.files store.old) (S.faults store.old) (S.failed store.old)) (store_state (S.files store.new) (S.faults store.new) (S.failed store.new)) }
+    ensures names { IfOk result (λ made. HaveAsciiNames made.views) }
+    ensures done { IfOk result (λ made. made.reply.status ≡ 0) }
+    ensures words { is_usage_outcome result ≡ false }
+{
+    let memory = read_rom(alloc, config, content, store)?;
+    make_rom(rt, alloc, gate, memory, workers)
 }
 
 /// The memory that the files of a demonstration ask for, which are looked at themselves.
@@ -86,6 +108,27 @@ fn build_from<R: Threads + Sync, G: Gate + Sync, S: Store, K: Sink>(
     ensures { IsMakingRun (build config.now) result (outside_at (store_state (S.files store.old) (S.faults store.old) (S.failed store.old)) (sink_state (K.written out.old) (K.faults out.old) (K.puts out.old))) (outside_at (store_state (S.files store.new) (S.faults store.new) (S.failed store.new)) (sink_state (K.written out.new) (K.faults out.new) (K.puts out.new))) }
 {
     match work_on(rt, alloc, gate, config, workers, store) {
+        Ok(made) => put_out(alloc, &made, store, out),
+        Err(refusal) => refuse(alloc, &refusal, out),
+    }
+}
+
+/// Builds the read-only memory of the files of a configuration and of words.
+fn build_rom<R: Threads + Sync, G: Gate + Sync, S: Store, K: Sink>(
+    rt: &R,
+    alloc: Global,
+    gate: &G,
+    config: &str,
+    content: &str,
+    workers: u8,
+    store: &mut S,
+    out: &mut K,
+) -> u8
+    requires some { 0 < workers }
+    requires at_most { workers ≤ 64 }
+    ensures { IsMakingRun (rom config.now content.now) result (outside_at (store_state (S.files store.old) (S.faults store.old) (S.failed store.old)) (sink_state (K.written out.old) (K.faults out.old) (K.puts out.old))) (outside_at (store_state (S.files store.new) (S.faults store.new) (S.failed store.new)) (sink_state (K.written out.new) (K.faults out.new) (K.puts out.new))) }
+{
+    match work_on_rom(rt, alloc, gate, config, content, workers, store) {
         Ok(made) => put_out(alloc, &made, store, out),
         Err(refusal) => refuse(alloc, &refusal, out),
     }
@@ -152,9 +195,9 @@ fn demonstrate<R: Threads + Sync, G: Gate + Sync, S: Store, K: Sink>(
     write_and_build(rt, alloc, gate, files, workers, store, out)
 }
 
-/// Does a build or a demonstration: it reads what a memory is built of, writes the four views, and prints the line of success,
-/// or that of the first refusal. Nothing is written before all that is to be written and printed is made, but for the files of
-/// a demonstration, which are written first. It answers the exit status, as `run` does.
+/// Builds a memory, a read-only memory or a demonstration: it reads what the memory is built of, writes the four views, and
+/// prints the line of success, or that of the first refusal. Nothing is written before all that is to be written and printed is
+/// made, but for the files of a demonstration, which are written first. It answers the exit status, as `run` does.
 pub fn make<R: Threads + Sync, G: Gate + Sync, S: Store, K: Sink>(
     rt: &R,
     alloc: Global,
@@ -169,5 +212,8 @@ pub fn make<R: Threads + Sync, G: Gate + Sync, S: Store, K: Sink>(
     match making.asked {
         Asked::Build { config } => build_from(rt, alloc, gate, config, making.workers, store, out),
         Asked::Demo { number } => demonstrate(rt, alloc, gate, number, making.workers, store, out),
+        Asked::Rom { config, content } => {
+            build_rom(rt, alloc, gate, config, content, making.workers, store, out)
+        }
     }
 }

@@ -2,7 +2,7 @@ ghost use Rattle.std.specs.Prelude.{◌≡◌, ◌≢◌, ◌<◌, ◌≤◌, �
 ghost use Rattle.std.specs.Fmt.{decimal};
 ghost use Rattle.std.specs.Option.{option_map};
 ghost use Rattle.std.specs.Str.{bytes_eq};
-ghost use Rattle.build_command.specs.Words.{IsMakingForm, AreNoMaking, build_form, demo_form, told_form, told_making, HasMakingWorkers};
+ghost use Rattle.build_command.specs.Words.{IsMakingForm, AreNoMaking, build_form, demo_form, rom_form, told_form, told_files, told_making, HasMakingWorkers};
 
 use command_steps::workers_in;
 use itoa::Buffer;
@@ -14,7 +14,15 @@ struct FormWords<'a> {
     workers: u8,
 }
 
-/// A build or a demonstration, and how many workers may do it: 1 to 64.
+/// The files of a read-only memory's configuration and of its words, and how many workers may do it.
+#[derive(Clone, Copy)]
+struct RomForm<'a> {
+    config: &'a str,
+    content: &'a str,
+    workers: u8,
+}
+
+/// What is built, and how many workers may do it: 1 to 64.
 #[derive(Clone, Copy)]
 pub struct Making<'a> {
     pub asked: Asked<'a>,
@@ -28,6 +36,8 @@ pub enum Asked<'a> {
     Build { config: &'a str },
     /// The demonstration with a number: `demo N WORKERS`.
     Demo { number: u16 },
+    /// The read-only memory of a configuration and of the words of a data file: `rom CONFIG DATA WORKERS`.
+    Rom { config: &'a str, content: &'a str },
 }
 
 fn is_build(command: &String) -> bool
@@ -40,6 +50,12 @@ fn is_demo(command: &String) -> bool
     ensures { result ≡ bytes_eq (string_bytes command.now) (codes "demo") }
 {
     command.as_str() == "demo"
+}
+
+fn is_rom(command: &String) -> bool
+    ensures { result ≡ bytes_eq (string_bytes command.now) (codes "rom") }
+{
+    command.as_str() == "rom"
 }
 
 /// `build CONFIG WORKERS`, if the words are that.
@@ -82,6 +98,30 @@ fn demo_words(words: &[String]) -> Option<FormWords<'_>>
     }
 }
 
+/// `rom CONFIG DATA WORKERS`, if the words are that.
+fn rom_form_words(words: &[String]) -> Option<RomForm<'_>>
+    ensures words { option_map told_files result ≡ rom_form (map string_bytes words.now) }
+    ensures workers { IfSome result (λ form. (0 < form.workers) × (form.workers ≤ 64)) }
+{
+    match words {
+        [command, config, content, workers] => {
+            if !is_rom(command) {
+                return None;
+            }
+            let Some(workers) = workers_in(workers) else {
+                return None;
+            };
+            let (config, content) = (config.as_str(), content.as_str());
+            Some(RomForm {
+                config,
+                content,
+                workers,
+            })
+        }
+        _ => None,
+    }
+}
+
 /// The number that the word is: 0 to 65535 in decimal digits, without a leading zero.
 fn demo_number(word: &str) -> Option<u16>
     ensures { MatchOption result ((n : ℕ) → n ≤ 65535 → word.now ≢ decimal n) (λ n. word.now ≡ decimal n) }
@@ -97,7 +137,7 @@ fn demo_number(word: &str) -> Option<u16>
     None
 }
 
-/// The build or the demonstration that the words are, if they are one.
+/// What the words ask to build, if they do.
 pub fn making_in(words: &[String]) -> Option<Making<'_>>
     ensures some { IfSome result (λ making. IsMakingForm (map string_bytes words.now) (told_making making)) }
     ensures none { IfNone result (AreNoMaking (map string_bytes words.now)) }
@@ -106,6 +146,16 @@ pub fn making_in(words: &[String]) -> Option<Making<'_>>
     if let Some(form) = build_words(words) {
         let asked = Asked::Build {
             config: form.object,
+        };
+        return Some(Making {
+            asked,
+            workers: form.workers,
+        });
+    }
+    if let Some(form) = rom_form_words(words) {
+        let asked = Asked::Rom {
+            config: form.config,
+            content: form.content,
         };
         return Some(Making {
             asked,

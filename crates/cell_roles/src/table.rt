@@ -1,6 +1,8 @@
 ghost use Rattle.std.specs.Prelude.{◌≡◌, map};
+ghost use Rattle.cell_roles.specs.LeafRoles.{leaf_table_texts};
 ghost use Rattle.cell_roles.specs.RowTexts.{table_texts};
 
+use crate::leaf_role::LeafRole;
 use crate::role::Role;
 
 /// The rows of a role's table, as a technology file writes them.
@@ -43,5 +45,16 @@ pub fn table_rows(role: Role) -> &'static [&'static str]
             "x0/1x = 1//10",
         ],
         Role::Delay => &["0/0 = 0//0", "1/0 = 0//1", "0/1 = 1//0", "1/1 = 1//1"],
+    }
+}
+
+/// The same for the roles of both kinds of memory.
+pub fn leaf_table_rows(role: LeafRole) -> &'static [&'static str]
+    ensures { map (λ row. row.now) result.now ≡ leaf_table_texts role }
+{
+    match role {
+        LeafRole::Common(role) => table_rows(role),
+        LeafRole::Fixed(false) => &["0/ = zz//", "1/ = lz//"],
+        LeafRole::Fixed(true) => &["0/ = zz//", "1/ = zl//"],
     }
 }

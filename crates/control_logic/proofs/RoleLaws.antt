@@ -1,13 +1,13 @@
 -- The roles of the cells of the logic row, part by part.
-use Rattle.std.proofs.Common.{◌≡◌, ℕ, zero, suc, ◌+◌, ◌<◌, min, length, List, [], ◌∷◌, ◌++◌, map, flat_map, refl, ap, sym, ◌∙◌, append_assoc, arith}
+use Rattle.std.proofs.Common.{◌≡◌, ℕ, zero, suc, ◌+◌, min, length, List, [], ◌∷◌, ◌++◌, map, flat_map, refl, ap, sym, ◌∙◌, append_assoc, arith}
 use Rattle.cell_roles.specs.declared.role.Role.{Role}
-use Rattle.cell_roles.specs.declared.role.Role.TheVariants.{Inv, Nand2}
+use Rattle.cell_roles.specs.declared.role.Role.TheVariants.{Inv, Nand2, Nand3, Dff, Delay}
 use Rattle.sram_netlist.specs.Organization.{Organization, power_of_two, bank_bit}
 use Rattle.sram_netlist.specs.Netlist.{gate_of, logic_role, enable_inputs, bank_input, mask_input}
 use Rattle.sram_netlist.specs.Nets.{Control, Wen}
-use Rattle.sram_netlist.specs.InstanceList.{numbers_from, tabulate, tabulate_lists, gates, line_gates, choice_gates, groups_gates, bank_cells, banks_cells, enable_gates}
+use Rattle.sram_netlist.specs.InstanceList.{numbers_from, tabulate, tabulate_lists, fixed_cells, gates, line_gates, choice_gates, groups_gates, bank_cells, banks_cells, enable_gates}
 use Rattle.port_lists.proofs.TabulateLaws.{map_append}
-use Rattle.control_logic.specs.LogicRoles.{line_gate_roles}
+use Rattle.control_logic.specs.LogicRoles.{command_roles, line_gate_roles}
 
 map_flat : {A B : Type 0} (g : A → B) (f : ℕ → List A) (ns : List ℕ) → map g (flat_map f ns) ≡ flat_map (λ k. map g (f k)) ns
 map_flat g f [] = refl
@@ -33,6 +33,31 @@ lists_same n f g same = flat_same f g (numbers_from 0 n) same
 -- two items more
 pub two_more : {A : Type 0} (now mid new : List A) (a b : A) → mid ≡ now ++ a ∷ [] → new ≡ mid ++ b ∷ [] → new ≡ now ++ a ∷ b ∷ []
 two_more {A = A} now mid new a b first second = second ∙ (ap (λ (l : List A). l ++ b ∷ []) first ∙ append_assoc now (a ∷ []) (b ∷ []))
+
+-- two lists more
+pub two_lists : {A : Type 0} (now mid new first second : List A) → mid ≡ now ++ first → new ≡ mid ++ second → new ≡ now ++ (first ++ second)
+two_lists {A = A} now mid new first second a b = b ∙ (ap (λ (l : List A). l ++ second) a ∙ append_assoc now first second)
+
+-- clock and control
+fixed_roles : (plan : Organization) (w : ℕ) → Inv ∷ Dff ∷ (command_roles w ++ (Delay ∷ Nand2 ∷ Inv ∷ [])) ≡ map (logic_role plan) (fixed_cells w)
+fixed_roles plan zero = refl
+fixed_roles plan (suc w) = refl
+
+pub fixed_more : (plan : Organization) (w : ℕ) (now first mid new : List Role) → first ≡ now ++ (Inv ∷ Dff ∷ []) → mid ≡ first ++ command_roles w → new ≡ mid ++ (Delay ∷ Nand2 ∷ Inv ∷ []) → new ≡ now ++ map (logic_role plan) (fixed_cells w)
+fixed_more plan w now first mid new a b c =
+    c
+    ∙ (ap (λ (l : List Role). l ++ (Delay ∷ Nand2 ∷ Inv ∷ [])) (b ∙ ap (λ (l : List Role). l ++ command_roles w) a)
+    ∙ (append_assoc (now ++ (Inv ∷ Dff ∷ [])) (command_roles w) (Delay ∷ Nand2 ∷ Inv ∷ [])
+    ∙ (append_assoc now (Inv ∷ Dff ∷ []) (command_roles w ++ (Delay ∷ Nand2 ∷ Inv ∷ [])) ∙ ap (λ (l : List Role). now ++ l) (fixed_roles plan w))))
+
+-- the roles of commands
+pub read_roles : (w : ℕ) → w ≡ 0 → Inv ∷ Nand2 ∷ Inv ∷ [] ≡ command_roles w
+read_roles zero none = refl
+read_roles (suc w) none = absurd (omega (arith, none))
+
+pub written_roles : (w : ℕ) → (w ≡ 0 → ⊥) → (Dff ∷ Inv ∷ Inv ∷ Nand2 ∷ Inv ∷ []) ++ (Nand3 ∷ Inv ∷ Nand3 ∷ Inv ∷ []) ≡ command_roles w
+written_roles zero some = absurd (some refl)
+written_roles (suc w) some = refl
 
 -- the gates of lines
 pub gate_roles : (plan : Organization) (o b : ℕ) → map (logic_role plan) (gates o b) ≡ tabulate_lists (power_of_two b) (λ k. gate_of b ∷ Inv ∷ [])

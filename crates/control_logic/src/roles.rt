@@ -1,18 +1,18 @@
 ghost use Rattle.std.specs.Prelude.{◌≡◌, ◌++◌, ◌∷◌, [], ◌≤◌, ℕ, min, map, length, IfOk, OnOk};
 ghost use Rattle.std.specs.List.{AllByRecursion};
 ghost use Rattle.cell_roles.specs.declared.role.Role.TheVariants.{Nand2, Inv, Dff};
-ghost use Rattle.sram_netlist.specs.Organization.{IsGroupSize, addr_bits, power_of_two};
-ghost use Rattle.sram_netlist.specs.Netlist.{gate_of, logic_role, enable_inputs, enable_count};
+ghost use Rattle.sram_netlist.specs.Organization.{IsGroupSize, inputs_of, addr_bits, power_of_two};
+ghost use Rattle.sram_netlist.specs.Netlist.{gate_of, logic_role, enable_inputs, enables_of};
 ghost use Rattle.sram_netlist.specs.Instances.{Dd, Dm};
 ghost use Rattle.sram_netlist.specs.InstanceList.{tabulate, tabulate_lists, fixed_cells, address_cells, choice_gates, banks_cells, enable_gates, enable_cells, logic_cells};
 ghost use Rattle.sram_netlist.specs.Numbers.{ArePlanNumbers};
 ghost use Rattle.sram_plan.specs.PlanNumbers.{numbers_of, organization};
-ghost use Rattle.control_logic.specs.LogicRoles.{line_gate_roles};
+ghost use Rattle.control_logic.specs.LogicRoles.{command_roles, line_gate_roles};
 
 use cell_roles::Role;
 use or_geom::Memory;
 use port_lists::{enables_of, groups_of, lines_of};
-use sram_plan::Plan;
+use sram_plan::{Plan, inputs_of};
 use std::alloc::Global;
 
 /// The roles of the cells of the logic row, in their order.
@@ -67,24 +67,24 @@ fn add_latches(count: u32, roles: &mut Vec<Role>) -> Result<(), Memory>
 
 /// The cells that each memory has once.
 fn add_fixed(plan: &Plan, roles: &mut Vec<Role>) -> Result<(), Memory>
-    ensures { OnOk result (roles.new.items ≡ roles.old.items ++ map (logic_role (organization plan.now)) fixed_cells) }
+    ensures { OnOk result (roles.new.items ≡ roles.old.items ++ map (logic_role (organization plan.now)) (fixed_cells plan.now.write_size)) }
 {
-    roles.extend_from_slice(&[
-        Role::Inv,
-        Role::Dff,
-        Role::Dff,
-        Role::Inv,
-        Role::Inv,
-        Role::Nand2,
-        Role::Inv,
-        Role::Nand3,
-        Role::Inv,
-        Role::Nand3,
-        Role::Inv,
-        Role::Delay,
-        Role::Nand2,
-        Role::Inv,
-    ])?;
+    roles.extend_from_slice(&[Role::Inv, Role::Dff])?;
+    add_commands(plan, roles)?;
+    roles.extend_from_slice(&[Role::Delay, Role::Nand2, Role::Inv])?;
+    Ok(())
+}
+
+/// Those behind the latched select: the word line enable, and where something is written the write enable and the read.
+fn add_commands(plan: &Plan, roles: &mut Vec<Role>) -> Result<(), Memory>
+    ensures { OnOk result (roles.new.items ≡ roles.old.items ++ command_roles plan.now.write_size) }
+{
+    if plan.write_size == 0 {
+        roles.extend_from_slice(&[Role::Inv, Role::Nand2, Role::Inv])?;
+        return Ok(());
+    }
+    roles.extend_from_slice(&[Role::Dff, Role::Inv, Role::Inv, Role::Nand2, Role::Inv])?;
+    roles.extend_from_slice(&[Role::Nand3, Role::Inv, Role::Nand3, Role::Inv])?;
     Ok(())
 }
 
@@ -122,11 +122,11 @@ fn add_groups(groups: &[u32], roles: &mut Vec<Role>) -> Result<(), Memory>
     Ok(())
 }
 
-/// Those of the data bits.
+/// Those of the data bits that are written.
 fn add_data(plan: &Plan, roles: &mut Vec<Role>) -> Result<(), Memory>
-    ensures { OnOk result (roles.new.items ≡ roles.old.items ++ map (logic_role (organization plan.now)) (tabulate plan.now.word_size Dd)) }
+    ensures { OnOk result (roles.new.items ≡ roles.old.items ++ map (logic_role (organization plan.now)) (tabulate (inputs_of (organization plan.now)) Dd)) }
 {
-    add_latches(plan.word_size, roles)?;
+    add_latches(inputs_of(plan), roles)?;
     Ok(())
 }
 
@@ -180,7 +180,7 @@ fn at_most_one(count: u32) -> u32
 /// Those of the write enables, where there are several banks or masks.
 fn add_enables(plan: &Plan, roles: &mut Vec<Role>) -> Result<(), Memory>
     requires { ArePlanNumbers (numbers_of plan.now) }
-    ensures { OnOk result (roles.new.items ≡ roles.old.items ++ map (logic_role (organization plan.now)) (enable_cells plan.now.bank_bits plan.now.masks)) }
+    ensures { OnOk result (roles.new.items ≡ roles.old.items ++ map (logic_role (organization plan.now)) (enable_cells plan.now.bank_bits plan.now.masks (enables_of (organization plan.now)))) }
 {
     if plan.bank_bits == 0 && plan.masks == 0 {
         return Ok(());
@@ -192,7 +192,7 @@ fn add_enables(plan: &Plan, roles: &mut Vec<Role>) -> Result<(), Memory>
 /// Those of the write enables of each bank.
 fn add_enables_of_banks(plan: &Plan, roles: &mut Vec<Role>) -> Result<(), Memory>
     requires { ArePlanNumbers (numbers_of plan.now) }
-    ensures { OnOk result (roles.new.items ≡ roles.old.items ++ map (logic_role (organization plan.now)) (tabulate_lists (power_of_two plan.now.bank_bits) (λ bank. tabulate_lists (enable_count plan.now.masks) (enable_gates bank)))) }
+    ensures { OnOk result (roles.new.items ≡ roles.old.items ++ map (logic_role (organization plan.now)) (tabulate_lists (power_of_two plan.now.bank_bits) (λ bank. tabulate_lists (enables_of (organization plan.now)) (enable_gates bank)))) }
 {
     let gate = gate_role(enable_input_count(plan));
     for _ in 0..plan.banks {

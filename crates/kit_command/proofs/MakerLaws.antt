@@ -5,6 +5,7 @@ use Rattle.gds_library.specs.declared.library.Structure.{Structure}
 use Rattle.netlist.specs.declared.deck.Deck.{Deck}
 use Rattle.netlist.specs.declared.deck.Subckt.{Subckt}
 use Rattle.sram_netlist.specs.Numbers.{ArePlanNumbers}
+use Rattle.port_lists.specs.Held.Held.{Stored}
 use Rattle.sram_plan.specs.declared.numbers.Plan.{Plan}
 use Rattle.sram_plan.specs.PlanNumbers.{numbers_of}
 use Rattle.leaf_tables.specs.declared.kit.Kit.{Kit}
@@ -27,14 +28,14 @@ unused kit name free = record {
 }
 
 -- a macro can be written and flattened, and has rows
-good_macro : MacrosAreWhole → MacrosHaveRows → (kit : Kit) (plan : Plan) (name : List ℕ) (m : Macro) → IsKit kit → ArePlanNumbers (numbers_of plan) → IsMacro kit plan name m → IsGoodMacro kit name m.lib m.deck
+good_macro : MacrosAreWhole → MacrosHaveRows → (kit : Kit) (plan : Plan) (name : List ℕ) (m : Macro) → IsKit kit → ArePlanNumbers (numbers_of plan) → IsMacro kit plan Stored name m → IsGoodMacro kit name m.lib m.deck
 good_macro whole rows kit plan name m is_kit numbers is =
-    let sound = whole kit plan name m is_kit numbers is in
+    let sound = whole kit plan Stored name m is_kit numbers (record { fit = tt; cells = tt }) is in
     record {
       writable = is.writable;
       there = λ missing fault. sound.there missing fault.has;
       acyclic = λ cyclic fault. sound.acyclic cyclic fault.1.has;
-      rows = rows kit plan name m numbers is;
+      rows = rows kit plan Stored name m numbers is;
     }
 
 good_answer : MacrosAreWhole → MacrosHaveRows → UnusedNamesAreFree → (kit : Kit) (plan : Plan) (name : List ℕ) (answer : Result (Library × Deck) PartFault) → IsKit kit → ArePlanNumbers (numbers_of plan) → IsFreeName kit name
@@ -42,7 +43,7 @@ good_answer : MacrosAreWhole → MacrosHaveRows → UnusedNamesAreFree → (kit 
 good_answer whole rows untaken kit plan name (Ok made) is numbers free (m, macro, same) =
     subst (λ (both : Library × Deck). IsGoodMacro kit name both.0 both.1) (sym same) (good_macro whole rows kit plan name m is numbers macro)
 good_answer whole rows untaken kit plan name (Err fault) is numbers free (some, p) =
-    λ taken e. untaken kit plan name taken is (unused kit name free) (subst (IsMacroFault kit plan name) e p)
+    λ taken e. untaken kit plan Stored name taken is (unused kit name free) (subst (IsMacroFault kit plan Stored name) e p)
 
 -- So assembling is a good maker of every kit.
 pub assembling_is_good : MacrosAreWhole → MacrosHaveRows → UnusedNamesAreFree → (kit : Kit) → IsKit kit → IsGoodMaker IsAssembled kit

@@ -4,3 +4,4 @@ mod StageLaws
 mod OneLeafLaws
 mod OneAlignmentLaws
 pub mod OneKitLaws
+pub mod OneRomLaws

@@ -13,14 +13,14 @@ use Rattle.leaf_tables.specs.Alignment.{AreAligned, Face, HeightIsOdd, IsFirstOd
 use Rattle.kit_laws.proofs.StageLaws.{AtMostOne, Staged, ToldOf, one_staged, none_staged}
 
 -- the first item that hasn't P is one
-one_odd : {X : Type 0} (P : X → Type 0) (items : List X) (x y : X) → IsFirstOdd P items x → IsFirstOdd P items y → x ≡ y
+pub one_odd : {X : Type 0} (P : X → Type 0) (items : List X) (x y : X) → IsFirstOdd P items x → IsFirstOdd P items y → x ≡ y
 one_odd {X} P items x y a b =
     let Odd : ℕ → Type 0 = λ k. (z : X) × (slice_get items k ≡ Some z) × (P z → ⊥) in
     let place : a.place ≡ b.place = one_first Odd a.place b.place (x, a.there, a.odd) (y, b.there, b.odd) (λ k lt o. o.2 (a.before k o.0 lt o.1)) (λ k lt o. o.2 (b.before k o.0 lt o.1)) in
     one_at items b.place x y (subst (λ (k : ℕ). slice_get items k ≡ Some x) place a.there) b.there
 
 -- and there is none where all have
-odd_or_all : {X : Type 0} (P : X → Type 0) (items : List X) (x : X) → IsFirstOdd P items x → AllByRecursion P items → ⊥
+pub odd_or_all : {X : Type 0} (P : X → Type 0) (items : List X) (x : X) → IsFirstOdd P items x → AllByRecursion P items → ⊥
 odd_or_all P items x a all = a.odd (all_contained P items x all (contained_at items a.place x a.there))
 
 -- the stages: heights, widths, pins

@@ -5,7 +5,10 @@ use Rattle.std.specs.Prelude.{slice_get}
 use Rattle.std.proofs.lemmas.Option.{same_Some, slice_get_within}
 use Rattle.or_geom.proofs.ListLaws.{one_at}
 use Rattle.cell_roles.specs.declared.role.Role.{Role}
-use Rattle.cell_roles.specs.Roles.{all_roles, role_name}
+use Rattle.cell_roles.specs.declared.leaf_role.LeafRole.{LeafRole}
+use Rattle.cell_roles.specs.declared.leaf_role.LeafRole.TheVariants.{Common}
+use Rattle.cell_roles.specs.Roles.{all_roles}
+use Rattle.cell_roles.specs.LeafRoles.{pin_role, leaf_role_name}
 use Rattle.netlist.specs.declared.deck.Subckt.{Subckt}
 use Rattle.spice_text.specs.Words.{lower}
 use Rattle.gds_library.specs.Writable.{IsWritableCell}
@@ -31,70 +34,70 @@ use Rattle.leaf_tables.specs.Leaves.{LeafSource, subckt_named, size_of, drawing_
 use Rattle.kit_laws.proofs.StageLaws.{AtMostOne, NeverBeside, Staged, ToldOf, one_staged, none_staged}
 
 -- the role's cell is flat, sized, wired
-record HasFlat (source : LeafSource) (role : Role) : Type 0 where
+record HasFlat (source : LeafSource) (role : LeafRole) : Type 0 where
   pub cell : List ℕ
   pub lists : FlatLists
   pub is : IsFlatCell source role cell lists
 
-record HasSize (source : LeafSource) (role : Role) : Type 0 where
+record HasSize (source : LeafSource) (role : LeafRole) : Type 0 where
   pub cell : List ℕ
   pub lists : FlatLists
   pub size : CellSize
   pub is : IsSizedCell source role cell lists size
 
-record HasSubckt (source : LeafSource) (role : Role) : Type 0 where
+record HasSubckt (source : LeafSource) (role : LeafRole) : Type 0 where
   pub sized : HasSize source role
   pub subckt : Subckt
   pub there : subckt_named source.subckts (lower sized.cell) ≡ Some subckt
 
-record IsWired (source : LeafSource) (role : Role) : Type 0 where
+record IsWired (source : LeafSource) (role : LeafRole) : Type 0 where
   pub sized : HasSize source role
   pub ports : HasPorts source.subckts role sized.cell
 
 -- the fault of a pin, with the role's name
-abbrev of_pin : Role → PinFault → KitFault
-of_pin role (pin_fault.PinMissing pin) = kit_fault.PinMissing (role_name role) pin
-of_pin role (pin_fault.PinLayer pin) = kit_fault.PinLayer (role_name role) pin
-of_pin role (pin_fault.EdgePin pin) = kit_fault.EdgePin (role_name role) pin
+abbrev of_pin : LeafRole → PinFault → KitFault
+of_pin role (pin_fault.PinMissing pin) = kit_fault.PinMissing (leaf_role_name role) pin
+of_pin role (pin_fault.PinLayer pin) = kit_fault.PinLayer (leaf_role_name role) pin
+of_pin role (pin_fault.EdgePin pin) = kit_fault.EdgePin (leaf_role_name role) pin
 of_pin role pin_fault.Memory = kit_fault.Memory
 
-record LacksSomePin (source : LeafSource) (role : Role) (fault : PinFault) : Type 0 where
+record LacksSomePin (source : LeafSource) (role : LeafRole) (fault : PinFault) : Type 0 where
   pub some : fault ≢ pin_fault.Memory
   pub is : LacksPin source role fault
 
 -- the stages of a leaf
-abbrev Unflat : LeafSource → Role → KitFault → Type 0
+abbrev Unflat : LeafSource → LeafRole → KitFault → Type 0
 Unflat source role = ToldOf (IsUnflat source role) (λ x. kit_fault.Flatten x)
 
-abbrev Unlined : LeafSource → Role → KitFault → Type 0
-Unlined source role f = LacksOutline source role × (f ≡ kit_fault.Outline (role_name role))
+abbrev Unlined : LeafSource → LeafRole → KitFault → Type 0
+Unlined source role f = LacksOutline source role × (f ≡ kit_fault.Outline (leaf_role_name role))
 
-abbrev Unnamed : LeafSource → Role → KitFault → Type 0
+abbrev Unnamed : LeafSource → LeafRole → KitFault → Type 0
 Unnamed source role = ToldOf (LacksSubckt source role) (λ name. kit_fault.UnknownSubckt name)
 
-abbrev Unported : LeafSource → Role → KitFault → Type 0
-Unported source role f = LacksPorts source role × (f ≡ kit_fault.PortsDiffer (role_name role))
+abbrev Unported : LeafSource → LeafRole → KitFault → Type 0
+Unported source role f = LacksPorts source role × (f ≡ kit_fault.PortsDiffer (leaf_role_name role))
 
-abbrev Unpinned : LeafSource → Role → KitFault → Type 0
+abbrev Unpinned : LeafSource → LeafRole → KitFault → Type 0
 Unpinned source role = ToldOf (LacksSomePin source role) (of_pin role)
 
-abbrev AfterSubckt : LeafSource → Role → KitFault → Type 0
+abbrev AfterSubckt : LeafSource → LeafRole → KitFault → Type 0
 AfterSubckt source role = Staged (Unported source role) (IsWired source role) (Unpinned source role)
 
-abbrev AfterOutline : LeafSource → Role → KitFault → Type 0
+abbrev AfterOutline : LeafSource → LeafRole → KitFault → Type 0
 AfterOutline source role = Staged (Unnamed source role) (HasSubckt source role) (AfterSubckt source role)
 
-abbrev AfterLayout : LeafSource → Role → KitFault → Type 0
+abbrev AfterLayout : LeafSource → LeafRole → KitFault → Type 0
 AfterLayout source role = Staged (Unlined source role) (HasSize source role) (AfterOutline source role)
 
-abbrev LeafStages : LeafSource → Role → KitFault → Type 0
+abbrev LeafStages : LeafSource → LeafRole → KitFault → Type 0
 LeafStages source role = Staged (Unflat source role) (HasFlat source role) (AfterLayout source role)
 
 -- the structures of the source can be written
 abbrev pub AreWritable : LeafSource → Type 0
 AreWritable source = AllByRecursion IsWritableCell source.structs
 
-module _ (source : LeafSource) (role : Role) where
+module _ (source : LeafSource) (role : LeafRole) where
   one_flat : (a b : HasFlat source role) → (a.cell ≡ b.cell) × (a.lists ≡ b.lists)
   one_flat a b =
       let cell : a.cell ≡ b.cell = same_Some a.cell b.cell (sym a.is.plays ∙ b.is.plays) in
@@ -175,8 +178,8 @@ module _ (source : LeafSource) (role : Role) where
       let p = a.1.is in
       let q = b.1.is in
       let same = same_drawn (size_of_unpinned a.0 p) (size_of_unpinned b.0 q) in
-      let is = subst (λ (d : CellDrawing). IsPinFault d (role_demands role) a.0) same p.is in
-      let fault : a.0 ≡ b.0 = one_pin_fault (drawing_in source q.size q.lists) (role_demands role) a.0 b.0 a.1.some b.1.some is q.is in
+      let is = subst (λ (d : CellDrawing). IsPinFault d (role_demands (pin_role role)) a.0) same p.is in
+      let fault : a.0 ≡ b.0 = one_pin_fault (drawing_in source q.size q.lists) (role_demands (pin_role role)) a.0 b.0 a.1.some b.1.some is q.is in
       a.2 ∙ ap (of_pin role) fault ∙ sym b.2
 
   one_leaf_fault : AreWritable source → AtMostOne (LeafStages source role)
@@ -193,8 +196,8 @@ module _ (source : LeafSource) (role : Role) where
   one_leaf : (a b : Leaf) → IsLeaf source role a → IsLeaf source role b → a ≡ b
   one_leaf a b p q =
       let size = one_size (size_of_leaf a p) (size_of_leaf b q) in
-      let are = subst (λ (d : CellDrawing). AreLeafPins d (role_demands role) a.pins) (same_drawn (size_of_leaf a p) (size_of_leaf b q)) p.pins in
-      let pins : a.pins ≡ b.pins = one_list_of_pins (drawing_in source (size_of b) q.lists) (role_demands role) a.pins b.pins q.sized.flat.flat.shapes_rise are q.pins in
+      let are = subst (λ (d : CellDrawing). AreLeafPins d (role_demands (pin_role role)) a.pins) (same_drawn (size_of_leaf a p) (size_of_leaf b q)) p.pins in
+      let pins : a.pins ≡ b.pins = one_list_of_pins (drawing_in source (size_of b) q.lists) (role_demands (pin_role role)) a.pins b.pins q.sized.flat.flat.shapes_rise are q.pins in
       λ i. record { width = (size.2 i).width; height = (size.2 i).height; pins = pins i }
 
   -- a role that has a leaf has none of the faults
@@ -202,8 +205,8 @@ module _ (source : LeafSource) (role : Role) where
   unpinned_or_leaf f a h =
       let p = a.1.is in
       let same = same_drawn (size_of_unpinned a.0 p) (size_of_leaf h.0 h.1) in
-      let is = subst (λ (d : CellDrawing). IsPinFault d (role_demands role) a.0) same p.is in
-      no_pins_beside (drawing_in source (size_of h.0) h.1.lists) (role_demands role) h.0.pins a.0 a.1.some is h.1.pins
+      let is = subst (λ (d : CellDrawing). IsPinFault d (role_demands (pin_role role)) a.0) same p.is in
+      no_pins_beside (drawing_in source (size_of h.0) h.1.lists) (role_demands (pin_role role)) h.0.pins a.0 a.1.some is h.1.pins
 
   abbrev wired_leaf : HasLeaf source role → IsWired source role
   wired_leaf h = record { sized = size_of_leaf h.0 h.1; ports = h.1.ports }
@@ -253,18 +256,28 @@ module _ (source : LeafSource) (role : Role) where
   no_leaf : AreWritable source → (f : KitFault) → f ≢ kit_fault.Memory → IsLeafFault source role f → HasLeaf source role → ⊥
   no_leaf w f some is h = fault_or_leaf w f (leaf_stages f some is) h
 
+-- a role has one leaf, or one fault
+pub one_leaf_of_role : (source : LeafSource) (role : LeafRole) (a b : Leaf) → IsLeaf source role a → IsLeaf source role b → a ≡ b
+one_leaf_of_role = one_leaf
+
+pub one_fault_of_role : (source : LeafSource) (role : LeafRole) → AreWritable source → (f g : KitFault) → f ≢ kit_fault.Memory → g ≢ kit_fault.Memory → IsLeafFault source role f → IsLeafFault source role g → f ≡ g
+one_fault_of_role source role w f g some also a b = one_leaf_fault source role w f g (leaf_stages source role f some a) (leaf_stages source role g also b)
+
+pub no_fault_of_role : (source : LeafSource) (role : LeafRole) → AreWritable source → (f : KitFault) → f ≢ kit_fault.Memory → IsLeafFault source role f → HasLeaf source role → ⊥
+no_fault_of_role = no_leaf
+
 -- roles have one list of leaves
 pub one_list_of_leaves : (source : LeafSource) (a b : List Leaf) → AreLeaves source a → AreLeaves source b → a ≡ b
-one_list_of_leaves source a b p q = one_list (IsLeaf source) all_roles a b (one_leaf source) p.sized q.sized p.each q.each
+one_list_of_leaves source a b p q = one_list (λ (r : Role). IsLeaf source (Common r)) all_roles a b (λ (r : Role). one_leaf_of_role source (Common r)) p.sized q.sized p.each q.each
 
 -- the first fault of a leaf is one
 pub one_first_fault : (source : LeafSource) → AreWritable source → (f g : KitFault) → f ≢ kit_fault.Memory → g ≢ kit_fault.Memory → IsFirstLeafFault source f → IsFirstLeafFault source g → f ≡ g
 one_first_fault source w f g some also a b =
-    let Lacks : ℕ → Type 0 = λ k. (r : Role) × (slice_get all_roles k ≡ Some r) × (HasLeaf source r → ⊥) in
-    let place : a.place ≡ b.place = one_first Lacks a.place b.place (a.role, a.there, no_leaf source a.role w f some a.is) (b.role, b.there, no_leaf source b.role w g also b.is)
+    let Lacks : ℕ → Type 0 = λ k. (r : Role) × (slice_get all_roles k ≡ Some r) × (HasLeaf source (Common r) → ⊥) in
+    let place : a.place ≡ b.place = one_first Lacks a.place b.place (a.role, a.there, no_fault_of_role source (Common a.role) w f some a.is) (b.role, b.there, no_fault_of_role source (Common b.role) w g also b.is)
     (λ k lt l. l.2 (a.before k l.0 lt l.1)) (λ k lt l. l.2 (b.before k l.0 lt l.1)) in
     let role : a.role ≡ b.role = one_at all_roles b.place a.role b.role (subst (λ (k : ℕ). slice_get all_roles k ≡ Some a.role) place a.there) b.there in
-    one_leaf_fault source b.role w f g (leaf_stages source b.role f some (subst (λ (r : Role). IsLeafFault source r f) role a.is)) (leaf_stages source b.role g also b.is)
+    one_fault_of_role source (Common b.role) w f g some also (subst (λ (r : Role). IsLeafFault source (Common r) f) role a.is) b.is
 
 -- and there is none where each role has its leaf
 pub no_first_fault : (source : LeafSource) → AreWritable source → (f : KitFault) (leaves : List Leaf) → f ≢ kit_fault.Memory → IsFirstLeafFault source f → AreLeaves source leaves → ⊥
@@ -272,4 +285,4 @@ no_first_fault source w f leaves some a are =
     let within = slice_get_within all_roles a.place a.role a.there in
     let sized = are.sized in
     let leaf = exists_at leaves a.place (omega (arith, within, sized)) in
-    no_leaf source a.role w f some a.is (leaf.0, are.each a.place a.role leaf.0 a.there leaf.1)
+    no_fault_of_role source (Common a.role) w f some a.is (leaf.0, are.each a.place a.role leaf.0 a.there leaf.1)

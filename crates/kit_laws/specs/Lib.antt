@@ -1,2 +1,3 @@
 pub mod OneCell
 pub mod OneKit
+pub mod OneRom

@@ -3,6 +3,7 @@
 
 ghost use Rattle.kit_laws.specs.OneCell.{LeafPinsAreUnique, OutlinesAreUnique, PinFaultsAreUnique, PinFaultsExcludePins};
 ghost use Rattle.kit_laws.specs.OneKit.{KitFaultsAreUnique, KitFaultsExcludeKits, KitsAreUnique};
+ghost use Rattle.kit_laws.specs.OneRom.{RomLeafFaultsAreUnique, RomLeafFaultsExcludeRomLeaves};
 
 /// A cell has one outline.
 pub fn outlines_are_unique()
@@ -37,4 +38,10 @@ pub fn kit_faults_are_unique()
 /// Where they are a kit there is no fault, out of memory aside.
 pub fn kit_faults_exclude_kits()
     ensures { KitFaultsExcludeKits }
+{}
+
+/// A kit has at most one fault of the leaf cells of a read-only memory, and none where it has these cells, out of memory aside.
+pub fn rom_leaf_faults_are_unique()
+    ensures one { RomLeafFaultsAreUnique }
+    ensures apart { RomLeafFaultsExcludeRomLeaves }
 {}

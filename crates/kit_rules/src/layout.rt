@@ -5,6 +5,7 @@ ghost use Rattle.or_geom.specs.Reachable.{AreReachable};
 ghost use Rattle.or_geom.specs.ShapeOrder.{shape_order};
 ghost use Rattle.cell_hierarchy.specs.Plain.{lists_of};
 ghost use Rattle.leaf_tables.specs.Kits.{IsKit};
+ghost use Rattle.cell_roles.specs.declared.leaf_role.LeafRole.TheVariants.{Common};
 ghost use Rattle.leaf_tables.specs.Leaves.{cell_named_for};
 ghost use Rattle.kit_rules.specs.Layout.{IsFlatLeaf};
 
@@ -17,7 +18,7 @@ use tech_rules::RoleName;
 
 /// The name of the cell that plays the role.
 fn cell_named_for(roles: &[RoleName], role: Role) -> Option<&Name>
-    ensures { option_copied result ≡ cell_named_for roles.now role }
+    ensures { option_copied result ≡ cell_named_for roles.now (Common role) }
 {
     let name = role.name();
     for entry in roles {
@@ -31,7 +32,7 @@ fn cell_named_for(roles: &[RoleName], role: Role) -> Option<&Name>
 /// The name of the role's cell in a kit.
 pub fn cell_of(kit: &Kit, role: Role) -> &Name
     requires { IsKit kit.now }
-    ensures { cell_named_for kit.now.tech.roles role ≡ Some result.now }
+    ensures { cell_named_for kit.now.tech.roles (Common role) ≡ Some result.now }
 {
     match cell_named_for(kit.tech.roles.as_slice(), role) {
         Some(cell) => cell,
@@ -48,7 +49,7 @@ pub fn leaf_layout<'b>(
     cell: &Name,
 ) -> Result<Flat<'b>, Memory>
     requires kit { IsKit kit.now }
-    requires plays { cell_named_for kit.now.tech.roles role ≡ Some cell.now }
+    requires plays { cell_named_for kit.now.tech.roles (Common role) ≡ Some cell.now }
     ensures flat { IfOk result (λ flat. IsFlatLeaf kit.now role cell.now (lists_of flat)) }
     ensures rises { IfOk result (λ flat. IsStrictlySortedBy shape_order flat.shapes.now) }
     ensures reach { IfOk result (λ flat. AreReachable flat.shapes.now) }

@@ -1,5 +1,6 @@
 ghost use Rattle.std.specs.Prelude.{◌≡◌, IfOk, Some};
 ghost use Rattle.leaf_tables.specs.Kits.{IsKit};
+ghost use Rattle.cell_roles.specs.declared.leaf_role.LeafRole.TheVariants.{Common};
 ghost use Rattle.leaf_tables.specs.Leaves.{cell_named_for};
 ghost use Rattle.leaf_nets.specs.Leaves.{IsLeafNets};
 
@@ -26,7 +27,7 @@ pub enum LeafNets {
 /// What is found in the cell of a role by itself.
 pub fn leaf_nets(alloc: Global, kit: &Kit, role: Role, cell: &Name) -> Result<LeafNets, Memory>
     requires kit { IsKit kit.now }
-    requires plays { cell_named_for kit.now.tech.roles role ≡ Some cell.now }
+    requires plays { cell_named_for kit.now.tech.roles (Common role) ≡ Some cell.now }
     ensures { IfOk result (IsLeafNets kit.now role) }
 {
     let bump = Bump::new(alloc);

@@ -7,10 +7,13 @@ use Rattle.std.proofs.lemmas.List.{length_push}
 use Rattle.or_geom.specs.Gathering.{SomeHas}
 use Rattle.or_geom.proofs.ListLaws.{one_at}
 use Rattle.cell_roles.specs.declared.role.Role.{Role}
-use Rattle.cell_roles.specs.Roles.{all_roles, role_name}
+use Rattle.cell_roles.specs.declared.leaf_role.LeafRole.{LeafRole}
+use Rattle.cell_roles.specs.declared.leaf_role.LeafRole.TheVariants.{Common}
+use Rattle.cell_roles.specs.Roles.{all_roles}
+use Rattle.cell_roles.specs.LeafRoles.{leaf_role_name}
 use Rattle.tech_rules.specs.declared.tech.RoleName.{RoleName}
 use Rattle.tech_rules.specs.declared.tech.Tech.{Tech}
-use Rattle.role_tables.specs.Table.{HasTables}
+use Rattle.role_tables.specs.Table.{NamesCell}
 use Rattle.leaf_shapes.proofs.PinLaws.{exists_at, push_cases}
 use Rattle.leaf_tables.specs.declared.fault.KitFault.{KitFault}
 use Rattle.leaf_tables.specs.declared.kit.Leaf.{Leaf}
@@ -33,16 +36,16 @@ named (x ∷ xs) name (inl is) e =
     cc
 named (x ∷ xs) name (inr h) e = named xs name h (none_left (bytes_eq x.role name) x (find (λ (entry : RoleName). bytes_eq entry.role name) xs) e)
 
--- each role has a cell
-pub has_cell : (tech : Tech) (role : Role) → HasTables tech → cell_named_for tech.roles role ≡ None → ⊥
-has_cell tech role tables e = named tech.roles (role_name role) (tables role).cell (none_mapped (λ (entry : RoleName). entry.cell) (find (λ (entry : RoleName). bytes_eq entry.role (role_name role)) tech.roles) e)
+-- a role that has a cell has its name
+pub has_cell : (tech : Tech) (role : LeafRole) → NamesCell tech role → cell_named_for tech.roles role ≡ None → ⊥
+has_cell tech role cell e = named tech.roles (leaf_role_name role) cell (none_mapped (λ (entry : RoleName). entry.cell) (find (λ (entry : RoleName). bytes_eq entry.role (leaf_role_name role)) tech.roles) e)
 
 -- the leaves of the roles before a place
 pub record AreLeavesBefore (source : LeafSource) (leaves : List Leaf) (i : ℕ) : Type 0 where
   pub sized : length leaves ≡ i
-  pub each : (k : ℕ) (role : Role) (leaf : Leaf) → slice_get all_roles k ≡ Some role → slice_get leaves k ≡ Some leaf → IsLeaf source role leaf
+  pub each : (k : ℕ) (role : Role) (leaf : Leaf) → slice_get all_roles k ≡ Some role → slice_get leaves k ≡ Some leaf → IsLeaf source (Common role) leaf
 
-pub leaves_more : (source : LeafSource) (leaves new : List Leaf) (i : ℕ) (role : Role) (leaf : Leaf) → slice_get all_roles i ≡ Some role → IsLeaf source role leaf → new ≡ leaves ++ leaf ∷ []
+pub leaves_more : (source : LeafSource) (leaves new : List Leaf) (i : ℕ) (role : Role) (leaf : Leaf) → slice_get all_roles i ≡ Some role → IsLeaf source (Common role) leaf → new ≡ leaves ++ leaf ∷ []
     → AreLeavesBefore source leaves i → AreLeavesBefore source new (i + 1)
 leaves_more source leaves new i role leaf here is grown b = record {
   sized = let longer = length_push leaves leaf in let size = ap length grown in let s = b.sized in omega (arith, longer, size, s);
@@ -50,7 +53,7 @@ leaves_more source leaves new i role leaf here is grown b = record {
     | inl old ↦ b.each k r l at_r old
     | inr fresh ↦
         let at_i : slice_get all_roles i ≡ Some r = subst (λ (j : ℕ). slice_get all_roles j ≡ Some r) (sym fresh.0 ∙ b.sized) at_r in
-        subst (IsLeaf source r) fresh.1 (subst (λ (q : Role). IsLeaf source q leaf) (one_at all_roles i role r here at_i) is)
+        subst (IsLeaf source (Common r)) fresh.1 (subst (λ (q : Role). IsLeaf source (Common q) leaf) (one_at all_roles i role r here at_i) is)
   ];
 }
 
@@ -59,7 +62,7 @@ pub leaves_all : (source : LeafSource) (leaves : List Leaf) (i : ℕ) → i ≡ 
 leaves_all source leaves i e b = record { sized = b.sized ∙ e; each = b.each }
 
 -- the first without one
-pub leaves_lack : (source : LeafSource) (leaves : List Leaf) (i : ℕ) (role : Role) (fault : KitFault) → slice_get all_roles i ≡ Some role → IsLeafFault source role fault → AreLeavesBefore source leaves i → IsFirstLeafFault source fault
+pub leaves_lack : (source : LeafSource) (leaves : List Leaf) (i : ℕ) (role : Role) (fault : KitFault) → slice_get all_roles i ≡ Some role → IsLeafFault source (Common role) fault → AreLeavesBefore source leaves i → IsFirstLeafFault source fault
 leaves_lack source leaves i role fault here is b = record {
   place = i;
   role = role;

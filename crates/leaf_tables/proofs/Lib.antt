@@ -1,5 +1,5 @@
 mod FindLaws
 mod LeafLaws
 mod StepLaws
-mod AlignLaws
+pub mod AlignLaws
 pub mod RoleLaws

@@ -8,8 +8,11 @@ use Rattle.or_geom.specs.Distance.{IsReachable}
 use Rattle.or_geom.proofs.ListLaws.{contained_at}
 use Rattle.tech_rules.specs.declared.tech.Wire.{Wire}
 use Rattle.cell_roles.specs.declared.role.Role.{Role}
+use Rattle.cell_roles.specs.declared.leaf_role.LeafRole.{LeafRole}
+use Rattle.cell_roles.specs.declared.leaf_role.LeafRole.TheVariants.{Common}
 use Rattle.cell_roles.specs.declared.role.Role.TheVariants.{Bitcell, Precharge, Mux, Tie, Sense, Write, RowNand2, RowNand3, Driver, Nand2, Nand3, Inv, Dff, Delay}
 use Rattle.cell_roles.specs.Roles.{all_roles}
+use Rattle.cell_roles.specs.LeafRoles.{pin_role}
 use Rattle.leaf_shapes.specs.declared.demand.Metal.{Metal}
 use Rattle.leaf_shapes.specs.declared.demand.Metal.TheVariants.{M1, M2, M3, M4}
 use Rattle.leaf_shapes.specs.declared.pins.LeafPin.{LeafPin}
@@ -33,11 +36,11 @@ metal_listed wire M2 four = layer_at wire.metals 1 (omega (arith, four))
 metal_listed wire M3 four = layer_at wire.metals 2 (omega (arith, four))
 metal_listed wire M4 four = layer_at wire.metals 3 (omega (arith, four))
 
-near_pin : (source : LeafSource) (role : Role) (leaf : Leaf) → length source.wire.metals ≡ 4 → IsLeaf source role leaf → (k : ℕ) (pin : LeafPin) → slice_get leaf.pins k ≡ Some pin → IsReachable pin.rect
+near_pin : (source : LeafSource) (role : LeafRole) (leaf : Leaf) → length source.wire.metals ≡ 4 → IsLeaf source role leaf → (k : ℕ) (pin : LeafPin) → slice_get leaf.pins k ≡ Some pin → IsReachable pin.rect
 near_pin source role leaf four is k pin there =
     let sized = is.pins.sized in
     let within = slice_get_within leaf.pins k pin there in
-    let demand = exists_at (role_demands role) k (omega (arith, sized, within)) in
+    let demand = exists_at (role_demands (pin_role role)) k (omega (arith, sized, within)) in
     let drawn = is.pins.each k demand.0 pin demand.1 there in
     let shape : Shape = record { layer = pin.layer; rect = pin.rect } in
     let outline = is.sized.outline in
@@ -62,7 +65,7 @@ near_pin source role leaf four is k pin there =
       y2 = record { above = omega (arith, ints, low, y1, tall); below = omega (arith, ints, high, y2, below) };
     }
 
-near_leaf : (source : LeafSource) (role : Role) (leaf : Leaf) → length source.wire.metals ≡ 4 → IsLeaf source role leaf → IsNearLeaf leaf
+near_leaf : (source : LeafSource) (role : LeafRole) (leaf : Leaf) → length source.wire.metals ≡ 4 → IsLeaf source role leaf → IsNearLeaf leaf
 near_leaf source role leaf four is =
     let outline = is.sized.outline in
     let x1 = outline.is.left in
@@ -115,11 +118,11 @@ few_roles Delay = omega arith
 pub four_metals : (kit : Kit) (is : IsKit kit) → length is.wire.metals ≡ 4
 four_metals kit is = (subst (λ (w : Option Wire). IfSome w (IsWire kit.tech.layers)) is.wired is.tech.wire).four
 
-pub in_kit : (kit : Kit) (role : Role) (leaf : Leaf) (is : IsKit kit) → leaf_in kit.leaves role ≡ Some leaf → IsLeaf (source_of kit is.wire) role leaf
+pub in_kit : (kit : Kit) (role : Role) (leaf : Leaf) (is : IsKit kit) → leaf_in kit.leaves role ≡ Some leaf → IsLeaf (source_of kit is.wire) (Common role) leaf
 in_kit kit role leaf is there = is.leaves.each (role_number role) role leaf (role_there role) there
 
 pub near_in_kit : (kit : Kit) (role : Role) (leaf : Leaf) → IsKit kit → leaf_in kit.leaves role ≡ Some leaf → IsNearLeaf leaf
-near_in_kit kit role leaf is there = near_leaf (source_of kit is.wire) role leaf (four_metals kit is) (in_kit kit role leaf is there)
+near_in_kit kit role leaf is there = near_leaf (source_of kit is.wire) (Common role) leaf (four_metals kit is) (in_kit kit role leaf is there)
 
 pub pins_in_kit : (kit : Kit) (role : Role) (leaf : Leaf) → IsKit kit → leaf_in kit.leaves role ≡ Some leaf → length leaf.pins ≡ length (role_demands role)
 pins_in_kit kit role leaf is there = (in_kit kit role leaf is there).pins.sized

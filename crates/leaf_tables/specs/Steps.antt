@@ -6,8 +6,8 @@ use Rattle.gds_library.specs.declared.library.Structure.{Structure}
 use Rattle.tech_rules.specs.declared.tech.Layer.{Layer}
 use Rattle.leaf_shapes.specs.Demands.{role_demands}
 use Rattle.leaf_shapes.specs.Pins.{CellDrawing, IsPinFault}
-use Rattle.cell_roles.specs.declared.role.Role.{Role}
-use Rattle.cell_roles.specs.Roles.{role_name}
+use Rattle.cell_roles.specs.declared.leaf_role.LeafRole.{LeafRole}
+use Rattle.cell_roles.specs.LeafRoles.{pin_role, leaf_role_name}
 use Rattle.gds_library.specs.declared.library.Library.{Library}
 use Rattle.netlist.specs.declared.deck.Deck.{Deck}
 use Rattle.netlist.specs.declared.deck.Subckt.{Subckt}
@@ -26,30 +26,30 @@ abbrev pub source_in : Tech → Wire → Library → Deck → LeafSource
 source_in tech wire lib deck = record { tech = tech; wire = wire; structs = lib.structs; subckts = deck.subckts }
 
 -- the role's cell has no outline, or memory ran out
-abbrev pub IsOutlineFault : Wire → ℕ → Role → List Shape → KitFault → Type 0
-IsOutlineFault wire outline role shapes (kit_fault.Outline name) = (name ≡ role_name role) × ((size : CellSize) → IsCellOutline wire outline shapes size → ⊥)
+abbrev pub IsOutlineFault : Wire → ℕ → LeafRole → List Shape → KitFault → Type 0
+IsOutlineFault wire outline role shapes (kit_fault.Outline name) = (name ≡ leaf_role_name role) × ((size : CellSize) → IsCellOutline wire outline shapes size → ⊥)
 IsOutlineFault wire outline role shapes kit_fault.Memory = Unit {0}
 IsOutlineFault wire outline role shapes fault = ⊥
 
 -- it has no subcircuit, or one with other ports, or memory ran out
-abbrev pub IsPortFault : List Subckt → Role → List ℕ → KitFault → Type 0
+abbrev pub IsPortFault : List Subckt → LeafRole → List ℕ → KitFault → Type 0
 IsPortFault subckts role cell (kit_fault.UnknownSubckt name) = IsUnknown subckts cell name
-IsPortFault subckts role cell (kit_fault.PortsDiffer name) = (name ≡ role_name role) × HasOtherPorts subckts role cell
+IsPortFault subckts role cell (kit_fault.PortsDiffer name) = (name ≡ leaf_role_name role) × HasOtherPorts subckts role cell
 IsPortFault subckts role cell kit_fault.Memory = Unit {0}
 IsPortFault subckts role cell fault = ⊥
 
 -- the fault of a pin, with the role's name
-abbrev pub IsOfPin : Role → PinFault → KitFault → Type 0
+abbrev pub IsOfPin : LeafRole → PinFault → KitFault → Type 0
 IsOfPin role fault kit_fault.Memory = Unit {0}
-IsOfPin role (pin_fault.PinMissing pin) (kit_fault.PinMissing name other) = (name ≡ role_name role) × (other ≡ pin)
-IsOfPin role (pin_fault.PinLayer pin) (kit_fault.PinLayer name other) = (name ≡ role_name role) × (other ≡ pin)
-IsOfPin role (pin_fault.EdgePin pin) (kit_fault.EdgePin name other) = (name ≡ role_name role) × (other ≡ pin)
+IsOfPin role (pin_fault.PinMissing pin) (kit_fault.PinMissing name other) = (name ≡ leaf_role_name role) × (other ≡ pin)
+IsOfPin role (pin_fault.PinLayer pin) (kit_fault.PinLayer name other) = (name ≡ leaf_role_name role) × (other ≡ pin)
+IsOfPin role (pin_fault.EdgePin pin) (kit_fault.EdgePin name other) = (name ≡ leaf_role_name role) × (other ≡ pin)
 IsOfPin role fault other = ⊥
 
 -- a pin of the role has no shape as demanded, or memory ran out
-pub record LacksPins (cell : CellDrawing) (role : Role) (fault : KitFault) : Type 0 where
+pub record LacksPins (cell : CellDrawing) (role : LeafRole) (fault : KitFault) : Type 0 where
   pub pin : PinFault
-  pub is : IsPinFault cell (role_demands role) pin
+  pub is : IsPinFault cell (role_demands (pin_role role)) pin
   pub of : IsOfPin role pin fault
 
 -- the cell has no flat shapes and labels, or memory ran out

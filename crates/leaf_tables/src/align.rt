@@ -1,14 +1,14 @@
 ghost use Rattle.std.specs.Prelude.{◌≡◌, ◌↔◌, ◌<◌, IsTrue, IfErr, MatchOption, OnOk, Some, length, slice_get};
 ghost use Rattle.std.specs.List.{AllByRecursion};
 ghost use Rattle.std.specs.Option.{option_copied};
-ghost use Rattle.leaf_tables.specs.Alignment.{AreAligned, Face, IsFirstOdd, IsMisaligned, IsOfFacing, SameHeight, SameWidth, end_in, end_of, height_in, heights_equal, leaf_in, pins_face, plain_facing, width_in, widths_equal};
+ghost use Rattle.leaf_tables.specs.Alignment.{AreAligned, Face, IsFirstOdd, IsMisaligned, IsOfFacing, SameHeight, SameWidth, end_in, end_of, end_of_pin, height_in, heights_equal, leaf_in, pins_face, plain_facing, width_in, widths_equal};
 
 use crate::alignment::{Facing, PinEdge, facing_pins, height_pairs, width_pairs};
 use crate::fault::KitFault;
 use crate::kit::Leaf;
 use crate::leaf::role_text;
 use crate::lookup::{first_pin, role_number};
-use cell_roles::Role;
+use cell_roles::{LeafRole, Role};
 use leaf_shapes::LeafPin;
 use or_geom::Name;
 use std::alloc::Global;
@@ -50,6 +50,16 @@ fn end_of(pin: &LeafPin, edge: PinEdge) -> i64
     }
 }
 
+/// The left or the lower end of the first shape of a leaf's pin, in nanometres; none where the leaf has no such pin.
+pub fn end_of_pin(leaf: &Leaf, name: &str, edge: PinEdge) -> Option<i64>
+    ensures { result ≡ end_of_pin edge name.now leaf.now }
+{
+    match first_pin(leaf.pins.as_slice(), name) {
+        Some(pin) => Some(end_of(pin, edge)),
+        None => None,
+    }
+}
+
 /// The left or the lower end of the first shape of a role's pin.
 fn end_in(leaves: &[Leaf], role: Role, name: &str, edge: PinEdge) -> Option<i64>
     ensures { result ≡ end_in leaves.now role name.now edge }
@@ -57,10 +67,7 @@ fn end_in(leaves: &[Leaf], role: Role, name: &str, edge: PinEdge) -> Option<i64>
     let Some(leaf) = leaf_in(leaves, role) else {
         return None;
     };
-    match first_pin(leaf.pins.as_slice(), name) {
-        Some(pin) => Some(end_of(pin, edge)),
-        None => None,
-    }
+    end_of_pin(leaf, name, edge)
 }
 
 /// Whether both cells are as high.
@@ -148,7 +155,7 @@ fn facing_fault(alloc: Global, facing: Facing) -> KitFault
     ensures { IsOfFacing (plain_facing facing) result }
 {
     let Facing(role, pin, _, _, _) = facing;
-    let Ok(role) = role_text(alloc, role) else {
+    let Ok(role) = role_text(alloc, LeafRole::Common(role)) else {
         return KitFault::Memory;
     };
     let Ok(pin) = Name::from_bytes(alloc, pin.as_bytes()) else {
@@ -163,13 +170,13 @@ pub fn check_aligned(alloc: Global, leaves: &[Leaf]) -> Result<(), KitFault>
     ensures fault { IfErr result (IsMisaligned leaves.now) }
 {
     if let Some((role, _)) = first_height(leaves) {
-        let Ok(role) = role_text(alloc, role) else {
+        let Ok(role) = role_text(alloc, LeafRole::Common(role)) else {
             return Err(KitFault::Memory);
         };
         return Err(KitFault::HeightDiffers { role });
     }
     if let Some((role, _)) = first_width(leaves) {
-        let Ok(role) = role_text(alloc, role) else {
+        let Ok(role) = role_text(alloc, LeafRole::Common(role)) else {
             return Err(KitFault::Memory);
         };
         return Err(KitFault::WidthDiffers { role });

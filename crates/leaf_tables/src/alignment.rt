@@ -6,7 +6,7 @@ use cell_roles::Role::{self, *};
 
 /// Which coordinate of two pins has to be equal: the left end or the lower end.
 #[derive(Clone, Copy, PartialEq, Eq, Debug)]
-pub(crate) enum PinEdge {
+pub enum PinEdge {
     Left,
     Low,
 }

@@ -3,11 +3,11 @@ ghost use Rattle.std.specs.List.Sorted.{IsStrictlySortedBy};
 ghost use Rattle.or_geom.specs.ShapeOrder.{shape_order};
 ghost use Rattle.cell_hierarchy.specs.FlatLists.{AreFlatLists};
 ghost use Rattle.cell_hierarchy.specs.Plain.{lists_of};
-ghost use Rattle.cell_roles.specs.Roles.{role_name};
+ghost use Rattle.cell_roles.specs.LeafRoles.{pin_role, leaf_role_name};
 ghost use Rattle.gds_library.specs.Writable.{IsWritable};
 ghost use Rattle.spice_text.specs.Words.{lower};
 ghost use Rattle.tech_rules.specs.Facts.{IsTech};
-ghost use Rattle.role_tables.specs.Table.{HasTables};
+ghost use Rattle.role_tables.specs.Table.{HasTables, NamesCell};
 ghost use Rattle.leaf_shapes.specs.Demands.{role_demands};
 ghost use Rattle.leaf_shapes.specs.Outline.{IsCellOutline};
 ghost use Rattle.leaf_shapes.specs.Pins.{AreLeafPins, drawing_of};
@@ -19,7 +19,7 @@ use crate::kit::Leaf;
 use crate::lookup::{cell_named_for, subckt_named};
 use bumpalo::Bump;
 use cell_hierarchy::{Flat, flatten};
-use cell_roles::Role;
+use cell_roles::{LeafRole, Role};
 use gds_library::Library;
 use leaf_shapes::{CellSize, LeafPin, PinFault, outline_size, pin_shapes};
 use netlist::Deck;
@@ -29,8 +29,8 @@ use std::alloc::Global;
 use tech_rules::{Tech, Wire};
 
 /// The name that a fault has for the role.
-pub fn role_text(alloc: Global, role: Role) -> Result<Name, Memory>
-    ensures { IfOk result (λ name. name ≡ role_name role) }
+pub fn role_text(alloc: Global, role: LeafRole) -> Result<Name, Memory>
+    ensures { IfOk result (λ name. name ≡ leaf_role_name role) }
 {
     Name::from_bytes(alloc, role.name().as_bytes())
 }
@@ -68,7 +68,7 @@ fn lower_name(alloc: Global, name: &Name) -> Result<Name, Memory>
 }
 
 /// Refuses a cell whose subcircuit isn't there or hasn't the role's ports.
-fn check_ports(alloc: Global, deck: &Deck, cell: &Name, role: Role) -> Result<(), KitFault>
+fn check_ports(alloc: Global, deck: &Deck, cell: &Name, role: LeafRole) -> Result<(), KitFault>
     ensures ports { OnOk result (HasPorts deck.now.subckts role cell.now) }
     ensures fault { IfErr result (IsPortFault deck.now.subckts role cell.now) }
 {
@@ -88,7 +88,7 @@ fn check_ports(alloc: Global, deck: &Deck, cell: &Name, role: Role) -> Result<()
 }
 
 /// The fault of a pin of the role.
-fn fault_of_pin(alloc: Global, role: Role, fault: PinFault) -> KitFault
+fn fault_of_pin(alloc: Global, role: LeafRole, fault: PinFault) -> KitFault
     ensures { IsOfPin role fault result }
 {
     let Ok(role) = role_text(alloc, role) else {
@@ -107,7 +107,7 @@ fn size_of(
     alloc: Global,
     wire: &Wire,
     outline: u16,
-    role: Role,
+    role: LeafRole,
     shapes: &[Shape],
 ) -> Result<CellSize, KitFault>
     ensures size { IfOk result (IsCellOutline wire.now outline shapes.now) }
@@ -127,19 +127,19 @@ fn pins_of<'b>(
     alloc: Global,
     bump: &'b Bump,
     wire: &Wire,
-    role: Role,
+    role: LeafRole,
     size: CellSize,
     flat: &Flat<'b>,
 ) -> Result<Items<LeafPin>, KitFault>
     requires rises { IsStrictlySortedBy shape_order flat.now.shapes.now }
     requires few { length flat.now.shapes.now ≤ 16777216 }
-    ensures pins { IfOk result (AreLeafPins (drawing_of wire.now size flat.now.shapes.now flat.now.labels.now) (role_demands role)) }
+    ensures pins { IfOk result (AreLeafPins (drawing_of wire.now size flat.now.shapes.now flat.now.labels.now) (role_demands (pin_role role))) }
     ensures fault { IfErr result (LacksPins (drawing_of wire.now size flat.now.shapes.now flat.now.labels.now) role) }
 {
     let Ok(bins) = index(alloc, bump, flat) else {
         return Err(KitFault::Memory);
     };
-    match pin_shapes(alloc, role, wire, size, &bins, flat.labels) {
+    match pin_shapes(alloc, role.pin_role(), wire, size, &bins, flat.labels) {
         Ok(pins) => Ok(pins),
         Err(fault) => Err(fault_of_pin(alloc, role, fault)),
     }
@@ -172,7 +172,7 @@ fn drawn_leaf(
     wire: &Wire,
     lib: &Library,
     deck: &Deck,
-    role: Role,
+    role: LeafRole,
     cell: &Name,
 ) -> Result<Leaf, KitFault>
     requires tech { IsTech tech.now }
@@ -203,18 +203,19 @@ fn drawn_leaf(
     }
 }
 
-/// The leaf of the role.
-fn read_leaf(
+/// The leaf of a role that the technology names a cell for. What is refused is refused in this order: the cell's flat layout, its
+/// outline, its subcircuit, the ports of that, and its pins. `Memory` may come in place of each.
+pub fn read_leaf(
     alloc: Global,
     tech: &Tech,
     wire: &Wire,
     lib: &Library,
     deck: &Deck,
-    role: Role,
+    role: LeafRole,
 ) -> Result<Leaf, KitFault>
     requires tech { IsTech tech.now }
     requires writable { IsWritable lib.now }
-    requires tables { HasTables tech.now }
+    requires cell { NamesCell tech.now role }
     ensures leaf { IfOk result (IsLeaf (source_in tech.now wire.now lib.now deck.now) role) }
     ensures fault { IfErr result (IsLeafFault (source_in tech.now wire.now lib.now deck.now) role) }
 {
@@ -250,7 +251,7 @@ pub fn read_leaves(
     let mut leaves = Items::new(alloc);
     for index in 0..all.len() {
         let role = role_at(&all, index);
-        let leaf = match read_leaf(alloc, tech, wire, lib, deck, role) {
+        let leaf = match read_leaf(alloc, tech, wire, lib, deck, LeafRole::Common(role)) {
             Ok(leaf) => leaf,
             Err(fault) => return Err(fault),
         };

@@ -3,14 +3,14 @@ ghost use Rattle.std.specs.Option.{option_copied};
 ghost use Rattle.leaf_tables.specs.Leaves.{cell_named_for, subckt_named};
 ghost use Rattle.leaf_tables.specs.Alignment.{first_pin, role_number};
 
-use cell_roles::Role;
+use cell_roles::{LeafRole, Role};
 use leaf_shapes::LeafPin;
 use netlist::Subckt;
 use or_geom::Name;
 use tech_rules::RoleName;
 
 /// The name of the cell that plays the role.
-pub fn cell_named_for(roles: &[RoleName], role: Role) -> Option<&Name>
+pub fn cell_named_for(roles: &[RoleName], role: LeafRole) -> Option<&Name>
     ensures { option_copied result ≡ cell_named_for roles.now role }
 {
     let name = role.name();

@@ -2,20 +2,20 @@
 use Rattle.std.proofs.Common.{◌≡◌, ◌⊎◌, inl, inr, ℕ, zero, suc, ◌+◌, ◌*◌, ◌<◌, ◌≤◌, List, [], ◌∷◌, ◌++◌, map, length, refl, arith}
 use Rattle.std.specs.List.{AllByRecursion, flat_map}
 use Rattle.std.proofs.lemmas.List.{length-append, length-map}
-use Rattle.sram_netlist.specs.Organization.{Organization, IsBuildable, total_bits, power_of_two, bank_bit, addr_bits, IsGroupSize}
-use Rattle.sram_netlist.specs.Instances.{Dd, Dm}
-use Rattle.sram_netlist.specs.Netlist.{enable_count}
+use Rattle.sram_netlist.specs.Organization.{Organization, IsBuildable, inputs_of, total_bits, power_of_two, bank_bit, addr_bits, IsGroupSize}
+use Rattle.sram_netlist.specs.Instances.{LogicCell, Dd, Dm}
+use Rattle.sram_netlist.specs.Netlist.{enable_count, enables_of, web_nets}
 use Rattle.sram_netlist.specs.InstanceList.{logic_cells, numbers_from, tabulate, tabulate_lists, fixed_cells, address_cells, line_gates, gates, choice_gates, groups_gates, bank_cells, banks_cells, enable_gates, enable_cells}
-use Rattle.sram_netlist.proofs.Bounds.{bounds, twice_up, size_small}
+use Rattle.sram_netlist.proofs.Bounds.{bounds, twice_up, written_most, size_small}
 use Rattle.sram_netlist.specs.Nets.{Addr, Din, Dout, Wmask, Line}
 use Rattle.macro_layout.specs.Pins.{choice_nets, slice_nets, column_nets, port_nets, output_of, main_nets}
 use Rattle.macro_bounds.specs.Counts.{LogicCellsAreFew, ChannelNetsAreFew}
 
-numbers_long : (k n : ℕ) → length (numbers_from k n) ≡ n
+pub numbers_long : (k n : ℕ) → length (numbers_from k n) ≡ n
 numbers_long k zero = refl
 numbers_long k (suc n) = let e = numbers_long (suc k) n in omega (arith, e)
 
-tabulate_long : {A : Type 0} (n : ℕ) (f : ℕ → A) → length (tabulate n f) ≡ n
+pub tabulate_long : {A : Type 0} (n : ℕ) (f : ℕ → A) → length (tabulate n f) ≡ n
 tabulate_long n f = let e = length-map (numbers_from 0 n) f in let long = numbers_long 0 n in omega (arith, e, long)
 
 flat_long : {A : Type 0} (m : ℕ) (f : ℕ → List A) (xs : List ℕ) → ((j : ℕ) → length (f j) ≤ m) → length (flat_map f xs) ≤ length xs * m
@@ -67,16 +67,20 @@ banks_few plan (suc n) le =
 masks_few : (n bank : ℕ) → n ≤ 256 → length (tabulate_lists n (enable_gates bank)) ≤ 512
 masks_few n bank le = let h = lists_long n 2 (enable_gates bank) (λ j. omega arith) in omega (arith, h, le)
 
-enables_few : (n m : ℕ) → n ≤ 2 → enable_count m ≤ 256 → length (enable_cells n m) ≤ 2048
-enables_few zero zero le few = omega arith
-enables_few zero (suc m) le few = let h = lists_long 1 512 (λ bank. tabulate_lists (suc m) (enable_gates bank)) (λ bank. masks_few (suc m) bank few) in omega (arith, h)
-enables_few (suc n) m le few =
-    let h = lists_long (power_of_two (suc n)) 512 (λ bank. tabulate_lists (enable_count m) (enable_gates bank)) (λ bank. masks_few (enable_count m) bank few) in
+enables_few : (n m enables : ℕ) → n ≤ 2 → enables ≤ 256 → length (enable_cells n m enables) ≤ 2048
+enables_few zero zero enables le few = omega arith
+enables_few zero (suc m) enables le few = let h = lists_long 1 512 (λ bank. tabulate_lists enables (enable_gates bank)) (λ bank. masks_few enables bank few) in omega (arith, h)
+enables_few (suc n) m enables le few =
+    let h = lists_long (power_of_two (suc n)) 512 (λ bank. tabulate_lists enables (enable_gates bank)) (λ bank. masks_few enables bank few) in
     let all = twice_up (suc n) 2 le in
     omega (arith, h, all)
 
-sum_of_eight : (a b c d e f g h i j k l m n : ℕ) → a ≡ 14 + b → b ≡ c + d → c ≤ 28 → d ≡ e + f → e ≤ 16 → f ≡ g + h → g ≤ 48 → h ≡ i + j → i ≤ 256 → j ≡ k + l → k ≤ 256 → l ≡ m + n → m ≤ 32 → n ≤ 2048 → a < 2800
-sum_of_eight a b c d e f g h i j k l m n p1 p2 p3 p4 p5 p6 p7 p8 p9 p10 p11 p12 p13 p14 = omega arith
+fixed_few : (w : ℕ) → length (fixed_cells w) ≤ 14
+fixed_few zero = omega arith
+fixed_few (suc w) = omega arith
+
+sum_of_eight : (a o b c d e f g h i j k l m n : ℕ) → a ≡ o + b → o ≤ 14 → b ≡ c + d → c ≤ 28 → d ≡ e + f → e ≤ 16 → f ≡ g + h → g ≤ 48 → h ≡ i + j → i ≤ 256 → j ≡ k + l → k ≤ 256 → l ≡ m + n → m ≤ 32 → n ≤ 2048 → a < 2800
+sum_of_eight a o b c d e f g h i j k l m n p0 p1 p2 p3 p4 p5 p6 p7 p8 p9 p10 p11 p12 p13 p14 = omega arith
 
 group_bits : (gs : List ℕ) → AllByRecursion IsGroupSize gs → total_bits gs ≤ 3 * length gs
 group_bits [] all = omega arith
@@ -90,6 +94,16 @@ address_few plan p =
     let choices = p.choices in
     omega (arith, bits, three, banks, choices)
 
+-- what follows the address bits, the choices and the groups
+abbrev end_cells : Organization → List LogicCell
+end_cells plan = banks_cells plan plan.bank_bits ++ enable_cells plan.bank_bits plan.masks (enables_of plan)
+
+abbrev data_cells : Organization → List LogicCell
+data_cells plan = tabulate (inputs_of plan) Dd ++ (tabulate plan.masks Dm ++ end_cells plan)
+
+pub inputs_few : (plan : Organization) → IsBuildable plan → inputs_of plan ≤ 256
+inputs_few plan p = let most = written_most plan.write_size plan.word_size in let words = (bounds plan p).words in omega (arith, most, words)
+
 pub logic_cells_are_few : LogicCellsAreFew
 logic_cells_are_few plan p =
     let b = bounds plan p in
@@ -97,19 +111,21 @@ logic_cells_are_few plan p =
     let few = address_few plan p in
     let g = groups_few plan.groups plan.col_bits p.sizes in
     let three = three_groups plan.groups p.groups in
-    let words = b.words in
+    let inputs = inputs_few plan p in
     let masks = b.masks in
-    let data_long = tabulate_long plan.word_size Dd in
+    let enables = b.enables in
+    let enabled = written_most plan.write_size (enable_count plan.masks) in
+    let data_long = tabulate_long (inputs_of plan) Dd in
     let mask_long = tabulate_long plan.masks Dm in
-    let l1 = length-append fixed_cells (tabulate_lists (addr_bits plan) address_cells ++ (choice_gates plan.col_bits ++ (groups_gates plan.groups plan.col_bits ++ (tabulate plan.word_size Dd ++ (tabulate plan.masks Dm ++ (banks_cells plan plan.bank_bits ++ enable_cells plan.bank_bits plan.masks)))))) in
-    let l2 = length-append (tabulate_lists (addr_bits plan) address_cells) (choice_gates plan.col_bits ++ (groups_gates plan.groups plan.col_bits ++ (tabulate plan.word_size Dd ++ (tabulate plan.masks Dm ++ (banks_cells plan plan.bank_bits ++ enable_cells plan.bank_bits plan.masks))))) in
-    let l3 = length-append (choice_gates plan.col_bits) (groups_gates plan.groups plan.col_bits ++ (tabulate plan.word_size Dd ++ (tabulate plan.masks Dm ++ (banks_cells plan plan.bank_bits ++ enable_cells plan.bank_bits plan.masks)))) in
-    let l4 = length-append (groups_gates plan.groups plan.col_bits) (tabulate plan.word_size Dd ++ (tabulate plan.masks Dm ++ (banks_cells plan plan.bank_bits ++ enable_cells plan.bank_bits plan.masks))) in
-    let l5 = length-append (tabulate plan.word_size Dd) (tabulate plan.masks Dm ++ (banks_cells plan plan.bank_bits ++ enable_cells plan.bank_bits plan.masks)) in
-    let l6 = length-append (tabulate plan.masks Dm) (banks_cells plan plan.bank_bits ++ enable_cells plan.bank_bits plan.masks) in
-    let l7 = length-append (banks_cells plan plan.bank_bits) (enable_cells plan.bank_bits plan.masks) in
-    sum_of_eight _ _ _ _ _ _ _ _ _ _ _ _ _ _ l1 l2 (omega (arith, h, few)) l3 (choices_few plan.col_bits p.choices) l4 (omega (arith, g, three)) l5 (omega (arith, data_long, words)) l6 (omega (arith, mask_long, masks)) l7 (banks_few plan plan.bank_bits p.banks)
-    (enables_few plan.bank_bits plan.masks p.banks b.enables)
+    let l1 = length-append (fixed_cells plan.write_size) (tabulate_lists (addr_bits plan) address_cells ++ (choice_gates plan.col_bits ++ (groups_gates plan.groups plan.col_bits ++ data_cells plan))) in
+    let l2 = length-append (tabulate_lists (addr_bits plan) address_cells) (choice_gates plan.col_bits ++ (groups_gates plan.groups plan.col_bits ++ data_cells plan)) in
+    let l3 = length-append (choice_gates plan.col_bits) (groups_gates plan.groups plan.col_bits ++ data_cells plan) in
+    let l4 = length-append (groups_gates plan.groups plan.col_bits) (data_cells plan) in
+    let l5 = length-append (tabulate (inputs_of plan) Dd) (tabulate plan.masks Dm ++ end_cells plan) in
+    let l6 = length-append (tabulate plan.masks Dm) (end_cells plan) in
+    let l7 = length-append (banks_cells plan plan.bank_bits) (enable_cells plan.bank_bits plan.masks (enables_of plan)) in
+    sum_of_eight _ _ _ _ _ _ _ _ _ _ _ _ _ _ _ l1 (fixed_few plan.write_size) l2 (omega (arith, h, few)) l3 (choices_few plan.col_bits p.choices) l4 (omega (arith, g, three)) l5 (omega (arith, data_long, inputs)) l6 (omega (arith, mask_long, masks)) l7
+    (banks_few plan plan.bank_bits p.banks) (enables_few plan.bank_bits plan.masks (enables_of plan) p.banks (omega (arith, enables, enabled)))
 
 -- nets
 
@@ -117,8 +133,12 @@ choice_nets_few : (m : ℕ) → m ≤ 3 → length (choice_nets m) ≤ 8
 choice_nets_few zero le = omega arith
 choice_nets_few (suc m) le = let long = tabulate_long (power_of_two (suc m)) (Line 0 (suc m)) in let few = twice_up (suc m) 3 le in omega (arith, long, few)
 
-sum_of_ports : (a b c d e f g h : ℕ) → a ≡ 3 + b → b ≡ c + d → c ≤ 256 → d ≡ e + f → e ≤ 14 → f ≡ g + h → g ≤ 256 → h ≤ 256 → a ≤ 785
-sum_of_ports a b c d e f g h p1 p2 p3 p4 p5 p6 p7 p8 = omega arith
+web_few : (w : ℕ) → length (web_nets w) ≤ 1
+web_few zero = omega arith
+web_few (suc w) = omega arith
+
+sum_of_ports : (a w o b c d e f g h : ℕ) → a ≡ 2 + w → w ≡ o + b → o ≤ 1 → b ≡ c + d → c ≤ 256 → d ≡ e + f → e ≤ 14 → f ≡ g + h → g ≤ 256 → h ≤ 256 → a ≤ 785
+sum_of_ports a w o b c d e f g h q0 q1 q2 p2 p3 p4 p5 p6 p7 p8 = omega arith
 
 pub port_nets_few : (plan : Organization) → IsBuildable plan → length (port_nets plan) ≤ 785
 port_nets_few plan p =
@@ -127,13 +147,15 @@ port_nets_few plan p =
     let masks = b.masks in
     let l0 = tabulate_long plan.masks Wmask in
     let l1 = tabulate_long (addr_bits plan) Addr in
-    let l2 = tabulate_long plan.word_size Din in
+    let inputs = inputs_few plan p in
+    let l2 = tabulate_long (inputs_of plan) Din in
     let l3 = tabulate_long plan.word_size Dout in
-    let a1 = length-append (tabulate plan.masks Wmask) (tabulate (addr_bits plan) Addr ++ (tabulate plan.word_size Din ++ tabulate plan.word_size Dout)) in
-    let a2 = length-append (tabulate (addr_bits plan) Addr) (tabulate plan.word_size Din ++ tabulate plan.word_size Dout) in
-    let a3 = length-append (tabulate plan.word_size Din) (tabulate plan.word_size Dout) in
+    let a0 = length-append (web_nets plan.write_size) (tabulate plan.masks Wmask ++ (tabulate (addr_bits plan) Addr ++ (tabulate (inputs_of plan) Din ++ tabulate plan.word_size Dout))) in
+    let a1 = length-append (tabulate plan.masks Wmask) (tabulate (addr_bits plan) Addr ++ (tabulate (inputs_of plan) Din ++ tabulate plan.word_size Dout)) in
+    let a2 = length-append (tabulate (addr_bits plan) Addr) (tabulate (inputs_of plan) Din ++ tabulate plan.word_size Dout) in
+    let a3 = length-append (tabulate (inputs_of plan) Din) (tabulate plan.word_size Dout) in
     let address = address_few plan p in
-    sum_of_ports (length (port_nets plan)) _ _ _ _ _ _ _ (omega arith) a1 (omega (arith, l0, masks)) a2 (omega (arith, l1, address)) a3 (omega (arith, l2, words)) (omega (arith, l3, words))
+    sum_of_ports (length (port_nets plan)) _ _ _ _ _ _ _ _ _ (omega arith) a0 (web_few plan.write_size) a1 (omega (arith, l0, masks)) a2 (omega (arith, l1, address)) a3 (omega (arith, l2, inputs)) (omega (arith, l3, words))
 
 main_nets_few : (plan : Organization) → IsBuildable plan → length (main_nets plan) ≤ 4096
 main_nets_few plan p =

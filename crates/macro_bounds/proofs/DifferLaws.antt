@@ -1,9 +1,11 @@
 -- Names that differ.
-use Rattle.std.proofs.Common.{◌≡◌, ◌≢◌, inl, inr, ℕ, zero, suc, ◌<◌, Bool, true, false, not, ◌&&◌, nat_eq, List, [], ◌∷◌, ◌++◌, map, length, get_or, refl, sym, ap, subst, ◌∙◌, arith}
+use Rattle.std.proofs.Common.{◌≡◌, ◌≢◌, inl, inr, ℕ, zero, suc, ◌+◌, ◌<◌, ◌≤◌, Bool, true, false, not, ◌&&◌, nat_eq, List, [], ◌∷◌, ◌++◌, map, length, get_or, refl, sym, ap, subst, ◌∙◌, append_assoc, zero-add, arith}
 use Rattle.std.specs.Prelude.{All, Contains, codes}
 use Rattle.std.specs.List.{AllPairs}
 use Rattle.std.specs.Char.{to_ascii_lowercase}
+use Rattle.std.specs.Fmt.{decimal}
 use Rattle.std.proofs.lemmas.Bool.Decides.{nat_tests}
+use Rattle.std.proofs.lemmas.Fmt.{decimal_injective}
 use Rattle.std.proofs.lemmas.List.{append-nil, append_cancel_left, get_or-map, get_or_default, length-map}
 use Rattle.std.proofs.lemmas.List.Elements.{Contains-append_cases}
 use Rattle.std.proofs.lemmas.List.Kept.{AllPairs-cons}
@@ -12,8 +14,12 @@ use Rattle.gds_library.specs.declared.library.Structure.{Structure}
 use Rattle.tech_rules.specs.declared.tech.Layer.{Layer}
 use Rattle.cell_builder.specs.declared.cell.DrawnCell.{DrawnCell}
 use Rattle.cell_builder.specs.Finish.{AreFinished, IsFinishedCell}
-use Rattle.macro_layout.specs.Cells.{row_cell_name, array_cell_name, pre_cell_name, data_cell_name, bank_cell_name, logic_cell_name}
-use Rattle.macro_bounds.specs.Differ.{SevenNamesDiffer, MadeNamesDiffer}
+use Rattle.sram_netlist.specs.Organization.{Organization, IsBuildable, bank_rows}
+use Rattle.sram_netlist.specs.InstanceList.{numbers_from, tabulate}
+use Rattle.sram_netlist.specs.BitCells.{BitCells, Alike, Apart, row_kinds, row_name}
+use Rattle.macro_layout.specs.Cells.{array_cell_name, pre_cell_name, data_cell_name, bank_cell_name, logic_cell_name}
+use Rattle.macro_bounds.proofs.CountLaws.{numbers_long, tabulate_long}
+use Rattle.macro_bounds.specs.Differ.{other_names, MacroNamesDiffer, MadeNamesDiffer}
 
 -- pairs
 
@@ -69,7 +75,7 @@ new_pairs [] e = λ i j d lt within. absurd (omega (arith, within))
 new_pairs (k ∷ ks) e = let both = both_true (is_new k ks) (are_new ks) e in AllPairs-cons (λ (a b : ℕ). a ≢ b) k ks (new_all k ks both.0) (new_pairs ks both.1)
 
 abbrev letters : List (List ℕ)
-letters = codes "_row" ∷ codes "_array" ∷ codes "_pre" ∷ codes "_data" ∷ codes "_bank" ∷ codes "_logic" ∷ [] ∷ []
+letters = codes "_array" ∷ codes "_pre" ∷ codes "_data" ∷ codes "_bank" ∷ codes "_logic" ∷ [] ∷ []
 
 -- the second letter tells them
 abbrev second : List ℕ → ℕ
@@ -83,16 +89,75 @@ second_tells ts all i j d lt within =
 letters_apart : AreApart letters
 letters_apart = second_tells letters (new_pairs (map second letters) refl)
 
-behind_apart : (n : List ℕ) (ts : List (List ℕ)) → AreApart ts → AreApart (map (λ (t : List ℕ). n ++ t) ts)
+abbrev behind : List ℕ → List ℕ → List ℕ
+behind n t = n ++ t
+
+behind_apart : (n : List ℕ) (ts : List (List ℕ)) → AreApart ts → AreApart (map (behind n) ts)
 behind_apart n ts all i j d lt within =
-    let long = length-map ts (λ (t : List ℕ). n ++ t) in
+    let long = length-map ts (behind n) in
     let in_j : j < length ts = omega (arith, long, within) in
     let in_i : i < length ts = omega (arith, lt, in_j) in
-    λ e. all i j d lt in_j (append_cancel_left n (get_or ts i d) (get_or ts j d) (sym (get_or-map (λ (t : List ℕ). n ++ t) ts i d d in_i) ∙ (e ∙ get_or-map (λ (t : List ℕ). n ++ t) ts j d d in_j)))
+    λ e. all i j d lt in_j (append_cancel_left n (get_or ts i d) (get_or ts j d) (sym (get_or-map (behind n) ts i d d in_i) ∙ (e ∙ get_or-map (behind n) ts j d d in_j)))
 
-pub seven_names_differ : SevenNamesDiffer
-seven_names_differ n =
-    subst (λ (last : List ℕ). AreApart (row_cell_name n ∷ array_cell_name n ∷ pre_cell_name n ∷ data_cell_name n ∷ bank_cell_name n ∷ logic_cell_name n ∷ last ∷ [])) (append-nil n) (behind_apart n letters letters_apart)
+others_are : (n : List ℕ) → map (behind n) letters ≡ other_names n
+others_are n = ap (λ (last : List ℕ). array_cell_name n ∷ pre_cell_name n ∷ data_cell_name n ∷ bank_cell_name n ∷ logic_cell_name n ∷ last ∷ []) (append-nil n)
+
+-- the names of rows: _row and a number where rows are told apart
+
+row_number : BitCells → ℕ → List ℕ
+row_number (Alike name) r = []
+row_number (Apart names) r = decimal r ++ []
+
+row_is : (bits : BitCells) (n : List ℕ) (r : ℕ) → row_name bits n r ≡ n ++ (codes "_row" ++ row_number bits r)
+unfolding row_number
+row_is (Alike name) n r = refl
+row_is (Apart names) n r = append_assoc n (codes "_row") (decimal r ++ [])
+
+row_told : (bits : BitCells) (rows i j : ℕ) → rows ≤ 256 → i < row_kinds bits rows → j < row_kinds bits rows → row_number bits i ≡ row_number bits j → i ≡ j
+unfolding row_number
+row_told (Alike name) rows i j few a b e = omega (arith, a, b)
+row_told (Apart names) rows i j few a b e = decimal_injective i j (omega (arith, few, a)) (omega (arith, few, b)) (sym (append-nil (decimal i)) ∙ (e ∙ append-nil (decimal j)))
+
+number_at : (k n i d : ℕ) → i < n → get_or (numbers_from k n) i d ≡ k + i
+number_at k zero i d lt = absurd (omega (arith, lt))
+number_at k (suc n) zero d lt = omega arith
+number_at k (suc n) (suc i) d lt = let e = number_at (suc k) n i d (omega (arith, lt)) in omega (arith, e)
+
+module _ (plan : Organization) (bits : BitCells) (n : List ℕ) (p : IsBuildable plan) where
+  abbrev row_names : List (List ℕ)
+  row_names = tabulate (row_kinds bits (bank_rows plan)) (row_name bits n)
+
+  rows_long : length row_names ≡ row_kinds bits (bank_rows plan)
+  rows_long = tabulate_long (row_kinds bits (bank_rows plan)) (row_name bits n)
+
+  row_at : (i : ℕ) (d : List ℕ) → i < row_kinds bits (bank_rows plan) → get_or row_names i d ≡ n ++ (codes "_row" ++ row_number bits i)
+  row_at i d lt =
+      let long = numbers_long 0 (row_kinds bits (bank_rows plan)) in
+      get_or-map (row_name bits n) (numbers_from 0 (row_kinds bits (bank_rows plan))) i 0 d (omega (arith, long, lt))
+      ∙ (ap (row_name bits n) (number_at 0 (row_kinds bits (bank_rows plan)) i 0 lt ∙ zero-add i) ∙ row_is bits n i)
+
+  rows_apart : AreApart row_names
+  rows_apart i j d lt within =
+      let long = rows_long in
+      let at_j : j < row_kinds bits (bank_rows plan) = omega (arith, long, within) in
+      let at_i : i < row_kinds bits (bank_rows plan) = omega (arith, lt, at_j) in
+      λ e.
+      let behind_n = append_cancel_left n (codes "_row" ++ row_number bits i) (codes "_row" ++ row_number bits j) (sym (row_at i d at_i) ∙ (e ∙ row_at j d at_j)) in
+      let same = row_told bits (bank_rows plan) i j p.rows at_i at_j (append_cancel_left (codes "_row") (row_number bits i) (row_number bits j) behind_n) in
+      omega (arith, lt, same)
+
+  across : (x y : List ℕ) → Contains row_names x → Contains (map (behind n) letters) y → x ≢ y
+  across x y row other e =
+      let long = rows_long in
+      let in_rows = row.1 in
+      let in_others = other.1 in
+      let same = append_cancel_left n (codes "_row" ++ row_number bits row.0) (get_or letters other.0 []) (sym (row_at row.0 x (omega (arith, long, in_rows))) ∙ (row.2 ∙ (e ∙ (sym other.2 ∙ get_or-map (behind n) letters other.0 [] y (omega (arith, in_others)))))) in
+      new_all 114 (map second letters) refl other.0 0 (omega (arith, in_others)) (ap second same ∙ sym (get_or-map second letters other.0 [] 0 (omega (arith, in_others))))
+
+pub macro_names_differ : MacroNamesDiffer
+macro_names_differ plan bits n p =
+    subst (λ (others : List (List ℕ)). AreApart (tabulate (row_kinds bits (bank_rows plan)) (row_name bits n) ++ others)) (others_are n)
+    (pairs_joined (λ (a b : List ℕ). a ≢ b) (tabulate (row_kinds bits (bank_rows plan)) (row_name bits n)) (map (behind n) letters) (rows_apart plan bits n p) (behind_apart n letters letters_apart) (across plan bits n p))
 
 -- structures
 
@@ -108,9 +173,9 @@ finished_names layers (c ∷ cs) [] each = absurd each
 finished_names layers (c ∷ cs) (s ∷ ss) each = λ i. finished_name layers c s each.0 i ∷ finished_names layers cs ss each.1 i
 
 pub made_names_differ : MadeNamesDiffer
-made_names_differ layers adopted cells structs n made named old free =
+made_names_differ layers adopted cells structs plan bits n p made named old free =
     let names = finished_names layers cells made.made made.each ∙ named in
-    let new = mapped_apart (λ (s : Structure). s.name) made.made (subst AreApart (sym names) (seven_names_differ n)) in
+    let new = mapped_apart (λ (s : Structure). s.name) made.made (subst AreApart (sym names) (macro_names_differ plan bits n p)) in
     subst (AllPairs (λ (a b : Structure). a.name ≢ b.name)) (sym made.parts)
     (pairs_joined (λ (a b : Structure). a.name ≢ b.name) adopted made.made old new
     (λ x y in_old in_new e. free x y.name in_old (subst (λ (l : List (List ℕ)). Contains l y.name) names (contains_map (λ (s : Structure). s.name) made.made y in_new)) (ap (map to_ascii_lowercase) e)))

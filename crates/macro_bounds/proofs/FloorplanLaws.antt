@@ -10,9 +10,9 @@ use Rattle.tech_rules.specs.Facts.{AreSizes}
 use Rattle.channel_router.specs.Wires.{channel_height}
 use Rattle.sram_netlist.specs.Organization.{Organization, bank_rows, columns_of, IsBuildable, IsGroupSize}
 use Rattle.sram_netlist.specs.Netlist.{row_gate}
-use Rattle.sram_netlist.proofs.Bounds.{twice_up, size_small}
+use Rattle.sram_netlist.proofs.Bounds.{twice_up, written_most, size_small}
 use Rattle.macro_layout.specs.Places.{Floorplan, bit_width, bit_height, drive_width}
-use Rattle.macro_layout.specs.Floorplan.{line_count, choice_count, rail_count, column_role}
+use Rattle.macro_layout.specs.Floorplan.{line_count, choice_count, rail_count, write_height, column_role}
 use Rattle.macro_bounds.specs.Near.{IsLengthUpTo}
 use Rattle.macro_bounds.specs.Floorplans.{IsFloorplanWithin, FloorplansAreNear}
 use Rattle.macro_bounds.proofs.CountLaws.{three_groups}
@@ -100,8 +100,10 @@ floorplans_are_near plan kit wire tracks f p small w few is =
     let driver = small.widths Driver in
     let columns = sides (columns_of plan) (bit_width kit) 256 p.columns (small.widths Bitcell) in
     let rows = sides (bank_rows plan) (bit_height kit) 256 p.rows (small.heights Bitcell) in
+    let write = small.heights Write in
+    let written = written_most plan.write_size (kit.height Write) in
     let main = height_up wire tracks.main 4096 w.sizes few.main in
     let channel = height_up wire tracks.column 2048 w.sizes few.column in
-    heights_rise f (kit.height Inv) (kit.height Write) (kit.height Sense) (kit.height (column_role plan.col_bits)) (bank_rows plan * bit_height kit) (channel_height wire tracks.main) (channel_height wire tracks.column)
+    heights_rise f (kit.height Inv) (write_height plan kit) (kit.height Sense) (kit.height (column_role plan.col_bits)) (bank_rows plan * bit_height kit) (channel_height wire tracks.main) (channel_height wire tracks.column)
     (logic_up f.logic_x (pitch wire) pitches.0 pitches.1 is.logic_x) row_x (width_up f.bank_width f.row_x (drive_width plan kit) (columns_of plan * bit_width kit) row_x (omega (arith, gate, driver)) (omega (arith, columns)) is.bank_width)
-    (small.heights Inv) (small.heights Write) (small.heights Sense) (small.heights (column_role plan.col_bits)) (omega (arith, rows)) main.0 main.1 channel.0 channel.1 is.write_y is.sense_y is.column_y is.array_y is.precharge_y
+    (small.heights Inv) (omega (arith, written, write)) (small.heights Sense) (small.heights (column_role plan.col_bits)) (omega (arith, rows)) main.0 main.1 channel.0 channel.1 is.write_y is.sense_y is.column_y is.array_y is.precharge_y

@@ -1,5 +1,5 @@
 -- Supply wires, joiners and labels near the origin.
-use Rattle.std.proofs.Common.{◌≡◌, ◌⊎◌, inl, inr, ℕ, ◌*◌, ◌<◌, ◌≤◌, ◌^◌, ℤ, pos, negsuc, ◌+ℤ◌, ◌-ℤ◌, ◌*ℤ◌, ◌≤ℤ◌, List, [], ◌∷◌, ◌++◌, length, refl, sym, ap, subst, ◌∙◌, arith}
+use Rattle.std.proofs.Common.{◌≡◌, ◌⊎◌, inl, inr, ℕ, zero, suc, ◌*◌, ◌<◌, ◌≤◌, ◌^◌, ℤ, pos, negsuc, ◌+ℤ◌, ◌-ℤ◌, ◌*ℤ◌, ◌≤ℤ◌, List, [], ◌∷◌, ◌++◌, length, refl, sym, ap, subst, ◌∙◌, arith}
 use Rattle.std.specs.Prelude.{Contains, slice_index, codes, FitsSigned}
 use Rattle.std.specs.List.{AllByRecursion}
 use Rattle.std.specs.Int.{w32, int_max}
@@ -16,10 +16,10 @@ use Rattle.tech_rules.specs.Drawing.{pitch}
 use Rattle.channel_router.specs.Wires.{channel_height}
 use Rattle.cell_builder.specs.declared.cell.PlacedLabel.{PlacedLabel}
 use Rattle.cell_builder.specs.Writable.{IsWritableText}
-use Rattle.sram_netlist.specs.Organization.{Organization, addr_bits, bank_rows, columns_of, banks_of, IsBuildable}
+use Rattle.sram_netlist.specs.Organization.{Organization, inputs_of, addr_bits, bank_rows, columns_of, banks_of, IsBuildable}
 use Rattle.sram_netlist.specs.Instances.{LogicCell, LogicAt}
 use Rattle.sram_netlist.specs.Nets.{Net, Addr, Din, Dout, Wmask}
-use Rattle.sram_netlist.specs.Netlist.{role, row_gate}
+use Rattle.sram_netlist.specs.Netlist.{web_nets, role, row_gate}
 use Rattle.sram_netlist.specs.InstanceList.{tabulate, logic_cells}
 use Rattle.sram_netlist.specs.Names.{net_name}
 use Rattle.sram_netlist.proofs.Bounds.{bounds}
@@ -33,7 +33,7 @@ use Rattle.macro_bounds.specs.Floorplans.{IsSmallKit, AreFewTracks}
 use Rattle.macro_bounds.specs.Supplies.{IsNearMacro, SupplyWiresAreNear, JoinersAreNear, LabelsAreWritable, LabelsHaveLayers}
 use Rattle.macro_bounds.proofs.BoxLaws.{metal, on_layer, box_near, LeavesWidth, roomy, wider, via_near}
 use Rattle.macro_bounds.proofs.TextLaws.{all_joined, label_text, index_text}
-use Rattle.macro_bounds.proofs.CountLaws.{logic_cells_are_few, address_few}
+use Rattle.macro_bounds.proofs.CountLaws.{logic_cells_are_few, address_few, inputs_few}
 use Rattle.macro_bounds.proofs.FloorplanLaws.{sides, pitch_up, height_up}
 use Rattle.macro_bounds.proofs.CellLaws.{all_tabulated, few_number}
 
@@ -144,7 +144,7 @@ module _ (plan : Organization) (kit : LayoutKit) (wire : Wire) (f : Floorplan) (
 
   power_rooms : (x y : ℤ) → IsPowerBarAt plan kit wire f x y → AreRooms x y
   power_rooms x y (inl h) = at x y f.logic_x (pos (kit.height Inv) -ℤ wire.width) h.0 h.1 logic_room (below_room wire.width (kit.height Inv) (m.small.heights Inv) m.wires.sizes.width.from m.wires.sizes.width.to)
-  power_rooms x y (inr (inl h)) = at x y (columns_x plan kit f) f.write_y h.0 h.1 columns_room (up_room f.write_y m.near.write_y)
+  power_rooms x y (inr (inl (written, at_x, at_y))) = at x y (columns_x plan kit f) f.write_y at_x at_y columns_room (up_room f.write_y m.near.write_y)
   power_rooms x y (inr (inr (inl h))) = at x y (columns_x plan kit f) (column_channel_y kit f -ℤ wire.width) h.0 h.1 columns_room channel_room
   power_rooms x y (inr (inr (inr (inl h)))) = at x y (columns_x plan kit f) f.column_y h.0 h.1 columns_room (up_room f.column_y m.near.column_y)
   power_rooms x y (inr (inr (inr (inr (inl (r, lt, odd, at_x, at_y)))))) = at x y f.row_x (row_y kit f r) at_x at_y rows_room (row_room r lt)
@@ -192,7 +192,7 @@ on_metal : (wire : Wire) (t s : Shape) → IsSevenLayerWire wire → t.layer ≡
 on_metal wire t s w a b = subst (λ (l : ℕ). Contains wire.metals l ⊎ Contains wire.cuts l) (sym (a ∙ b)) (metal wire 0 w (omega arith))
 
 pub joiners_are_near : JoinersAreNear
-joiners_are_near plan kit wire f m s t (inl box) moved =
+joiners_are_near plan kit wire f m s t (inl (written, box)) moved =
     let d = drive_few plan kit wire f m in
     let c = sides (columns_of plan) (bit_width kit) 256 m.buildable.columns (m.small.widths Bitcell) in
     record {
@@ -218,24 +218,27 @@ joiners_are_near plan kit wire f m s t (inr box) moved =
 abbrev HasText : Organization → Net → Type 0
 HasText plan net = IsText (net_name plan net)
 
+web_text : (plan : Organization) (w : ℕ) → AllByRecursion (HasText plan) (web_nets w)
+web_text plan zero = tt
+web_text plan (suc w) = (label_text (codes "web0") refl, tt)
+
 port_texts : (plan : Organization) → IsBuildable plan → AllByRecursion (HasText plan) (port_nets plan)
 port_texts plan p =
+    let inputs = inputs_few plan p in
     let words = (bounds plan p).words in
     let masks = (bounds plan p).masks in
     let address = address_few plan p in (
       label_text (codes "clk0") refl,
       (
         label_text (codes "csb0") refl,
-        (
-          label_text (codes "web0") refl,
-          all_joined (HasText plan) (tabulate plan.masks Wmask) (tabulate (addr_bits plan) Addr ++ (tabulate plan.word_size Din ++ tabulate plan.word_size Dout))
-              (all_tabulated (HasText plan) plan.masks Wmask (λ i lt. index_text (codes "wmask0") i refl (few_number i 256 (omega (arith, masks, lt)) (omega arith))))
-              (all_joined (HasText plan) (tabulate (addr_bits plan) Addr) (tabulate plan.word_size Din ++ tabulate plan.word_size Dout)
-              (all_tabulated (HasText plan) (addr_bits plan) Addr (λ i lt. index_text (codes "addr0") i refl (few_number i 256 (omega (arith, address, lt)) (omega arith))))
-              (all_joined (HasText plan) (tabulate plan.word_size Din) (tabulate plan.word_size Dout)
-              (all_tabulated (HasText plan) plan.word_size Din (λ i lt. index_text (codes "din0") i refl (few_number i 256 (omega (arith, words, lt)) (omega arith))))
-              (all_tabulated (HasText plan) plan.word_size Dout (λ i lt. index_text (codes "dout0") i refl (few_number i 256 (omega (arith, words, lt)) (omega arith)))))),
-        ),
+        all_joined (HasText plan) (web_nets plan.write_size) (tabulate plan.masks Wmask ++ (tabulate (addr_bits plan) Addr ++ (tabulate (inputs_of plan) Din ++ tabulate plan.word_size Dout))) (web_text plan plan.write_size)
+            (all_joined (HasText plan) (tabulate plan.masks Wmask) (tabulate (addr_bits plan) Addr ++ (tabulate (inputs_of plan) Din ++ tabulate plan.word_size Dout))
+            (all_tabulated (HasText plan) plan.masks Wmask (λ i lt. index_text (codes "wmask0") i refl (few_number i 256 (omega (arith, masks, lt)) (omega arith))))
+            (all_joined (HasText plan) (tabulate (addr_bits plan) Addr) (tabulate (inputs_of plan) Din ++ tabulate plan.word_size Dout)
+            (all_tabulated (HasText plan) (addr_bits plan) Addr (λ i lt. index_text (codes "addr0") i refl (few_number i 256 (omega (arith, address, lt)) (omega arith))))
+            (all_joined (HasText plan) (tabulate (inputs_of plan) Din) (tabulate plan.word_size Dout)
+            (all_tabulated (HasText plan) (inputs_of plan) Din (λ i lt. index_text (codes "din0") i refl (few_number i 256 (omega (arith, inputs, lt)) (omega arith))))
+            (all_tabulated (HasText plan) plan.word_size Dout (λ i lt. index_text (codes "dout0") i refl (few_number i 256 (omega (arith, words, lt)) (omega arith))))))),
       ),
     )
 

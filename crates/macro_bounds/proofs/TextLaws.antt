@@ -113,6 +113,15 @@ name_text n letters text few e =
     let long = length-append n letters in
     part_text 40 (n ++ letters) (omega arith) (omega (arith, some, long)) (joined 24 16 n letters (record { few = few; printable = text.printable }) (label_part letters e))
 
+-- a short name, letters and a number
+pub name_number_text : (n letters : List ℕ) (i : ℕ) → IsText n → length n ≤ 24 → IsLabel letters → i < 10 ^ 7 → IsText (with_number (n ++ letters) i)
+name_number_text n letters i text few e small =
+    let some = text.some in
+    let long = length-append n letters in
+    let longer = length-append (n ++ letters) (decimal i ++ []) in
+    part_text 47 (with_number (n ++ letters) i) (omega arith) (omega (arith, some, long, longer))
+    (joined 40 7 (n ++ letters) (decimal i ++ []) (joined 24 16 n letters (record { few = few; printable = text.printable }) (label_part letters e)) (joined 7 0 (decimal i) [] (decimal_part i small) nothing))
+
 -- the names that a configuration may give
 
 name_byte_printable : (b : ℕ) → is_name_char b ≡ true → IsPrintable b

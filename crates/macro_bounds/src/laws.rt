@@ -1,11 +1,11 @@
-ghost use Rattle.macro_bounds.specs.Library.{SevenCellsHaveLayers, MacroLibrariesAreWritable, MacroLibrariesAreMacros};
+ghost use Rattle.macro_bounds.specs.Library.{MacroCellsHaveLayers, MacroLibrariesAreWritable, MacroLibrariesAreMacros};
 ghost use Rattle.macro_bounds.specs.Near.{RoutedShapesAreNear, TracksAreFew, RailShapesAreNear, NearWiresAreWritable, ListedShapesAreNear, GreaterBoundsHold, NearShapesHaveLayers};
-ghost use Rattle.macro_bounds.specs.Complete.{FlatCellsAreComplete, FlatCellsAreSound};
+ghost use Rattle.macro_bounds.specs.Complete.{FlatCellsAreComplete, FlatCellsAreSound, LeafCellsAreFlat};
 ghost use Rattle.macro_bounds.specs.Counts.{LogicCellsAreFew, ChannelNetsAreFew};
 ghost use Rattle.macro_bounds.specs.Floorplans.{FloorplansAreNear};
 ghost use Rattle.macro_bounds.specs.Supplies.{SupplyWiresAreNear, JoinersAreNear, LabelsAreWritable, LabelsHaveLayers};
 ghost use Rattle.macro_bounds.specs.Writable.{OutputNamesAreShort, MacroCellsAreWritable};
-ghost use Rattle.macro_bounds.specs.Differ.{SevenNamesDiffer, MadeNamesDiffer};
+ghost use Rattle.macro_bounds.specs.Differ.{MacroNamesDiffer, MadeNamesDiffer};
 
 /// A law for proofs: the shapes of a routed channel near the origin lie on the wires' layers, near the origin.
 pub fn routed_shapes_are_near()
@@ -39,8 +39,8 @@ pub fn macro_cells_are_writable()
 
 /// A law for proofs: the names of a macro's cells differ, and so do those of all structures where theirs are free among the
 /// adopted ones.
-pub fn seven_names_differ()
-    ensures names { SevenNamesDiffer }
+pub fn macro_names_differ()
+    ensures names { MacroNamesDiffer }
     ensures made { MadeNamesDiffer }
 {}
 
@@ -54,10 +54,12 @@ pub fn floorplans_are_near()
     ensures { FloorplansAreNear }
 {}
 
-/// A law for proofs: a cell that has flat lists is complete, and its chains have at most 32 references.
+/// A law for proofs: a cell that has flat lists is complete, and its chains have at most 32 references; and the leaf cells of a
+/// macro have flat lists.
 pub fn kit_leaves_are_complete()
     ensures complete { FlatCellsAreComplete }
     ensures sound { FlatCellsAreSound }
+    ensures leaves { LeafCellsAreFlat }
 {}
 
 /// A law for proofs: the wires of vdd and gnd, and the joiners of a bank, lie on the wires' layers, near the origin.
@@ -88,7 +90,7 @@ pub fn output_names_are_short()
 /// A law for proofs: a macro's library over structures with other names can be written, and is the macro's where the leaf
 /// cells are complete; its cells are on layers that are there.
 pub fn macro_libraries_are_writable()
-    ensures layers { SevenCellsHaveLayers }
+    ensures layers { MacroCellsHaveLayers }
     ensures writable { MacroLibrariesAreWritable }
     ensures macros { MacroLibrariesAreMacros }
 {}

@@ -2,13 +2,13 @@
 use Rattle.std.proofs.Common.{◌≡◌, ℕ, zero, suc, ◌+◌, ◌*◌, ◌≤◌, List, [], ◌∷◌, ◌++◌, length, map, cond, refl, sym, ap, subst, ◌∙◌, arith}
 use Rattle.std.specs.List.{flat_map, AllByRecursion}
 use Rattle.std.proofs.lemmas.List.{length-map, length-append}
-use Rattle.sram_netlist.specs.Organization.{Organization, power_of_two, bank_rows, columns_of, banks_of, bank_bit, addr_bits, IsGroupSize, IsBuildable}
+use Rattle.sram_netlist.specs.Organization.{Organization, power_of_two, bank_rows, columns_of, banks_of, bank_bit, addr_bits, IsGroupSize, IsBuildable, inputs_of}
 use Rattle.sram_netlist.specs.Instances.{LogicAt, PrechargeAt, WriteAt, SenseAt, MuxAt, TieAt, BitAt, Dd, Dm}
-use Rattle.sram_netlist.specs.Netlist.{enable_count}
+use Rattle.sram_netlist.specs.Netlist.{enable_count, enables_of}
 use Rattle.sram_netlist.specs.InstanceList.{numbers_from, tabulate, tabulate_lists, row_leaves, column_cells, data_leaves, bank_leaves, fixed_cells, address_cells, line_gates, gates, groups_gates, choice_gates, bank_cells, banks_cells, enable_gates, enable_cells, logic_cells, leaf_instances}
 use Rattle.std.proofs.lemmas.Bool.{le-leb}
 use Rattle.std.proofs.lemmas.Nat.{mul-le}
-use Rattle.sram_netlist.proofs.Bounds.{size_small, bounds}
+use Rattle.sram_netlist.proofs.Bounds.{size_small, bounds, written_most}
 use Rattle.sram_rows.proofs.Counts.{each_long, leaves_few_all}
 use Rattle.sram_plan.specs.PlanNumbers.{used_groups}
 use Rattle.macro_build.specs.Counts.{line_gate_count, groups_count, enable_cell_count}
@@ -68,36 +68,37 @@ banks_long plan (suc n) =
 bank_enables_long : (k b : ℕ) → length (tabulate_lists k (enable_gates b)) ≡ 2 * k
 bank_enables_long k b = let e = lists_long k (enable_gates b) 2 (λ m. refl) in omega (arith, e)
 
-enables_long : (n k : ℕ) → length (enable_cells n k) ≡ enable_cell_count n k
-enables_long zero zero = refl
-enables_long zero (suc k) = let e = lists_long 1 (λ b. tabulate_lists (suc k) (enable_gates b)) (2 * suc k) (λ b. bank_enables_long (suc k) b) in omega (arith, e)
-enables_long (suc n) k = lists_long (power_of_two (suc n)) (λ b. tabulate_lists (enable_count k) (enable_gates b)) (2 * enable_count k) (λ b. bank_enables_long (enable_count k) b)
+enables_long : (n k enables : ℕ) → length (enable_cells n k enables) ≡ enable_cell_count n k enables
+enables_long zero zero enables = refl
+enables_long zero (suc k) enables = let e = lists_long 1 (λ b. tabulate_lists enables (enable_gates b)) (2 * enables) (λ b. bank_enables_long enables b) in omega (arith, e)
+enables_long (suc n) k enables = lists_long (power_of_two (suc n)) (λ b. tabulate_lists enables (enable_gates b)) (2 * enables) (λ b. bank_enables_long enables b)
 
 -- the cells of the logic row
 pub logic_long : (plan : Organization) (gs : List ℕ) → plan.groups ≡ used_groups gs
-    → length (logic_cells plan) ≡ 14 + 2 * addr_bits plan + line_gate_count plan.col_bits + groups_count gs + plan.word_size + plan.masks + 3 * line_gate_count plan.bank_bits + enable_cell_count plan.bank_bits plan.masks
+    → length (logic_cells plan) ≡ length (fixed_cells plan.write_size) + 2 * addr_bits plan + line_gate_count plan.col_bits + groups_count gs + inputs_of plan + plan.masks + 3 * line_gate_count plan.bank_bits
+    + enable_cell_count plan.bank_bits plan.masks (enables_of plan)
 logic_long plan gs same =
-    let enables = enable_cells plan.bank_bits plan.masks in
+    let enables = enable_cells plan.bank_bits plan.masks (enables_of plan) in
     let banks = banks_cells plan plan.bank_bits ++ enables in
     let masks = tabulate plan.masks Dm ++ banks in
-    let words = tabulate plan.word_size Dd ++ masks in
+    let words = tabulate (inputs_of plan) Dd ++ masks in
     let groups = groups_gates plan.groups plan.col_bits ++ words in
     let choices = choice_gates plan.col_bits ++ groups in
     let address = tabulate_lists (addr_bits plan) address_cells in
-    let l1 = length-append fixed_cells (address ++ choices) in
+    let l1 = length-append (fixed_cells plan.write_size) (address ++ choices) in
     let l2 = length-append address choices in
     let l3 = length-append (choice_gates plan.col_bits) groups in
     let l4 = length-append (groups_gates plan.groups plan.col_bits) words in
-    let l5 = length-append (tabulate plan.word_size Dd) masks in
+    let l5 = length-append (tabulate (inputs_of plan) Dd) masks in
     let l6 = length-append (tabulate plan.masks Dm) banks in
     let l7 = length-append (banks_cells plan plan.bank_bits) enables in
     let a = lists_long (addr_bits plan) address_cells 2 (λ i. refl) in
     let c = choice_long plan.col_bits in
     let g : length (groups_gates plan.groups plan.col_bits) ≡ groups_count gs = ap (λ (bs : List ℕ). length (groups_gates bs plan.col_bits)) same ∙ groups_long gs plan.col_bits in
-    let d = each_long plan.word_size Dd in
+    let d = each_long (inputs_of plan) Dd in
     let m = each_long plan.masks Dm in
     let b = banks_long plan plan.bank_bits in
-    let e = enables_long plan.bank_bits plan.masks in
+    let e = enables_long plan.bank_bits plan.masks (enables_of plan) in
     omega (arith, l1, l2, l3, l4, l5, l6, l7, a, c, g, d, m, b, e)
 
 links_long : (m b n : ℕ) → length (column_cells m b n) ≡ n
@@ -108,16 +109,16 @@ row_long : (plan : Organization) (b r : ℕ) → length (row_leaves plan b r) �
 row_long plan b r = let e = each_long (columns_of plan) (BitAt b r) in omega (arith, e)
 
 -- the leaf instances of a bank
-pub bank_long : (plan : Organization) (b : ℕ) → length (bank_leaves plan b) ≡ bank_rows plan * (columns_of plan + 2) + 2 * (columns_of plan + plan.word_size)
+pub bank_long : (plan : Organization) (b : ℕ) → length (bank_leaves plan b) ≡ bank_rows plan * (columns_of plan + 2) + 2 * columns_of plan + (inputs_of plan + plan.word_size)
 bank_long plan b =
     let r = lists_long (bank_rows plan) (row_leaves plan b) (columns_of plan + 2) (λ r. row_long plan b r) in
     let c = each_long (columns_of plan) (PrechargeAt b) in
-    let w = each_long plan.word_size (WriteAt b) in
+    let w = each_long (inputs_of plan) (WriteAt b) in
     let s = each_long plan.word_size (SenseAt b) in
     let l = links_long plan.col_bits b (columns_of plan) in
     let l1 = length-append (tabulate_lists (bank_rows plan) (row_leaves plan b)) (tabulate (columns_of plan) (PrechargeAt b) ++ data_leaves plan b) in
     let l2 = length-append (tabulate (columns_of plan) (PrechargeAt b)) (data_leaves plan b) in
-    let l3 = length-append (tabulate plan.word_size (WriteAt b)) (tabulate plan.word_size (SenseAt b) ++ column_cells plan.col_bits b (columns_of plan)) in
+    let l3 = length-append (tabulate (inputs_of plan) (WriteAt b)) (tabulate plan.word_size (SenseAt b) ++ column_cells plan.col_bits b (columns_of plan)) in
     let l4 = length-append (tabulate plan.word_size (SenseAt b)) (column_cells plan.col_bits b (columns_of plan)) in
     omega (arith, r, c, w, s, l, l1, l2, l3, l4)
 
@@ -137,31 +138,43 @@ pub record AreCounted (groups : List ℕ) (count : ℕ) (rest : List ℕ) : Type
 
 -- What the code adds up
 
-pub logic_total : (plan : Organization) (gs : List ℕ) (address choices groups words masks banks enables : ℕ) → plan.groups ≡ used_groups gs
-    → address ≡ addr_bits plan → choices ≡ line_gate_count plan.col_bits → groups ≡ groups_count gs → words ≡ plan.word_size → masks ≡ plan.masks
-    → banks ≡ line_gate_count plan.bank_bits → enables ≡ enable_cell_count plan.bank_bits plan.masks
-    → 14 + 2 * address + (choices + groups) + (words + masks) + 3 * banks + enables ≡ length (logic_cells plan)
-logic_total plan gs address choices groups words masks banks enables same a c g w m b e =
-    let x : 14 + 2 * address + (choices + groups) + (words + masks) + 3 * banks + enables
-    ≡ 14 + 2 * addr_bits plan + line_gate_count plan.col_bits + groups_count gs + plan.word_size + plan.masks + 3 * line_gate_count plan.bank_bits + enable_cell_count plan.bank_bits plan.masks
-    = omega (arith, a, c, g, w, m, b, e) in
+pub logic_total : (plan : Organization) (gs : List ℕ) (fixed address choices groups words masks banks enables : ℕ) → plan.groups ≡ used_groups gs → fixed ≡ length (fixed_cells plan.write_size)
+    → address ≡ addr_bits plan → choices ≡ line_gate_count plan.col_bits → groups ≡ groups_count gs → words ≡ inputs_of plan → masks ≡ plan.masks
+    → banks ≡ line_gate_count plan.bank_bits → enables ≡ enable_cell_count plan.bank_bits plan.masks (enables_of plan)
+    → fixed + 2 * address + (choices + groups) + (words + masks) + 3 * banks + enables ≡ length (logic_cells plan)
+logic_total plan gs fixed address choices groups words masks banks enables same f a c g w m b e =
+    let x : fixed + 2 * address + (choices + groups) + (words + masks) + 3 * banks + enables
+    ≡ length (fixed_cells plan.write_size) + 2 * addr_bits plan + line_gate_count plan.col_bits + groups_count gs + inputs_of plan + plan.masks + 3 * line_gate_count plan.bank_bits
+    + enable_cell_count plan.bank_bits plan.masks (enables_of plan)
+    = omega (arith, f, a, c, g, w, m, b, e) in
     x ∙ sym (logic_long plan gs same)
 
-pub bank_total : (plan : Organization) (rows columns words : ℕ) → rows ≡ bank_rows plan → columns ≡ columns_of plan → words ≡ plan.word_size
-    → (b : ℕ) → rows * (columns + 2) + 2 * (columns + words) ≡ length (bank_leaves plan b)
-bank_total plan rows columns words r c w b =
-    ap (λ (n : ℕ). n * (columns + 2) + 2 * (columns + words)) r ∙ (ap (λ (n : ℕ). bank_rows plan * (n + 2) + 2 * (n + words)) c
-    ∙ (ap (λ (n : ℕ). bank_rows plan * (columns_of plan + 2) + 2 * (columns_of plan + n)) w ∙ sym (bank_long plan b)))
+-- what the code has of a bank
+pub record AreBankNumbers (plan : Organization) (rows columns inputs words : ℕ) : Type 0 where
+  pub rows_are : rows ≡ bank_rows plan
+  pub columns_are : columns ≡ columns_of plan
+  pub inputs_are : inputs ≡ inputs_of plan
+  pub words_are : words ≡ plan.word_size
 
-pub bank_small : (plan : Organization) (rows columns words : ℕ) → IsBuildable plan → rows ≡ bank_rows plan → columns ≡ columns_of plan → words ≡ plan.word_size
-    → rows * (columns + 2) + 2 * (columns + words) ≤ 67072
-bank_small plan rows columns words p r c w =
+pub bank_total : (plan : Organization) (rows columns inputs words : ℕ) → AreBankNumbers plan rows columns inputs words
+    → (b : ℕ) → rows * (columns + 2) + 2 * columns + (inputs + words) ≡ length (bank_leaves plan b)
+bank_total plan rows columns inputs words are b =
+    (λ i. are.rows_are i * (are.columns_are i + 2) + 2 * are.columns_are i + (are.inputs_are i + are.words_are i)) ∙ sym (bank_long plan b)
+
+pub bank_small : (plan : Organization) (rows columns inputs words : ℕ) → IsBuildable plan → AreBankNumbers plan rows columns inputs words
+    → rows * (columns + 2) + 2 * columns + (inputs + words) ≤ 67072
+bank_small plan rows columns inputs words p are =
     let bd = bounds plan p in
+    let r = are.rows_are in
+    let c = are.columns_are in
+    let n = are.inputs_are in
+    let w = are.words_are in
     let few_rows = bd.rows in
     let few_columns = bd.columns in
     let few_words = bd.words in
+    let few_inputs = written_most plan.write_size plan.word_size in
     let product = mul-le rows (columns + 2) 256 258 (omega (arith, few_rows, r)) (omega (arith, few_columns, c)) in
-    omega (arith, product, few_columns, few_words, c, w)
+    omega (arith, product, few_columns, few_words, few_inputs, c, n, w)
 
 pub leaves_total : (plan : Organization) (logic banks bank : ℕ) → logic ≡ length (logic_cells plan) → banks ≡ banks_of plan → bank ≡ length (bank_leaves plan 0)
     → logic + banks * bank ≡ length (leaf_instances plan)
@@ -173,9 +186,10 @@ pub leaves_small : (plan : Organization) (logic banks bank : ℕ) → IsBuildabl
     → logic + banks * bank ≤ 300000
 leaves_small plan logic banks bank p l n b = subst (λ (k : ℕ). k ≤ 300000) (sym (leaves_total plan logic banks bank l n b)) (leaves_few_all plan p)
 
-pub enables_small : (plan : Organization) (banks enables : ℕ) → IsBuildable plan → banks ≡ banks_of plan → enables ≡ enable_count plan.masks → banks * (2 * enables) ≤ 2048
+pub enables_small : (plan : Organization) (banks enables : ℕ) → IsBuildable plan → banks ≡ banks_of plan → enables ≡ enables_of plan → banks * (2 * enables) ≤ 2048
 enables_small plan banks enables p b e =
     let bd = bounds plan p in
     let few_banks = bd.banks in
     let few = bd.enables in
-    mul-le banks (2 * enables) 4 512 (omega (arith, b, few_banks)) (omega (arith, e, few))
+    let most = written_most plan.write_size (enable_count plan.masks) in
+    mul-le banks (2 * enables) 4 512 (omega (arith, b, few_banks)) (omega (arith, e, few, most))

@@ -1,4 +1,6 @@
-pub mod NearLaws
-pub mod NetlistLaws
-pub mod CountLaws
-pub mod CheckLaws
+mod NearLaws
+mod NetlistLaws
+mod LayoutLaws
+mod AnswerLaws
+mod CountLaws
+mod CheckLaws

@@ -11,6 +11,7 @@ use Rattle.net_extractor.specs.declared.difference.NetDiff.{NetDiff}
 use Rattle.net_extractor.specs.Difference.{AreAlike}
 use Rattle.net_extractor.specs.FirstDifference.{IsFirstDifference}
 use Rattle.leaf_tables.specs.declared.kit.Kit.{Kit}
+use Rattle.port_lists.specs.Held.{Held}
 use Rattle.sram_macro.specs.declared.assembly.Macro.{Macro}
 use Rattle.macro_build.specs.Built.{AreNetsAndRows}
 
@@ -20,19 +21,19 @@ IsFirstBroken rules shapes found =
     MatchOption found (IsReport rules shapes []) (λ violation. (more : List Violation) × IsReport rules shapes (violation ∷ more))
 
 -- the labels' nets and the rows of the netlist are alike
-pub record AreAllAlike (kit : Kit) (name : List ℕ) (m : Macro) (lists : FlatLists) : Type 0 where
+pub record AreAllAlike (kit : Kit) (held : Held) (name : List ℕ) (m : Macro) (lists : FlatLists) : Type 0 where
   pub labels : List NetLabel
   pub rows : List RowPin
-  pub are : AreNetsAndRows kit name m lists labels rows
+  pub are : AreNetsAndRows kit held name m lists labels rows
   pub alike : AreAlike labels rows
 
 -- they aren't, and this is the first difference
-pub record IsDiffering (kit : Kit) (name : List ℕ) (m : Macro) (lists : FlatLists) (difference : NetDiff) : Type 0 where
+pub record IsDiffering (kit : Kit) (held : Held) (name : List ℕ) (m : Macro) (lists : FlatLists) (difference : NetDiff) : Type 0 where
   pub labels : List NetLabel
   pub rows : List RowPin
-  pub are : AreNetsAndRows kit name m lists labels rows
+  pub are : AreNetsAndRows kit held name m lists labels rows
   pub differ : IsFirstDifference labels rows difference
 
 -- the first difference of the labels' nets from the rows of the netlist; none where they are alike
-abbrev pub IsFirstDiffering : Kit → List ℕ → Macro → FlatLists → Option NetDiff → Type 0
-IsFirstDiffering kit name m lists found = MatchOption found (AreAllAlike kit name m lists) (IsDiffering kit name m lists)
+abbrev pub IsFirstDiffering : Kit → Held → List ℕ → Macro → FlatLists → Option NetDiff → Type 0
+IsFirstDiffering kit held name m lists found = MatchOption found (AreAllAlike kit held name m lists) (IsDiffering kit held name m lists)

@@ -1,7 +1,6 @@
 -- How many leaf instances a memory has, by its numbers.
 use Rattle.std.specs.Prelude.{ℕ, zero, suc, ◌+◌, ◌*◌, List, [], ◌∷◌}
 use Rattle.sram_netlist.specs.Organization.{power_of_two}
-use Rattle.sram_netlist.specs.Netlist.{enable_count}
 
 -- two gates for each line that so many bits choose, and none where there is nothing to choose
 abbrev pub line_gate_count : ℕ → ℕ
@@ -13,8 +12,8 @@ abbrev pub groups_count : List ℕ → ℕ
 groups_count [] = 0
 groups_count (bits ∷ groups) = line_gate_count bits + groups_count groups
 
--- two gates for each write enable, where there are banks or masks
-abbrev pub enable_cell_count : ℕ → ℕ → ℕ
-enable_cell_count zero zero = 0
-enable_cell_count zero (suc masks) = 2 * suc masks
-enable_cell_count (suc bits) masks = power_of_two (suc bits) * (2 * enable_count masks)
+-- two gates for each write enable of each bank, where there are banks or masks
+abbrev pub enable_cell_count : ℕ → ℕ → ℕ → ℕ
+enable_cell_count zero zero enables = 0
+enable_cell_count zero (suc masks) enables = 2 * enables
+enable_cell_count (suc bits) masks enables = power_of_two (suc bits) * (2 * enables)

@@ -1,11 +1,17 @@
--- That a netlist is a memory.
-use Rattle.std.specs.Prelude.{◌≡◌, ℕ, ◌<◌, List, map, Bool}
+-- That a netlist is a memory, which is written and read or holds fixed words.
+use Rattle.std.specs.Prelude.{◌≡◌, ℕ, ◌<◌, ◌≤◌, List, map, Bool}
 use Rattle.sram_netlist.specs.Nets.{Net}
-use Rattle.sram_netlist.specs.Organization.{Organization}
+use Rattle.sram_netlist.specs.Organization.{Organization, IsWritten}
 use Rattle.memory_laws.specs.NetlistCircuit.{circuit}
 use Rattle.memory_laws.specs.Phase.{State}
 use Rattle.memory_laws.specs.Laws.{EachObeys}
 use Rattle.memory_laws.specs.Run.{MemoryCommand, num_words, IsStartState, IsCommandRun, AreInRange}
+use Rattle.rom_laws.specs.Laws.{HoldsWords}
+use Rattle.rom_data.specs.Words.{AreRomWords}
+use Rattle.port_lists.specs.Held.{Held}
+use Rattle.port_lists.specs.Held.Held.{Stored, Fixed}
+use Rattle.sram_plan.specs.declared.numbers.Plan.{Plan}
+use Rattle.sram_plan.specs.PlanNumbers.{organization}
 use Rattle.memory_laws.specs.NumberArray.{NumberCommand, command_bits, HaveAddresses, run_answers, array_answers, numbers_after_all, word_at}
 
 -- from each state each list of commands has a run
@@ -29,3 +35,21 @@ pub record IsMemory (plan : Organization) : Type 0 where
   pub runs : HasRuns plan
   pub answers : AnswersAsArray plan
   pub obeys : ObeysCommands plan
+
+-- The reference netlist answers as it has to: as an array of words, or each read with one of these words.
+abbrev pub AnswersFrom : Organization → Held → Type 0
+AnswersFrom plan Stored = IsMemory plan
+AnswersFrom plan (Fixed words) = HoldsWords plan words
+
+-- nothing is written, in one bank, and there is a word for each address, of 64 bits at most
+pub record AreFixedWords (plan : Plan) (words : List ℕ) : Type 0 where
+  pub read_only : plan.write_size ≡ 0
+  pub whole : plan.masks ≡ 0
+  pub one_bank : plan.bank_bits ≡ 0
+  pub few_bits : plan.word_size ≤ 64
+  pub are : AreRomWords plan words
+
+-- bits that are stored are written, and fixed words are those of a read-only plan
+abbrev pub FitsPlan : Plan → Held → Type 0
+FitsPlan plan Stored = IsWritten (organization plan)
+FitsPlan plan (Fixed words) = AreFixedWords plan words

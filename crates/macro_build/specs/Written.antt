@@ -23,20 +23,23 @@ use Rattle.sram_plan.specs.declared.view.Abstract.{Abstract}
 use Rattle.tech_rules.specs.declared.tech.Wire.{Wire}
 use Rattle.macro_views.specs.Boxes.{IsCoveredOn}
 use Rattle.port_lists.specs.Cells.{cell_in}
+use Rattle.port_lists.specs.Held.{Held}
 use Rattle.leaf_tables.specs.declared.kit.Kit.{Kit}
+use Rattle.sram_macro.specs.Leaves.{leaf_names}
+use Rattle.sram_macro.specs.Macro.{macro_bits}
 use Rattle.sram_macro.specs.Stated.{IsStatedLayout}
 
 -- the subcircuits of the kit, and behind them the macro's with names in lower case
-abbrev pub read_subckts : Kit → Plan → List ℕ → List Subckt
-read_subckts kit plan name = kit.deck.subckts ++ map lowered_subckt (written_subckts (organization plan) (cell_in kit.tech.roles) name)
+abbrev pub read_subckts : Kit → Plan → Held → List ℕ → List Subckt
+read_subckts kit plan held name = kit.deck.subckts ++ map lowered_subckt (written_subckts (organization plan) (cell_in kit.tech.roles) (macro_bits kit plan held) name)
 
 -- the text is read as those subcircuits, all of it
-abbrev pub IsReadInLowerCase : Kit → Plan → List ℕ → List ℕ → Type 0
-IsReadInLowerCase kit plan name text = deck text ≡ Ok (record { subckts = read_subckts kit plan name; used = length text })
+abbrev pub IsReadInLowerCase : Kit → Plan → Held → List ℕ → List ℕ → Type 0
+IsReadInLowerCase kit plan held name text = deck text ≡ Ok (record { subckts = read_subckts kit plan held name; used = length text })
 
 -- whatever the text is read as has flat rows for the macro, and they are those of the reference netlist
-abbrev pub IsReferenceNetlist : Kit → Plan → List ℕ → List ℕ → Type 0
-IsReferenceNetlist kit plan name text = (d : Deck) → deck text ≡ Ok d → DeckIsNetlist (organization plan) (cell_in kit.tech.roles) d.subckts name
+abbrev pub IsReferenceNetlist : Kit → Plan → Held → List ℕ → List ℕ → Type 0
+IsReferenceNetlist kit plan held name text = (d : Deck) → deck text ≡ Ok d → DeckIsNetlist (organization plan) (cell_in kit.tech.roles) (macro_bits kit plan held) (leaf_names kit held) d.subckts name
 
 -- each of the shapes on a metal lies in the boxes of the view's LEF on this metal
 abbrev pub AreCoveredBy : Kit → Abstract → List Shape → Type 0
@@ -47,18 +50,18 @@ abbrev pub SpellCoveredLayout : Kit → List ℕ → Abstract → List ℕ → T
 SpellCoveredLayout kit name view bytes = (lib : Library) (lists : FlatLists) → Spells bytes lib → AreFlatLists kit.tech.layers lib.structs name lists → AreCoveredBy kit view lists.shapes
 
 -- The structure of this name is, flat, the stated layout; that breaks no rule, and its labels are joined exactly as the reference netlist says.
-pub record IsSoundLayout (kit : Kit) (plan : Plan) (name : List ℕ) (structs : List Structure) : Type 0 where
+pub record IsSoundLayout (kit : Kit) (plan : Plan) (held : Held) (name : List ℕ) (structs : List Structure) : Type 0 where
   pub lists : FlatLists
   pub flat : AreFlatLists kit.tech.layers structs name lists
-  pub stated : IsStatedLayout kit (organization plan) lists
+  pub stated : IsStatedLayout kit (organization plan) (macro_bits kit plan held) lists
   pub clean : IsReport kit.tech.rules lists.shapes []
   pub labels : List NetLabel
   pub nets : AreNets kit.tech lists.shapes lists.labels labels
   pub rows : List RowPin
-  pub netlist : RowsEqual rows (netlist_pins (organization plan) (cell_in kit.tech.roles))
+  pub netlist : RowsEqual rows (netlist_pins (organization plan) (cell_in kit.tech.roles) (macro_bits kit plan held))
   pub alike : AreAlike labels rows
 
 -- the bytes spell a library, and whichever they spell is so
-pub record SpellSoundLayout (kit : Kit) (plan : Plan) (name : List ℕ) (bytes : List ℕ) : Type 0 where
+pub record SpellSoundLayout (kit : Kit) (plan : Plan) (held : Held) (name : List ℕ) (bytes : List ℕ) : Type 0 where
   pub some : (lib : Library) × Spells bytes lib
-  pub each : (lib : Library) → Spells bytes lib → IsSoundLayout kit plan name lib.structs
+  pub each : (lib : Library) → Spells bytes lib → IsSoundLayout kit plan held name lib.structs

@@ -1,26 +1,30 @@
 ghost use Rattle.std.specs.Prelude.{◌<◌, ◌≤◌, IfOk, IfErr, IsTrue};
 ghost use Rattle.leaf_tables.specs.Kits.{IsKit};
+ghost use Rattle.port_lists.specs.Held.{held_of};
 ghost use Rattle.sram_netlist.specs.Numbers.{ArePlanNumbers};
 ghost use Rattle.sram_plan.specs.Config.{is_output_name};
 ghost use Rattle.sram_plan.specs.PlanNumbers.{numbers_of};
+ghost use Rattle.sram_macro.specs.Leaves.{HasCellsFor};
 ghost use Rattle.macro_build.specs.Built.{IsBuilt, IsBuildFault};
+ghost use Rattle.macro_build.specs.Memory.{FitsPlan};
 
 use crate::built::{BuildFault, Built};
 use crate::sound::check_sound;
 use crate::views::views;
 use leaf_tables::Kit;
 use or_geom::Name;
-use sram_macro::assemble;
+use port_lists::Contents;
+use sram_macro::assemble_with;
 use sram_plan::Plan;
 use std::alloc::Global;
 use std::thread::Threads;
 use tile_checker::Gate;
 
-/// Builds the macro of this name from leaf cells, checks it by as many workers, and writes its views. What is refused is
-/// refused in this order: a part that can't be built; a macro without flat layout; a broken rule; labels that are joined
-/// otherwise than the netlist says. `Memory` may come in place of each. What the views say to whoever reads them is part of
-/// `IsBuilt`: the netlist has the rows of the reference netlist, which answers as an array of words, and the layout is, flat,
-/// the stated one, breaks no rule and is joined as that netlist says.
+/// Builds the macro of this name from leaf cells, checks it by as many workers, and writes its views. Its bits are stored, or
+/// those of fixed words. What is refused is refused in this order: a part that can't be built; a macro without flat layout; a
+/// broken rule; labels that are joined otherwise than the netlist says. `Memory` may come in place of each. What the views say to
+/// whoever reads them is part of `IsBuilt`: the netlist has the rows of the reference netlist, which answers as an array of words
+/// or with the fixed ones, and the layout is, flat, the stated one, breaks no rule and is joined as that netlist says.
 pub fn build<R: Threads + Sync, G: Gate + Sync>(
     rt: &R,
     alloc: Global,
@@ -28,17 +32,20 @@ pub fn build<R: Threads + Sync, G: Gate + Sync>(
     kit: &Kit,
     plan: &Plan,
     name: &Name,
+    contents: Contents<'_>,
     workers: u8,
 ) -> Result<Built, BuildFault>
     requires kit { IsKit kit.now }
     requires plan { ArePlanNumbers (numbers_of plan.now) }
     requires name { IsTrue (is_output_name name.now) }
+    requires held { FitsPlan plan.now (held_of contents) }
+    requires cells { HasCellsFor kit.now (held_of contents) }
     requires some { 0 < workers }
     requires at_most { workers ≤ 64 }
-    ensures built { IfOk result (IsBuilt kit.now plan.now name.now) }
-    ensures fault { IfErr result (IsBuildFault kit.now plan.now name.now) }
+    ensures built { IfOk result (IsBuilt kit.now plan.now (held_of contents.entry) name.now) }
+    ensures fault { IfErr result (IsBuildFault kit.now plan.now (held_of contents.entry) name.now) }
 {
-    let made = assemble(alloc, kit, plan, name)?;
-    check_sound(rt, alloc, gate, kit, plan, name, &made, workers)?;
-    Ok(views(alloc, kit, plan, name, &made)?)
+    let made = assemble_with(alloc, kit, plan, name, contents)?;
+    check_sound(rt, alloc, gate, kit, plan, name, contents, &made, workers)?;
+    Ok(views(alloc, kit, plan, name, contents, &made)?)
 }

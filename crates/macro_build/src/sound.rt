@@ -5,6 +5,7 @@ ghost use Rattle.or_geom.specs.ShapeOrder.{shape_order};
 ghost use Rattle.cell_hierarchy.specs.FlatLists.{AreFlatLists};
 ghost use Rattle.cell_hierarchy.specs.Plain.{lists_of};
 ghost use Rattle.leaf_tables.specs.Kits.{IsKit};
+ghost use Rattle.port_lists.specs.Held.{held_of};
 ghost use Rattle.sram_netlist.specs.Numbers.{ArePlanNumbers};
 ghost use Rattle.sram_plan.specs.PlanNumbers.{numbers_of};
 ghost use Rattle.sram_macro.specs.Macro.{IsMacro};
@@ -18,6 +19,7 @@ use cell_hierarchy::{Flat, flatten};
 use leaf_tables::Kit;
 use net_extractor::{NetDiff, compare, extract};
 use or_geom::{Memory, Name};
+use port_lists::Contents;
 use shape_bins::{Bins, index};
 use sram_macro::Macro;
 use sram_plan::Plan;
@@ -32,16 +34,17 @@ fn flat_of<'b>(
     kit: &Kit,
     _plan: &Plan,
     name: &Name,
+    _contents: Contents<'_>,
     made: &Macro,
 ) -> Result<Flat<'b>, BuildFault>
     requires kit { IsKit kit.now }
-    requires made { IsMacro kit.now _plan.now name.now made.now }
+    requires made { IsMacro kit.now _plan.now (held_of _contents) name.now made.now }
     ensures flat { IfOk result (λ flat. AreFlatLists kit.now.tech.layers made.now.lib.structs name.now (lists_of flat)) }
     ensures rises { IfOk result (λ flat. IsStrictlySortedBy shape_order flat.shapes.now) }
     ensures reach { IfOk result (λ flat. AreReachable flat.shapes.now) }
     ensures few { IfOk result (λ flat. length flat.shapes.now ≤ 16777216) }
     ensures few_labels { IfOk result (λ flat. length flat.labels.now ≤ 2 ^ 22) }
-    ensures fault { IfErr result (IsBuildFault kit.now _plan.now name.now) }
+    ensures fault { IfErr result (IsBuildFault kit.now _plan.now (held_of _contents.entry) name.now) }
 {
     Ok(flatten(alloc, bump, &made.lib, &kit.tech, name)?)
 }
@@ -75,19 +78,20 @@ fn net_difference<'b, R: Threads + Sync>(
     kit: &Kit,
     plan: &Plan,
     name: &Name,
+    contents: Contents<'_>,
     made: &Macro,
     flat: &Flat<'b>,
     bins: &Bins<'b>,
 ) -> Result<Option<NetDiff>, Memory>
     requires plan { ArePlanNumbers (numbers_of plan.now) }
-    requires made { IsMacro kit.now plan.now name.now made.now }
+    requires made { IsMacro kit.now plan.now (held_of contents) name.now made.now }
     requires rises { IsStrictlySortedBy shape_order flat.now.shapes.now }
     requires bins { bins.now ≡ flat.now.shapes.now }
     requires few_labels { length flat.now.labels.now ≤ 2 ^ 22 }
-    ensures { IfOk result (IsFirstDiffering kit.now name.now made.now (lists_of flat.now)) }
+    ensures { IfOk result (IsFirstDiffering kit.now (held_of contents.entry) name.now made.now (lists_of flat.now)) }
 {
     let nets = extract(rt, alloc, &kit.tech, flat, bins)?;
-    let rows = rows_of(alloc, kit, plan, name, made)?;
+    let rows = rows_of(alloc, kit, plan, name, contents, made)?;
     Ok(compare(alloc, &nets, &rows)?)
 }
 
@@ -99,24 +103,27 @@ pub fn check_sound<R: Threads + Sync, G: Gate + Sync>(
     kit: &Kit,
     plan: &Plan,
     name: &Name,
+    contents: Contents<'_>,
     made: &Macro,
     workers: u8,
 ) -> Result<(), BuildFault>
     requires kit { IsKit kit.now }
     requires plan { ArePlanNumbers (numbers_of plan.now) }
-    requires made { IsMacro kit.now plan.now name.now made.now }
+    requires made { IsMacro kit.now plan.now (held_of contents) name.now made.now }
     requires some { 0 < workers }
     requires at_most { workers ≤ 64 }
-    ensures sound { OnOk result (IsSoundMacro kit.now plan.now name.now made.now) }
-    ensures fault { IfErr result (IsBuildFault kit.now plan.now name.now) }
+    ensures sound { OnOk result (IsSoundMacro kit.now plan.now (held_of contents.entry) name.now made.now) }
+    ensures fault { IfErr result (IsBuildFault kit.now plan.now (held_of contents.entry) name.now) }
 {
     let bump = Bump::new(alloc);
-    let flat = flat_of(alloc, &bump, kit, plan, name, made)?;
+    let flat = flat_of(alloc, &bump, kit, plan, name, contents, made)?;
     let bins = index(alloc, &bump, &flat)?;
     if let Some(violation) = broken_rule(rt, alloc, gate, kit, &flat, &bins, workers)? {
         return Err(BuildFault::RuleBroken(violation));
     }
-    if let Some(difference) = net_difference(rt, alloc, kit, plan, name, made, &flat, &bins)? {
+    if let Some(difference) = net_difference(
+        rt, alloc, kit, plan, name, contents, made, &flat, &bins,
+    )? {
         return Err(BuildFault::NetsDiffer(difference));
     }
     Ok(())

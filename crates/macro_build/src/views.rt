@@ -2,12 +2,15 @@ ghost use Rattle.std.specs.Prelude.{◌≡◌, ◌++◌, ◌∷◌, [], take, If
 ghost use Rattle.gds_stream.specs.Canonical.{canonical};
 ghost use Rattle.spice_text.specs.Appended.{appended, with_lf};
 ghost use Rattle.leaf_tables.specs.Kits.{IsKit};
+ghost use Rattle.port_lists.specs.Held.{held_of};
 ghost use Rattle.sram_netlist.specs.Numbers.{ArePlanNumbers};
 ghost use Rattle.sram_plan.specs.Config.{is_output_name};
 ghost use Rattle.sram_plan.specs.PlanNumbers.{numbers_of, organization};
+ghost use Rattle.sram_macro.specs.Leaves.{HasCellsFor, IsHeld};
 ghost use Rattle.sram_macro.specs.Macro.{IsMacro};
 ghost use Rattle.macro_build.specs.Built.{IsBuilt, IsSoundMacro};
-ghost use Rattle.macro_build.specs.Memory.{IsMemory};
+ghost use Rattle.macro_build.specs.Memory.{AnswersFrom, FitsPlan};
+ghost use Rattle.macro_build.specs.Verilog.{verilog_of};
 ghost use Rattle.macro_build.specs.Written.{IsReadInLowerCase, IsReferenceNetlist, SpellCoveredLayout, SpellSoundLayout};
 
 use crate::built::Built;
@@ -17,6 +20,9 @@ use leaf_tables::Kit;
 use macro_views::{lef_text, verilog_text};
 use memory_laws::{runs_answer_numbers, runs_exist, runs_obey};
 use or_geom::{Memory, Name};
+use port_lists::Contents;
+use rom_data::rom_verilog;
+use rom_laws::roms_hold_words;
 use spice_text::write_spice;
 use sram_macro::{Macro, macros_are_stated};
 use sram_plan::Plan;
@@ -66,12 +72,13 @@ fn joined_text(
     kit: &Kit,
     _plan: &Plan,
     _name: &Name,
+    _contents: Contents<'_>,
     made: &Macro,
 ) -> Result<Vec<u8>, Memory>
     requires kit { IsKit kit.now }
     requires plan { ArePlanNumbers (numbers_of _plan.now) }
     requires name { IsTrue (is_output_name _name.now) }
-    requires made { IsMacro kit.now _plan.now _name.now made.now }
+    requires made { IsMacro kit.now _plan.now (held_of _contents) _name.now made.now }
     ensures { IfOk result (λ text. text.items ≡ appended kit.now.deck kit.now.text made.now.deck.subckts) }
 {
     // These calls do nothing when the program runs: their contracts are the laws that the subcircuits can be written.
@@ -88,21 +95,22 @@ fn spice_text(
     kit: &Kit,
     plan: &Plan,
     name: &Name,
+    contents: Contents<'_>,
     made: &Macro,
 ) -> Result<Vec<u8>, Memory>
     requires kit { IsKit kit.now }
     requires plan { ArePlanNumbers (numbers_of plan.now) }
     requires name { IsTrue (is_output_name name.now) }
-    requires made { IsMacro kit.now plan.now name.now made.now }
+    requires made { IsMacro kit.now plan.now (held_of contents) name.now made.now }
     ensures text { IfOk result (λ text. text.items ≡ appended kit.now.deck kit.now.text made.now.deck.subckts) }
-    ensures read { IfOk result (λ text. IsReadInLowerCase kit.now plan.now name.now text.items) }
-    ensures netlist { IfOk result (λ text. IsReferenceNetlist kit.now plan.now name.now text.items) }
+    ensures read { IfOk result (λ text. IsReadInLowerCase kit.now plan.now (held_of contents.entry) name.now text.items) }
+    ensures netlist { IfOk result (λ text. IsReferenceNetlist kit.now plan.now (held_of contents.entry) name.now text.items) }
 {
     // So do these: that the subcircuits are read back, and that they are the reference netlist.
     cells_are_names();
     written_subckts_are_read();
     rows_equal_netlist();
-    Ok(joined_text(alloc, kit, plan, name, made)?)
+    Ok(joined_text(alloc, kit, plan, name, contents, made)?)
 }
 
 /// The layout's bytes.
@@ -111,13 +119,15 @@ fn gds_bytes(
     _kit: &Kit,
     _plan: &Plan,
     _name: &Name,
+    _contents: Contents<'_>,
     made: &Macro,
 ) -> Result<Vec<u8>, Memory>
     requires kit { IsKit _kit.now }
     requires plan { ArePlanNumbers (numbers_of _plan.now) }
-    requires sound { IsSoundMacro _kit.now _plan.now _name.now made.now }
+    requires held { IsHeld _kit.now _plan.now (held_of _contents) }
+    requires sound { IsSoundMacro _kit.now _plan.now (held_of _contents) _name.now made.now }
     ensures bytes { IfOk result (λ bytes. bytes.items ≡ canonical made.now.lib) }
-    ensures layout { IfOk result (λ bytes. SpellSoundLayout _kit.now _plan.now _name.now bytes.items) }
+    ensures layout { IfOk result (λ bytes. SpellSoundLayout _kit.now _plan.now (held_of _contents.entry) _name.now bytes.items) }
     ensures covered { IfOk result (λ bytes. SpellCoveredLayout _kit.now _name.now made.now.view bytes.items) }
 {
     // These calls do nothing when the program runs: their contracts are the laws that what is written is flat as what was
@@ -130,14 +140,33 @@ fn gds_bytes(
     Ok(write_gds(alloc, &made.lib)?)
 }
 
-/// A plan's reference netlist answers as an array of words. It does nothing when the program runs: so says its contract.
-fn netlist_is_memory(_plan: &Plan)
-    requires { ArePlanNumbers (numbers_of _plan.now) }
-    ensures { IsMemory (organization _plan.now) }
+/// The reference netlist answers as it has to. It does nothing when the program runs: so says its contract.
+fn netlist_answers(_plan: &Plan, _contents: Contents<'_>)
+    requires plan { ArePlanNumbers (numbers_of _plan.now) }
+    requires held { FitsPlan _plan.now (held_of _contents) }
+    ensures { AnswersFrom (organization _plan.now) (held_of _contents.entry) }
 {
     runs_exist();
     runs_answer_numbers();
     runs_obey();
+    roms_hold_words();
+}
+
+/// The Verilog module.
+fn verilog_of(
+    alloc: Global,
+    plan: &Plan,
+    name: &Name,
+    contents: Contents<'_>,
+) -> Result<Vec<u8>, Memory>
+    requires plan { ArePlanNumbers (numbers_of plan.now) }
+    requires held { FitsPlan plan.now (held_of contents) }
+    ensures { IfOk result (λ text. text.items ≡ verilog_of plan.now (held_of contents.entry) name.now) }
+{
+    match contents {
+        Contents::Stored => verilog_text(alloc, plan, name),
+        Contents::Fixed(words) => rom_verilog(alloc, plan, name, words),
+    }
 }
 
 /// The views of a sound macro, and what is told of it.
@@ -146,19 +175,22 @@ pub fn views(
     kit: &Kit,
     plan: &Plan,
     name: &Name,
+    contents: Contents<'_>,
     made: &Macro,
 ) -> Result<Built, Memory>
     requires kit { IsKit kit.now }
     requires plan { ArePlanNumbers (numbers_of plan.now) }
     requires name { IsTrue (is_output_name name.now) }
-    requires sound { IsSoundMacro kit.now plan.now name.now made.now }
-    ensures { IfOk result (IsBuilt kit.now plan.now name.now) }
+    requires held { FitsPlan plan.now (held_of contents) }
+    requires cells { HasCellsFor kit.now (held_of contents) }
+    requires sound { IsSoundMacro kit.now plan.now (held_of contents) name.now made.now }
+    ensures { IfOk result (IsBuilt kit.now plan.now (held_of contents.entry) name.now) }
 {
-    netlist_is_memory(plan);
-    let spice = spice_text(alloc, kit, plan, name, made)?;
-    let gds = gds_bytes(alloc, kit, plan, name, made)?;
+    netlist_answers(plan, contents);
+    let spice = spice_text(alloc, kit, plan, name, contents, made)?;
+    let gds = gds_bytes(alloc, kit, plan, name, contents, made)?;
     let lef = lef_text(alloc, &made.view)?;
-    let verilog = verilog_text(alloc, plan, name)?;
+    let verilog = verilog_of(alloc, plan, name, contents)?;
     Ok(Built {
         spice,
         gds,

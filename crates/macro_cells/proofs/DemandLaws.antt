@@ -1,5 +1,5 @@
 -- Which of the shapes of a leaf cell's pins is that of a port on a metal, and where it begins.
-use Rattle.std.proofs.Common.{◌≡◌, inl, ℕ, suc, ◌<◌, Bool, false, cond, not, ◌+◌, List, [], ◌∷◌, length, Option, Some, refl, ap, subst, sym, ◌∙◌, arith}
+use Rattle.std.proofs.Common.{◌≡◌, inl, ℕ, suc, Bool, false, cond, not, ◌+◌, List, [], ◌∷◌, length, Option, Some, refl, ap, subst, sym, ◌∙◌, arith}
 use Rattle.std.specs.Prelude.{slice_get, Contains, IfSome, option_map, option_and_then, ◌==◌, if◌then◌else◌}
 use Rattle.std.specs.List.{find, position_or_len}
 use Rattle.std.specs.Str.{bytes_eq}
@@ -12,6 +12,7 @@ use Rattle.tech_rules.specs.declared.tech.Wire.{Wire}
 use Rattle.tech_rules.specs.Facts.{IsWire}
 use Rattle.channel_router.specs.Apart.{AreSevenLayers}
 use Rattle.cell_roles.specs.declared.role.Role.{Role}
+use Rattle.cell_roles.specs.declared.leaf_role.LeafRole.TheVariants.{Common}
 use Rattle.cell_roles.specs.Roles.{role_ports}
 use Rattle.leaf_shapes.specs.declared.demand.Metal.{Metal}
 use Rattle.leaf_shapes.specs.declared.demand.Metal.TheVariants.{M1, M2, M3, M4}
@@ -45,7 +46,7 @@ pub seven_in_kit : (kit : Kit) (is : IsKit kit) → AreSevenLayers is.wire
 seven_in_kit kit is = seven_layers is.wire kit.tech.layers (wire_there kit is)
 
 -- a shape of a pin begins in its cell
-near_left : (source : LeafSource) (role : Role) (leaf : Leaf) → length source.wire.metals ≡ 4 → IsLeaf source role leaf → (k : ℕ) (pin : LeafPin) → slice_get leaf.pins k ≡ Some pin → IsLeafLength pin.rect.x1
+near_left : (source : LeafSource) (role : Role) (leaf : Leaf) → length source.wire.metals ≡ 4 → IsLeaf source (Common role) leaf → (k : ℕ) (pin : LeafPin) → slice_get leaf.pins k ≡ Some pin → IsLeafLength pin.rect.x1
 near_left source role leaf four is k pin there =
     let sized = is.pins.sized in
     let within = slice_get_within leaf.pins k pin there in

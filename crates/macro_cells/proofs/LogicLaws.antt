@@ -7,9 +7,9 @@ use Rattle.netlist.specs.declared.deck.Instance.{Instance}
 use Rattle.cell_roles.specs.declared.role.Role.{Role}
 use Rattle.cell_builder.specs.declared.cell.PlacedInstance.{PlacedInstance}
 use Rattle.cell_builder.specs.Additions.{instance_at}
-use Rattle.sram_netlist.specs.Organization.{Organization, IsBuildable, IsGroupSize, power_of_two, total_bits, addr_bits, words_per_row, bank_bit}
+use Rattle.sram_netlist.specs.Organization.{Organization, IsBuildable, IsGroupSize, power_of_two, total_bits, addr_bits, words_per_row, bank_bit, written_bits, inputs_of}
 use Rattle.sram_netlist.specs.Instances.{LogicCell, LogicAt, Dd, Dm}
-use Rattle.sram_netlist.specs.Netlist.{logic_role, enable_count}
+use Rattle.sram_netlist.specs.Netlist.{logic_role, enable_count, enables_of}
 use Rattle.sram_netlist.specs.InstanceList.{numbers_from, tabulate, tabulate_lists, fixed_cells, address_cells, line_gates, gates, choice_gates, groups_gates, bank_cells, banks_cells, enable_gates, enable_cells, logic_cells}
 use Rattle.sram_deck.specs.Deck.{logic_cell, logic_instances}
 use Rattle.port_lists.proofs.TabulateLaws.{few_lines, some_lines}
@@ -76,6 +76,10 @@ few_bank_cells plan (suc n) few =
     let all = length-append (gates (bank_bit plan) (suc n)) (tabulate_lists (power_of_two (suc n)) bank_cells) in
     omega (arith, lines, enables, all)
 
+few_written : (write_size n : ℕ) → written_bits write_size n ≤ n
+few_written zero n = omega arith
+few_written (suc write_size) n = omega arith
+
 few_counted : (masks : ℕ) → masks ≤ 256 → enable_count masks ≤ 256
 few_counted zero few = omega arith
 few_counted (suc masks) few = few
@@ -83,11 +87,15 @@ few_counted (suc masks) few = few
 few_enables_of : (count bank : ℕ) → count ≤ 256 → length (tabulate_lists count (enable_gates bank)) ≤ 512
 few_enables_of count bank few = count_all count (enable_gates bank) 2 256 few (λ m. omega arith)
 
-few_enables : (n masks : ℕ) → n ≤ 2 → masks ≤ 256 → length (enable_cells n masks) ≤ 2048
-few_enables zero zero few small = omega arith
-few_enables zero (suc masks) few small = le_trans (count_all 1 (λ (bank : ℕ). tabulate_lists (suc masks) (enable_gates bank)) 512 4 (omega arith) (λ bank. few_enables_of (suc masks) bank small)) (omega arith)
-few_enables (suc n) masks few small =
-    count_all (power_of_two (suc n)) (λ (bank : ℕ). tabulate_lists (enable_count masks) (enable_gates bank)) 512 4 (few_banks (suc n) few) (λ bank. few_enables_of (enable_count masks) bank (few_counted masks small))
+few_enables : (n masks enables : ℕ) → n ≤ 2 → enables ≤ 256 → length (enable_cells n masks enables) ≤ 2048
+few_enables zero zero enables few small = omega arith
+few_enables zero (suc masks) enables few small = le_trans (count_all 1 (λ (bank : ℕ). tabulate_lists enables (enable_gates bank)) 512 4 (omega arith) (λ bank. few_enables_of enables bank small)) (omega arith)
+few_enables (suc n) masks enables few small =
+    count_all (power_of_two (suc n)) (λ (bank : ℕ). tabulate_lists enables (enable_gates bank)) 512 4 (few_banks (suc n) few) (λ bank. few_enables_of enables bank small)
+
+few_fixed : (write_size : ℕ) → length (fixed_cells write_size) ≤ 14
+few_fixed zero = omega arith
+few_fixed (suc write_size) = omega arith
 
 few_words : (plan : Organization) → IsBuildable plan → plan.word_size ≤ 256
 few_words plan is =
@@ -122,18 +130,19 @@ few_cells plan is =
     let choices = is.choices in
     let address = count_all (addr_bits plan) address_cells 2 14 (omega (arith, groups, total, banks, choices)) (λ i. omega arith) in
     let gates_few = few_group_gates plan.groups plan.col_bits is.sizes in
-    let words = count_tabulated plan.word_size Dd in
-    let few_of_words = few_words plan is in
+    let inputs = count_tabulated (inputs_of plan) Dd in
+    let few_of_inputs = le_trans (few_written plan.write_size plan.word_size) (few_words plan is) in
     let masks = count_tabulated plan.masks Dm in
     let few_of_masks = few_masks plan is in
-    le_trans (both fixed_cells _ 14 4128 (omega arith)
+    let few_of_enables = le_trans (few_written plan.write_size (enable_count plan.masks)) (few_counted plan.masks few_of_masks) in
+    le_trans (both (fixed_cells plan.write_size) _ 14 4128 (few_fixed plan.write_size)
     (both (tabulate_lists (addr_bits plan) address_cells) _ 28 4100 address
     (both (choice_gates plan.col_bits) _ 256 3844 (few_choices plan.col_bits choices)
     (both (groups_gates plan.groups plan.col_bits) _ 768 3076 (omega (arith, gates_few, groups))
-    (both (tabulate plan.word_size Dd) _ 256 2820 (omega (arith, words, few_of_words))
+    (both (tabulate (inputs_of plan) Dd) _ 256 2820 (omega (arith, inputs, few_of_inputs))
     (both (tabulate plan.masks Dm) _ 256 2564 (omega (arith, masks, few_of_masks))
-    (both (banks_cells plan plan.bank_bits) (enable_cells plan.bank_bits plan.masks) 272 2292 (few_bank_cells plan plan.bank_bits banks)
-    (le_trans (few_enables plan.bank_bits plan.masks banks few_of_masks) (omega arith))))))))) (omega arith)
+    (both (banks_cells plan plan.bank_bits) (enable_cells plan.bank_bits plan.masks (enables_of plan)) 272 2292 (few_bank_cells plan plan.bank_bits banks)
+    (le_trans (few_enables plan.bank_bits plan.masks (enables_of plan) banks few_of_enables) (omega arith))))))))) (omega arith)
 
 -- Placing them
 

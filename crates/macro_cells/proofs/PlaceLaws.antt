@@ -14,6 +14,10 @@ use Rattle.macro_layout.specs.Cells.{bare_cell}
 pub at_same : (made : PlacedInstance) (name of : List ℕ) (x at : ℕ) (y : ℤ) → made ≡ instance_at name of (upright (pos x) y) → x ≡ at → made ≡ instance_at name of (upright (pos at) y)
 at_same made name of x at y is same = is ∙ ap (λ (n : ℕ). instance_at name of (upright (pos n) y)) same
 
+-- an instance of an equal cell at an equal x
+pub of_same_cell : (made : PlacedInstance) (name of cell : List ℕ) (x at : ℕ) (y : ℤ) → made ≡ instance_at name of (upright (pos x) y) → of ≡ cell → x ≡ at → made ≡ instance_at name cell (upright (pos at) y)
+of_same_cell made name of cell x at y is alike same = is ∙ (λ i. instance_at name (alike i) (upright (pos (same i)) y))
+
 pub few_columns : (n : PlanNumbers) → ArePlanNumbers n → n.columns ≤ 256
 few_columns n are = subst (λ (k : ℕ). k ≤ 256) (sym (columns_are n are)) are.plan.columns
 
@@ -31,6 +35,10 @@ few_before n are bit below =
 -- a cell of instances that were added to none
 pub cell_from_none : (cell : DrawnCell) (name : List ℕ) (none all added : List PlacedInstance) → cell ≡ bare_cell name all → none ≡ [] → all ≡ none ++ added → cell ≡ bare_cell name added
 cell_from_none cell name none all added is empty more = is ∙ ap (bare_cell name) (more ∙ ap (λ (l : List PlacedInstance). l ++ added) empty)
+
+-- the same by an equal name
+pub of_same_name : (cell : DrawnCell) (made name : List ℕ) (all : List PlacedInstance) → cell ≡ bare_cell made all → made ≡ name → cell ≡ bare_cell name all
+of_same_name cell made name all is same = is ∙ ap (λ (n : List ℕ). bare_cell n all) same
 
 -- two instances, and then others
 pub cell_from_two : (cell : DrawnCell) (name : List ℕ) (none one two all added : List PlacedInstance) (a first b second : PlacedInstance) → cell ≡ bare_cell name all → none ≡ [] → one ≡ none ++ a ∷ []

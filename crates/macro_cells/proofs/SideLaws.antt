@@ -2,6 +2,7 @@
 use Rattle.std.proofs.Common.{◌≡◌, ℕ, ◌<◌, ◌≤◌, ℤ, pos, negsuc, ◌<ℤ◌, ◌≤ℤ◌, Option, Some, option_map, refl, ap, subst, sym, arith, nat_abs, to_z, of_z, w64}
 use Rattle.std.proofs.lemmas.Int.{ints}
 use Rattle.cell_roles.specs.declared.role.Role.{Role}
+use Rattle.cell_roles.specs.declared.leaf_role.LeafRole.TheVariants.{Common}
 use Rattle.leaf_tables.specs.declared.kit.Kit.{Kit}
 use Rattle.leaf_tables.specs.declared.kit.Leaf.{Leaf}
 use Rattle.leaf_tables.specs.Leaves.{LeafSource, IsLeaf}
@@ -20,7 +21,7 @@ side_is : (z : ℤ) → pos 0 <ℤ z → z ≤ℤ pos 65536 → IsSide z (side_o
 side_is (pos n) some few = record { is = refl; some = omega (arith, ints, some); few = omega (arith, ints, few) }
 side_is (negsuc n) some few = absurd (omega (arith, ints, some))
 
-wide_leaf : (source : LeafSource) (role : Role) (leaf : Leaf) → IsLeaf source role leaf → IsSide leaf.width (side_of (Some leaf.width))
+wide_leaf : (source : LeafSource) (role : Role) (leaf : Leaf) → IsLeaf source (Common role) leaf → IsSide leaf.width (side_of (Some leaf.width))
 wide_leaf source role leaf is =
     let outline = is.sized.outline in
     let wide = outline.shape.rect.wide in
@@ -28,7 +29,7 @@ wide_leaf source role leaf is =
     let right = outline.is.right in
     side_is leaf.width (omega (arith, ints, wide, left, right)) outline.narrow
 
-tall_leaf : (source : LeafSource) (role : Role) (leaf : Leaf) → IsLeaf source role leaf → IsSide leaf.height (side_of (Some leaf.height))
+tall_leaf : (source : LeafSource) (role : Role) (leaf : Leaf) → IsLeaf source (Common role) leaf → IsSide leaf.height (side_of (Some leaf.height))
 tall_leaf source role leaf is =
     let outline = is.sized.outline in
     let tall = outline.shape.rect.tall in

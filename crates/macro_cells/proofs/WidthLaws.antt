@@ -4,6 +4,7 @@ use Rattle.std.specs.Str.{bytes_eq}
 use Rattle.std.proofs.lemmas.Option.{slice_get-get_or}
 use Rattle.or_geom.specs.declared.shape.Shape.{Shape}
 use Rattle.cell_roles.specs.declared.role.Role.{Role}
+use Rattle.cell_roles.specs.declared.leaf_role.LeafRole.TheVariants.{Common}
 use Rattle.cell_roles.specs.declared.role.Role.TheVariants.{Bitcell, Precharge, Mux, Tie, Sense, Write, RowNand2, RowNand3, Driver, Nand2, Nand3, Inv, Dff, Delay}
 use Rattle.cell_roles.specs.Roles.{role_name, all_roles}
 use Rattle.tech_rules.specs.declared.tech.RoleName.{RoleName}
@@ -22,15 +23,15 @@ abbrev text_of : Option (List ℕ) → List ℕ
 text_of None = []
 text_of (Some text) = text
 
-cell_text : (entries : List RoleName) (role : Role) → cell_in entries role ≡ text_of (cell_named_for entries role)
+cell_text : (entries : List RoleName) (role : Role) → cell_in entries role ≡ text_of (cell_named_for entries (Common role))
 cell_text [] role = refl
 cell_text (r ∷ rs) role = by (cell_text rs role) (bytes_eq r.role (role_name role)) where
-  by : cell_in rs role ≡ text_of (cell_named_for rs role) → (t : Bool) → cond t r.cell (cell_in rs role) ≡ text_of (option_map (λ (entry : RoleName). entry.cell) (cond t (Some r) (find (λ (entry : RoleName). bytes_eq entry.role (role_name role)) rs)))
+  by : cell_in rs role ≡ text_of (cell_named_for rs (Common role)) → (t : Bool) → cond t r.cell (cell_in rs role) ≡ text_of (option_map (λ (entry : RoleName). entry.cell) (cond t (Some r) (find (λ (entry : RoleName). bytes_eq entry.role (role_name role)) rs)))
   by rest true = refl
   by rest false = rest
 
 -- two roles that one cell plays
-sized_same : (source : LeafSource) (a b : Role) (cell : List ℕ) (first second : FlatLists) (s t : CellSize) → IsSizedCell source a cell first s → IsSizedCell source b cell second t → s.width ≡ t.width
+sized_same : (source : LeafSource) (a b : Role) (cell : List ℕ) (first second : FlatLists) (s t : CellSize) → IsSizedCell source (Common a) cell first s → IsSizedCell source (Common b) cell second t → s.width ≡ t.width
 sized_same source a b cell first second s t x y =
     let shape = x.outline.shape in
     let there = x.outline.alone.there in
@@ -38,12 +39,12 @@ sized_same source a b cell first second s t x y =
     let same : shape ≡ y.outline.shape = y.outline.alone.only shape (record { listed = listed; on = there.on }) in
     sym x.outline.is.right ∙ (ap (λ (z : Shape). z.rect.x2) same ∙ y.outline.is.right)
 
-leaves_same : (source : LeafSource) (a b : Role) (first second : Leaf) → IsLeaf source a first → IsLeaf source b second → cell_in source.tech.roles a ≡ cell_in source.tech.roles b → first.width ≡ second.width
+leaves_same : (source : LeafSource) (a b : Role) (first second : Leaf) → IsLeaf source (Common a) first → IsLeaf source (Common b) second → cell_in source.tech.roles a ≡ cell_in source.tech.roles b → first.width ≡ second.width
 leaves_same source a b first second x y same =
     let left : cell_in source.tech.roles a ≡ x.cell = cell_text source.tech.roles a ∙ ap text_of x.sized.flat.plays in
     let right : cell_in source.tech.roles b ≡ y.cell = cell_text source.tech.roles b ∙ ap text_of y.sized.flat.plays in
     let one : y.cell ≡ x.cell = sym right ∙ (sym same ∙ left) in
-    sized_same source a b x.cell x.lists y.lists _ _ x.sized (subst (λ (cell : List ℕ). IsSizedCell source b cell y.lists (record { width = second.width; height = second.height })) one y.sized)
+    sized_same source a b x.cell x.lists y.lists _ _ x.sized (subst (λ (cell : List ℕ). IsSizedCell source (Common b) cell y.lists (record { width = second.width; height = second.height })) one y.sized)
 
 no_leaf : Leaf
 no_leaf = record { width = pos 0; height = pos 0; pins = [] }

@@ -16,4 +16,4 @@ pub use logic::logic_row_cell;
 pub use row::row_cell;
 pub use sides::{leaf_height, leaf_width};
 pub use top::macro_cell;
-pub use total::sides_of;
+pub use total::{sides_of, write_height};

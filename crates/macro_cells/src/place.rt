@@ -51,6 +51,23 @@ pub fn column_x(from: u32, column: u32, width: u32) -> u32
     from + column * width
 }
 
+/// An instance of the cell of this name, without a turn.
+pub fn cell_at(
+    alloc: Global,
+    cell: &[u8],
+    name: Spelling,
+    x: u32,
+    y: i64,
+) -> Result<PlacedInstance, Memory>
+    ensures { IfOk result (λ i. i ≡ instance_at (spelled name) cell.now (upright (pos x) y)) }
+{
+    Ok(PlacedInstance {
+        name: spell(alloc, name)?,
+        of: Name::from_bytes(alloc, cell)?,
+        place: upright(x, y),
+    })
+}
+
 /// An instance of a role's cell, without a turn.
 pub fn leaf_at(
     alloc: Global,
@@ -62,11 +79,19 @@ pub fn leaf_at(
 ) -> Result<PlacedInstance, Memory>
     ensures { IfOk result (λ i. i ≡ instance_at (spelled name) (cell_in kit.now.tech.roles role) (upright (pos x) y)) }
 {
-    Ok(PlacedInstance {
-        name: spell(alloc, name)?,
-        of: Name::from_bytes(alloc, cell_of(kit.tech.roles.as_slice(), role))?,
-        place: upright(x, y),
-    })
+    cell_at(alloc, cell_of(kit.tech.roles.as_slice(), role), name, x, y)
+}
+
+/// A cell without wires and labels.
+pub fn unwired_cell(alloc: Global, name: Name, instances: Vec<PlacedInstance>) -> DrawnCell
+    ensures { result ≡ bare_cell name instances.items }
+{
+    DrawnCell {
+        name,
+        instances: Items::from_vec(instances),
+        wires: Items::new(alloc),
+        labels: Items::new(alloc),
+    }
 }
 
 /// A cell without wires and labels, named by the macro's name and `part`.
@@ -78,10 +103,5 @@ pub fn bare_cell(
 ) -> Result<DrawnCell, Memory>
     ensures { IfOk result (λ cell. cell ≡ bare_cell (name.now ++ part.now) instances.items) }
 {
-    Ok(DrawnCell {
-        name: part_name(alloc, name, part)?,
-        instances: Items::from_vec(instances),
-        wires: Items::new(alloc),
-        labels: Items::new(alloc),
-    })
+    Ok(unwired_cell(alloc, part_name(alloc, name, part)?, instances))
 }

@@ -1,29 +1,39 @@
-ghost use Rattle.std.specs.Prelude.{◌≡◌, ◌≤◌, ◌⊎◌, ◌++◌, length, IfOk, OnOk};
+ghost use Rattle.std.specs.Prelude.{◌≡◌, ◌<◌, ◌≤◌, ◌⊎◌, ◌++◌, length, IfOk, OnOk};
 ghost use Rattle.leaf_tables.specs.Kits.{IsKit};
-ghost use Rattle.sram_netlist.specs.Organization.{columns_of};
+ghost use Rattle.sram_netlist.specs.Organization.{columns_of, bank_rows};
 ghost use Rattle.sram_netlist.specs.Netlist.{row_gate};
 ghost use Rattle.sram_netlist.specs.InstanceList.{tabulate};
 ghost use Rattle.sram_netlist.specs.Numbers.{ArePlanNumbers};
 ghost use Rattle.sram_plan.specs.PlanNumbers.{numbers_of, organization};
+ghost use Rattle.port_lists.specs.Contents.{bit_cells, IsContents};
 ghost use Rattle.macro_layout.specs.Places.{drive_width};
 ghost use Rattle.macro_layout.specs.Cells.{row_cell, row_bit_at};
 ghost use Rattle.macro_cells.specs.LayoutOfKit.{layout_kit};
 
-use crate::place::{bare_cell, column_x, leaf_at};
+use crate::place::{cell_at, column_x, leaf_at, unwired_cell};
 use crate::sides::leaf_width;
 use cell_builder::{DrawnCell, PlacedInstance};
 use cell_roles::Role;
 use leaf_tables::Kit;
 use or_geom::{Memory, Name};
-use port_lists::{Spelling, groups_of};
+use port_lists::{Contents, Spelling, bit_cell, groups_of, row_name};
 use sram_plan::Plan;
 use std::alloc::Global;
 
-/// The cell of a row: its gate, its driver and its bitcells, side by side. `name` is the macro's.
-pub fn row_cell(alloc: Global, kit: &Kit, plan: &Plan, name: &Name) -> Result<DrawnCell, Memory>
+/// The cell of a row: its gate, its driver and the cells of its bits, side by side. `name` is the macro's.
+pub fn row_cell(
+    alloc: Global,
+    kit: &Kit,
+    plan: &Plan,
+    name: &Name,
+    contents: Contents<'_>,
+    row: u32,
+) -> Result<DrawnCell, Memory>
     requires kit { IsKit kit.now }
     requires plan { ArePlanNumbers (numbers_of plan.now) }
-    ensures { IfOk result (λ cell. cell ≡ row_cell (organization plan.now) (layout_kit kit.now) name.now) }
+    requires contents { IsContents (organization plan.now) contents }
+    requires row { row < bank_rows (organization plan.now) }
+    ensures { IfOk result (λ cell. cell ≡ row_cell (organization plan.now) (layout_kit kit.now) (bit_cells kit.now.tech.roles (organization plan.now) contents.entry) name.now row) }
 {
     let groups = groups_of(alloc, plan)?;
     let gate = gate_of_row(&groups);
@@ -33,8 +43,12 @@ pub fn row_cell(alloc: Global, kit: &Kit, plan: &Plan, name: &Name) -> Result<Dr
     instances.push(leaf_at(alloc, kit, gate, Spelling::Word(b"xnand"), 0, 0)?)?;
     let driver = Spelling::Word(b"xdrv");
     instances.push(leaf_at(alloc, kit, Role::Driver, driver, gate_width, 0)?)?;
-    add_bitcells(alloc, kit, plan, drive_width, &mut instances)?;
-    Ok(bare_cell(alloc, name, b"_row", instances)?)
+    add_bits(alloc, kit, plan, contents, row, drive_width, &mut instances)?;
+    Ok(unwired_cell(
+        alloc,
+        row_name(alloc, plan, contents, name, row)?,
+        instances,
+    ))
 }
 
 /// The gate of a row over these groups.
@@ -49,25 +63,30 @@ pub fn gate_of_row(groups: &[u32]) -> Role
     }
 }
 
-/// Adds the bitcells, one a column, the first at `from`.
-fn add_bitcells(
+/// Adds the cells of a row's bits, one a column, the first at `from`.
+fn add_bits(
     alloc: Global,
     kit: &Kit,
     plan: &Plan,
+    contents: Contents<'_>,
+    row: u32,
     from: u32,
     instances: &mut Vec<PlacedInstance>,
 ) -> Result<(), Memory>
     requires kit { IsKit kit.now }
     requires plan { ArePlanNumbers (numbers_of plan.now) }
+    requires contents { IsContents (organization plan.now) contents }
+    requires row { row < bank_rows (organization plan.now) }
     requires from { from ≡ drive_width (organization plan.now) (layout_kit kit.now) }
     requires few { from ≤ 131072 }
-    ensures { OnOk result (instances.new.items ≡ instances.old.items ++ tabulate (columns_of (organization plan.now)) (row_bit_at (organization plan.now) (layout_kit kit.now))) }
+    ensures { OnOk result (instances.new.items ≡ instances.old.items ++ tabulate (columns_of (organization plan.now)) (row_bit_at (organization plan.now) (layout_kit kit.now) (bit_cells kit.now.tech.roles (organization plan.now) contents.entry) row)) }
 {
     let width = leaf_width(kit, Role::Bitcell);
     for column in 0..plan.columns {
         let x = column_x(from, column, width);
         let name = Spelling::Numbered(b"xb", column);
-        instances.push(leaf_at(alloc, kit, Role::Bitcell, name, x, 0)?)?;
+        let cell = bit_cell(plan, kit.tech.roles.as_slice(), contents, row, column);
+        instances.push(cell_at(alloc, cell, name, x, 0)?)?;
     }
     Ok(())
 }

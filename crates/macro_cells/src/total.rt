@@ -6,7 +6,7 @@ ghost use Rattle.sram_netlist.specs.Numbers.{ArePlanNumbers};
 ghost use Rattle.sram_plan.specs.PlanNumbers.{numbers_of, organization};
 ghost use Rattle.sram_deck.specs.Deck.{logic_instances};
 ghost use Rattle.port_lists.specs.Cells.{cell_in};
-ghost use Rattle.macro_layout.specs.Floorplan.{column_role};
+ghost use Rattle.macro_layout.specs.Floorplan.{column_role, write_height};
 ghost use Rattle.macro_layout.specs.Places.{total_width};
 ghost use Rattle.macro_wires.specs.Sides.{AreLeafSides, AreSidesOf};
 ghost use Rattle.macro_cells.specs.LayoutOfKit.{layout_kit};
@@ -37,7 +37,7 @@ pub fn sides_of(alloc: Global, kit: &Kit, plan: &Plan, name: &Name) -> Result<Le
     let logic_width = total_width(kit, plan, subckt.instances.as_slice());
     Ok(LeafSides {
         inv_height: leaf_height(kit, Role::Inv),
-        write_height: leaf_height(kit, Role::Write),
+        write_height: write_height(kit, plan),
         sense_height: leaf_height(kit, Role::Sense),
         end_height: leaf_height(kit, end_role(plan)),
         precharge_height: leaf_height(kit, Role::Precharge),
@@ -47,6 +47,19 @@ pub fn sides_of(alloc: Global, kit: &Kit, plan: &Plan, name: &Name) -> Result<Le
         driver_width: leaf_width(kit, Role::Driver),
         logic_width,
     })
+}
+
+/// The height of the write cells, or 0 where nothing is written.
+pub fn write_height(kit: &Kit, plan: &Plan) -> u32
+    requires { IsKit kit.now }
+    ensures is { result ≡ write_height (organization plan.now) (layout_kit kit.now) }
+    ensures few { result ≤ 65536 }
+{
+    if plan.write_size == 0 {
+        0
+    } else {
+        leaf_height(kit, Role::Write)
+    }
 }
 
 /// The role of the cells in which columns end.

@@ -7,6 +7,7 @@ use Rattle.sram_plan.specs.declared.numbers.Plan.{Plan}
 use Rattle.leaf_tables.specs.declared.kit.Kit.{Kit}
 use Rattle.leaf_tables.specs.declared.part.PartFault.TheVariants as part_fault
 use Rattle.leaf_tables.specs.Kits.{IsKit}
+use Rattle.port_lists.specs.Held.{Held}
 use Rattle.sram_macro.specs.Macro.{IsMacroFault}
 
 -- no structure's and no subcircuit's name begins with the name, without regard to case
@@ -16,4 +17,4 @@ pub record IsUnusedName (kit : Kit) (name : List ℕ) : Type 0 where
 
 -- Under such a name no fault of a macro is that a name is taken.
 abbrev pub UnusedNamesAreFree : Type 0
-UnusedNamesAreFree = (kit : Kit) (plan : Plan) (name taken : List ℕ) → IsKit kit → IsUnusedName kit name → IsMacroFault kit plan name (part_fault.NameTaken taken) → ⊥
+UnusedNamesAreFree = (kit : Kit) (plan : Plan) (held : Held) (name taken : List ℕ) → IsKit kit → IsUnusedName kit name → IsMacroFault kit plan held name (part_fault.NameTaken taken) → ⊥

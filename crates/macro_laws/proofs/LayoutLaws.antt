@@ -9,12 +9,12 @@ use Rattle.tech_rules.specs.Facts.{AreSizes}
 use Rattle.channel_router.specs.declared.channel.Channel.{Channel}
 use Rattle.channel_router.specs.declared.channel.Routed.{Routed}
 use Rattle.channel_router.specs.Wires.{channel_height}
-use Rattle.cell_roles.specs.declared.role.Role.TheVariants.{Sense, Write}
+use Rattle.cell_roles.specs.declared.role.Role.TheVariants.{Sense}
 use Rattle.sram_netlist.specs.Organization.{Organization, bank_rows, columns_of}
 use Rattle.leaf_tables.specs.declared.kit.Kit.{Kit}
 use Rattle.macro_layout.specs.LayoutKit.{LayoutKit}
 use Rattle.macro_layout.specs.Places.{Floorplan, bit_width, bit_height, drive_width}
-use Rattle.macro_layout.specs.Floorplan.{Tracks, IsFloorplan, choice_count, column_channel_y, column_role}
+use Rattle.macro_layout.specs.Floorplan.{Tracks, IsFloorplan, choice_count, column_channel_y, column_role, write_height}
 use Rattle.macro_layout.specs.Channels.{IsColumnChannel, IsTrunkAt}
 use Rattle.macro_layout.specs.Moved.{IsChannelMoved}
 use Rattle.macro_layout.proofs.RoutingLaws.{item_at}
@@ -31,7 +31,7 @@ one_floorplan plan kit wire tracks f g p q =
     let logic_x = p.logic_x ∙ sym q.logic_x in
     let row_x = p.row_x ∙ sym q.row_x in
     let write_y = p.write_y ∙ sym q.write_y in
-    let sense_y = p.sense_y ∙ ap (λ (z : ℤ). z +ℤ pos (kit.height Write)) write_y ∙ sym q.sense_y in
+    let sense_y = p.sense_y ∙ ap (λ (z : ℤ). z +ℤ pos (write_height plan kit)) write_y ∙ sym q.sense_y in
     let column_y = p.column_y ∙ ap (λ (z : ℤ). (z +ℤ pos (kit.height Sense)) +ℤ channel_height wire tracks.column) sense_y ∙ sym q.column_y in
     let array_y = p.array_y ∙ ap (λ (z : ℤ). z +ℤ pos (kit.height (column_role plan.col_bits))) column_y ∙ sym q.array_y in
     let precharge_y = p.precharge_y ∙ ap (λ (z : ℤ). z +ℤ pos (bank_rows plan * bit_height kit)) array_y ∙ sym q.precharge_y in

@@ -11,6 +11,7 @@ use Rattle.tech_rules.specs.declared.tech.Wire.{Wire}
 use Rattle.tech_rules.specs.Facts.{AreSizes, IsWire}
 use Rattle.channel_router.specs.declared.channel.Routed.{Routed}
 use Rattle.cell_builder.specs.Finish.{IsLibraryOf}
+use Rattle.sram_netlist.specs.BitCells.{BitCells}
 use Rattle.sram_netlist.specs.Organization.{Organization}
 use Rattle.sram_plan.specs.declared.numbers.Plan.{Plan}
 use Rattle.sram_plan.specs.declared.view.SignalPin.{SignalPin}
@@ -37,7 +38,7 @@ use Rattle.sram_macro.specs.declared.extents.Extents.{Extents}
 use Rattle.sram_macro.specs.Extents.{AreExtents}
 use Rattle.sram_macro.specs.Layout.{IsMainRouted}
 use Rattle.sram_macro.specs.Library.{drawing_with, macro_list}
-use Rattle.sram_macro.specs.Macro.{IsMacro, IsLaidOut, IsDrawnFrom, AreWiresOf, layout_pins, macro_deck}
+use Rattle.sram_macro.specs.Macro.{IsMacro, IsLaidOut, IsDrawnFrom, AreWiresOf, layout_pins, macro_bits}
 use Rattle.sram_macro.specs.Signals.{macro_labels, signals_on_tracks, signal_names, input_count}
 use Rattle.sram_macro.specs.View.{macro_view}
 use Rattle.sram_macro.proofs.MainChannelLaws.{main_wires}
@@ -156,9 +157,9 @@ turned plan kit wire a b one = record {
 top_there : (plan : Organization) (kit : LayoutKit) (wire : Wire) (a b : Layout) (ps qs : List SignalPin) (v w : Wires) → IsOneLayout plan kit wire a b → AreWiresOf plan kit wire a ps v → AreWiresOf plan kit wire b qs w → (s : Shape) → Contains v.top.items s → Contains w.top.items s
 top_there plan kit wire a b ps qs v w one p q s h = (q.top s).1 (top_of plan kit wire a b one s ((p.top s).0 h))
 
-same_drawing : (plan : Organization) (kit : LayoutKit) (wire : Wire) (a b : Layout) (v w : Wires) → IsOneLayout plan kit wire a b → AreWiresOf plan kit wire a (layout_pins plan wire a) v → AreWiresOf plan kit wire b (layout_pins plan wire b) w
-    → drawing_with a.floorplan v ≡ drawing_with b.floorplan w
-same_drawing plan kit wire a b v w one p q =
+same_drawing : (bits : BitCells) (plan : Organization) (kit : LayoutKit) (wire : Wire) (a b : Layout) (v w : Wires) → IsOneLayout plan kit wire a b → AreWiresOf plan kit wire a (layout_pins plan wire a) v → AreWiresOf plan kit wire b (layout_pins plan wire b) w
+    → drawing_with bits a.floorplan v ≡ drawing_with bits b.floorplan w
+same_drawing bits plan kit wire a b v w one p q =
     let back = turned plan kit wire a b one in
     let ps = layout_pins plan wire a in
     let qs = layout_pins plan wire b in
@@ -166,18 +167,18 @@ same_drawing plan kit wire a b v w one p q =
     let top = one_list shape_order shape_total v.top.items w.top.items p.top_rises q.top_rises (record { there = top_there plan kit wire a b ps qs v w one p q; back = top_there plan kit wire b a qs ps w v back q p }) in
     let pins = same_pins plan kit wire a b one in
     let labels = p.labels ∙ (λ i. macro_labels wire (one.ends i) (pins i)) ∙ sym q.labels in
-    λ i. record { floorplan = one.floorplan i; bank_wires = bank i; wires = top i; labels = labels i }
+    λ i. record { bits = bits; floorplan = one.floorplan i; bank_wires = bank i; wires = top i; labels = labels i }
 
 -- what is drawn at the wire of the kit
-record IsDrawnWith (kit : Kit) (plan : Organization) (name : List ℕ) (wire : Wire) (layout : Layout) (m : Macro) : Type 0 where
+record IsDrawnWith (kit : Kit) (plan : Organization) (bits : BitCells) (name : List ℕ) (wire : Wire) (layout : Layout) (m : Macro) : Type 0 where
   wires : Wires
   are : AreWiresOf plan (layout_kit kit) wire layout (layout_pins plan wire layout) wires
-  library : IsLibraryOf kit.tech.layers (macro_list kit plan name (drawing_with layout.floorplan wires)) name m.lib
+  library : IsLibraryOf kit.tech.layers (macro_list kit plan name (drawing_with bits layout.floorplan wires)) name m.lib
   view : m.view ≡ macro_view kit.tech.layers name wire layout.ends (layout_pins plan wire layout)
   tracks : m.tracks ≡ layout.main.tracks
 
-drawn_with : (kit : Kit) (plan : Organization) (name : List ℕ) (wire : Wire) (layout : Layout) (m : Macro) → kit.tech.wire ≡ Some wire → IsDrawnFrom kit plan name layout m → IsDrawnWith kit plan name wire layout m
-drawn_with kit plan name wire layout m wired p =
+drawn_with : (kit : Kit) (plan : Organization) (bits : BitCells) (name : List ℕ) (wire : Wire) (layout : Layout) (m : Macro) → kit.tech.wire ≡ Some wire → IsDrawnFrom kit plan bits name layout m → IsDrawnWith kit plan bits name wire layout m
+drawn_with kit plan bits name wire layout m wired p =
     let same = same_Some p.wire wire (sym p.wired ∙ wired) in
     record {
       wires = p.wires;
@@ -187,10 +188,10 @@ drawn_with kit plan name wire layout m wired p =
       tracks = p.tracks;
     }
 
-one_drawn : (kit : Kit) (plan : Organization) (name : List ℕ) (wire : Wire) (a b : Layout) (m n : Macro) → IsOneLayout plan (layout_kit kit) wire a b → IsDrawnWith kit plan name wire a m → IsDrawnWith kit plan name wire b n → m.deck ≡ n.deck → m ≡ n
-one_drawn kit plan name wire a b m n one p q deck =
-    let drawing = same_drawing plan (layout_kit kit) wire a b p.wires q.wires one p.are q.are in
-    let lib = one_library kit.tech.layers (macro_list kit plan name (drawing_with b.floorplan q.wires)) name m.lib n.lib
+one_drawn : (kit : Kit) (plan : Organization) (bits : BitCells) (name : List ℕ) (wire : Wire) (a b : Layout) (m n : Macro) → IsOneLayout plan (layout_kit kit) wire a b → IsDrawnWith kit plan bits name wire a m → IsDrawnWith kit plan bits name wire b n → m.deck ≡ n.deck → m ≡ n
+one_drawn kit plan bits name wire a b m n one p q deck =
+    let drawing = same_drawing bits plan (layout_kit kit) wire a b p.wires q.wires one p.are q.are in
+    let lib = one_library kit.tech.layers (macro_list kit plan name (drawing_with bits b.floorplan q.wires)) name m.lib n.lib
     (subst (λ (d : Drawing). IsLibraryOf kit.tech.layers (macro_list kit plan name d) name m.lib) drawing p.library) q.library in
     let pins = same_pins plan (layout_kit kit) wire a b one in
     let view = p.view ∙ (λ i. macro_view kit.tech.layers name wire (one.ends i) (pins i)) ∙ sym q.view in
@@ -198,8 +199,9 @@ one_drawn kit plan name wire a b m n one p q deck =
     λ i. record { lib = lib i; deck = deck i; view = view i; tracks = tracks i }
 
 pub one_macro : MacrosAreUnique
-one_macro kit plan name a b k p q =
+one_macro kit plan held name a b k p q =
     let org = organization plan in
+    let bits = macro_bits kit plan held in
     let wire = k.wire in
     let is_wire = subst (λ (o : Option Wire). IfSome o (IsWire kit.tech.layers)) k.wired k.tech.wire in
     let some = p.laid.of.words in
@@ -207,4 +209,4 @@ one_macro kit plan name a b k p q =
     let t = stands_so kit org wire q.layout k.wired q.laid in
     let routed = routings kit org wire p.laid.column q.laid.column p.layout q.layout is_wire.sizes k.wired some s t in
     let one = one_layout kit org wire p.laid.column q.laid.column p.layout q.layout routed s t in
-    one_drawn kit org name wire p.layout q.layout a b one (drawn_with kit org name wire p.layout a k.wired p.drawn) (drawn_with kit org name wire q.layout b k.wired q.drawn) (p.deck ∙ sym q.deck)
+    one_drawn kit org bits name wire p.layout q.layout a b one (drawn_with kit org bits name wire p.layout a k.wired p.drawn) (drawn_with kit org bits name wire q.layout b k.wired q.drawn) (p.deck ∙ sym q.deck)

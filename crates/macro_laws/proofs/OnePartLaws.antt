@@ -40,8 +40,8 @@ use Rattle.bank_layout.specs.BankTaps.{AreBankTaps, AreTapsApart, AreTapsClose, 
 use Rattle.sram_macro.specs.declared.assembly.Macro.{Macro}
 use Rattle.sram_macro.specs.declared.layout.Layout.{Layout}
 use Rattle.sram_macro.specs.Layout.{IsMainOf, IsMainRouted, IsMainFault, IsMacroLayout, IsMainRefused, IsMacroLayoutFault}
-use Rattle.sram_macro.specs.Macro.{IsMacro, IsMacroFault, IsPartsFault, IsLaidOut}
-use Rattle.sram_macro.specs.Names.{macro_names, first_taken, IsTakenFault}
+use Rattle.sram_macro.specs.Macro.{IsMacro, IsMacroFault, IsPartsFault, IsLaidOut, names_of_macro}
+use Rattle.sram_macro.specs.Names.{first_taken, IsTakenFault}
 use Rattle.macro_laws.specs.OneMacro.{MacroFaultsAreUnique, MacroFaultsExcludeMacros}
 use Rattle.macro_laws.proofs.LayoutLaws.{one_column_routing}
 use Rattle.macro_laws.proofs.RouteLaws.{IsOneRouting}
@@ -82,8 +82,8 @@ close_fault side other a b c d one = λ i. part_fault.Close (one.side_is i) (one
 
 one_narrow : (plan : Organization) (kit : LayoutKit) (f g : PartFault) → f ≢ part_fault.Memory → g ≢ part_fault.Memory → IsNarrowFault plan kit f → IsNarrowFault plan kit g → f ≡ g
 one_narrow plan kit (part_fault.SliceTooNarrow x) (part_fault.SliceTooNarrow y) s t (inl p) (inl q) = ap (λ (z : List ℕ). part_fault.SliceTooNarrow z) (p.0 ∙ sym q.0)
-one_narrow plan kit (part_fault.SliceTooNarrow x) (part_fault.SliceTooNarrow y) s t (inl p) (inr q) = let less = p.1 in let le = q.1 in absurd (omega (arith, less, le))
-one_narrow plan kit (part_fault.SliceTooNarrow x) (part_fault.SliceTooNarrow y) s t (inr p) (inl q) = let less = q.1 in let le = p.1 in absurd (omega (arith, less, le))
+one_narrow plan kit (part_fault.SliceTooNarrow x) (part_fault.SliceTooNarrow y) s t (inl p) (inr q) = let less = p.1 in let le = q.2 in absurd (omega (arith, less, le))
+one_narrow plan kit (part_fault.SliceTooNarrow x) (part_fault.SliceTooNarrow y) s t (inr p) (inl q) = let less = q.1 in let le = p.2 in absurd (omega (arith, less, le))
 one_narrow plan kit (part_fault.SliceTooNarrow x) (part_fault.SliceTooNarrow y) s t (inr p) (inr q) = ap (λ (z : List ℕ). part_fault.SliceTooNarrow z) (p.0 ∙ sym q.0)
 one_narrow plan kit part_fault.Memory g s t p q = absurd (s refl)
 one_narrow plan kit f part_fault.Memory s t p q = absurd (t refl)
@@ -96,7 +96,7 @@ one_narrow plan kit (part_fault.SliceTooNarrow x) (part_fault.NameTaken n) s t p
 
 not_narrow : (plan : Organization) (kit : LayoutKit) (f : PartFault) → f ≢ part_fault.Memory → AreWideSlices plan kit → IsNarrowFault plan kit f → ⊥
 not_narrow plan kit (part_fault.SliceTooNarrow x) s wide (inl p) = let less = p.1 in let le = wide.sense in omega (arith, less, le)
-not_narrow plan kit (part_fault.SliceTooNarrow x) s wide (inr p) = let less = p.2 in let le = wide.write in omega (arith, less, le)
+not_narrow plan kit (part_fault.SliceTooNarrow x) s wide (inr p) = let less = p.3 in let le = wide.write p.1 in omega (arith, less, le)
 not_narrow plan kit part_fault.Memory s wide p = s refl
 not_narrow plan kit (part_fault.Close a b c) s wide p = p
 not_narrow plan kit (part_fault.TapsClose a b) s wide p = p
@@ -306,18 +306,18 @@ not_refused kit plan wire c d x layout track tracks s wired p is = by p
 
 -- names
 
-taken : (kit : Kit) (name : List ℕ) (x : PartFault) → x ≢ part_fault.Memory → IsTakenFault kit name x → (n : List ℕ) × (x ≡ part_fault.NameTaken n) × (first_taken kit (macro_names name) ≡ Some n)
-taken kit name (part_fault.NameTaken n) s p = (n, refl, p)
-taken kit name part_fault.Memory s p = absurd (s refl)
-taken kit name (part_fault.SliceTooNarrow r) s p = absurd p
-taken kit name (part_fault.Close r a b) s p = absurd p
-taken kit name (part_fault.TapsClose a b) s p = absurd p
+taken : (kit : Kit) (names : List (List ℕ)) (x : PartFault) → x ≢ part_fault.Memory → IsTakenFault kit names x → (n : List ℕ) × (x ≡ part_fault.NameTaken n) × (first_taken kit names ≡ Some n)
+taken kit names (part_fault.NameTaken n) s p = (n, refl, p)
+taken kit names part_fault.Memory s p = absurd (s refl)
+taken kit names (part_fault.SliceTooNarrow r) s p = absurd p
+taken kit names (part_fault.Close r a b) s p = absurd p
+taken kit names (part_fault.TapsClose a b) s p = absurd p
 
 some_or_none : (n : List ℕ) (o : Option (List ℕ)) → o ≡ Some n → o ≡ None → ⊥
 some_or_none n o e f = let g : ◌≡◌ {A = Option (List ℕ)} (Some n) None = sym e ∙ f in cc
 
-not_free : (kit : Kit) (name : List ℕ) (x : PartFault) → x ≢ part_fault.Memory → IsTakenFault kit name x → first_taken kit (macro_names name) ≡ None → ⊥
-not_free kit name x s p free = let t = taken kit name x s p in some_or_none t.0 (first_taken kit (macro_names name)) t.2 free
+not_free : (kit : Kit) (names : List (List ℕ)) (x : PartFault) → x ≢ part_fault.Memory → IsTakenFault kit names x → first_taken kit names ≡ None → ⊥
+not_free kit names x s p free = let t = taken kit names x s p in some_or_none t.0 (first_taken kit names) t.2 free
 
 -- all parts
 
@@ -335,18 +335,18 @@ wire_sizes : (kit : Kit) (is : IsKit kit) → AreSizes is.wire
 wire_sizes kit is = (subst (λ (o : Option Wire). IfSome o (IsWire kit.tech.layers)) is.wired is.tech.wire).sizes
 
 pub one_part_fault : MacroFaultsAreUnique
-one_part_fault kit plan name x y is s t (inl p) (inl q) =
-    let a = taken kit name x s p in
-    let b = taken kit name y t q in
+one_part_fault kit plan held name x y is s t (inl p) (inl q) =
+    let a = taken kit (names_of_macro kit plan held name) x s p in
+    let b = taken kit (names_of_macro kit plan held name) y t q in
     a.1 ∙ ap (λ (n : List ℕ). part_fault.NameTaken n) (same_Some a.0 b.0 (sym a.2 ∙ b.2)) ∙ sym b.1
-one_part_fault kit plan name x y is s t (inl p) (inr q) = absurd (not_free kit name x s p q.0)
-one_part_fault kit plan name x y is s t (inr p) (inl q) = absurd (not_free kit name y t q p.0)
-one_part_fault kit plan name x y is s t (inr p) (inr q) = one_parts_fault kit (organization plan) is.wire x y (wire_sizes kit is) is.wired s t p.1 q.1
+one_part_fault kit plan held name x y is s t (inl p) (inr q) = absurd (not_free kit (names_of_macro kit plan held name) x s p q.0)
+one_part_fault kit plan held name x y is s t (inr p) (inl q) = absurd (not_free kit (names_of_macro kit plan held name) y t q p.0)
+one_part_fault kit plan held name x y is s t (inr p) (inr q) = one_parts_fault kit (organization plan) is.wire x y (wire_sizes kit is) is.wired s t p.1 q.1
 
 pub no_part_fault : MacroFaultsExcludeMacros
-no_part_fault kit plan name x m is s (inl p) made = not_free kit name x s p made.free
-no_part_fault kit plan name x m is s (inr (free, inl data_)) made = no_data_fault kit (organization plan) is.wire x is.wired s made.wide (made.laid.of.apart is.wire is.wired) data_
-no_part_fault kit plan name x m is s (inr (free, inr (wide, (c, of, p)))) made =
+no_part_fault kit plan held name x m is s (inl p) made = not_free kit (names_of_macro kit plan held name) x s p made.free
+no_part_fault kit plan held name x m is s (inr (free, inl data_)) made = no_data_fault kit (organization plan) is.wire x is.wired s made.wide (made.laid.of.apart is.wire is.wired) data_
+no_part_fault kit plan held name x m is s (inr (free, inr (wide, (c, of, p)))) made =
     let first = refused_at kit (organization plan) is.wire c x is.wired p in
     let one = one_column kit (organization plan) is.wire c made.laid.column (wire_sizes kit is) is.wired of.words of made.laid.of (floorplan_in kit (organization plan) is.wire c x first) in
     not_refused kit (organization plan) is.wire c made.laid.column x made.layout one.tracks one.count s is.wired first made.laid.is

@@ -1,11 +1,11 @@
-//! Laws of macros: a kit and a plan have one macro under a name or one fault of a part, and are built in one way or refused in
-//! one way.
+//! Laws of macros: a kit, a plan and what is held have one macro under a name or one fault of a part, and are built in one way or
+//! refused in one way.
 #![tactic(auto)]
 
 ghost use Rattle.macro_laws.specs.OneBuild.{BuildFaultsAreUnique, BuildFaultsExcludeBuilds, BuildsAreUnique};
 ghost use Rattle.macro_laws.specs.OneMacro.{MacroFaultsAreUnique, MacroFaultsExcludeMacros, MacrosAreUnique};
 
-/// A kit and a plan have at most one macro of a name.
+/// A kit, a plan and what is held have at most one macro of a name.
 pub fn macros_are_unique()
     ensures { MacrosAreUnique }
 {}
@@ -20,7 +20,7 @@ pub fn macro_faults_exclude_macros()
     ensures { MacroFaultsExcludeMacros }
 {}
 
-/// Two builds of a kit and a plan under one name have the same views.
+/// Two builds of them under one name have the same views.
 pub fn builds_are_unique()
     ensures { BuildsAreUnique }
 {}

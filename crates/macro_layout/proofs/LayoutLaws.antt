@@ -27,6 +27,7 @@ use Rattle.macro_layout.specs.Places.{upright, leaf_cell, leaf_item}
 use Rattle.macro_layout.specs.Cells.{row_cell, array_cell, pre_cell, data_cell, bank_cell, logic_row_cell, macro_cell}
 use Rattle.macro_layout.specs.Layout.{Drawing, IsWireOfBanks, InLayout, IsLayoutLabel, DrawsMacro, MacrosAreFlat, IsMacroOf, FlatListsAreLayout}
 use Rattle.macro_layout.proofs.TakenLaws.{shape_opens, label_opens}
+use Rattle.macro_layout.proofs.Parts.{each_row}
 use Rattle.macro_layout.proofs.MacroLaws.{AreParts, IsOfOwn, leaves_of_macro, macro_of_own, macro_of_leaf}
 
 -- wires of banks
@@ -112,12 +113,12 @@ bare_labels layers structs cell is no_wire no_label label =
 -- the macro
 
 shape_parts : (layers : List Layer) (structs : List Structure) (plan : Organization) (kit : LayoutKit) (n : List ℕ) (d : Drawing) → DrawsMacro layers structs plan kit n d
-    → AreParts IsShapeTaken (IsFlatShape layers structs) (IsOwnWire layers d.bank_wires) plan kit d.floorplan n d.bank_wires
+    → AreParts IsShapeTaken (IsFlatShape layers structs) (IsOwnWire layers d.bank_wires) plan kit d.bits d.floorplan n d.bank_wires
 shape_parts layers structs plan kit n d draws = record {
   buildable = draws.buildable;
   bare = record {
-    row = bare_shapes layers structs (row_cell plan kit n) draws.row refl refl;
-    array = bare_shapes layers structs (array_cell plan kit n) draws.array refl refl;
+    row = λ r lt. bare_shapes layers structs (row_cell plan kit d.bits n r) (each_row (IsDrawn layers structs) plan kit d.bits n draws.row r lt) refl refl;
+    array = bare_shapes layers structs (array_cell plan kit d.bits n) draws.array refl refl;
     pre = bare_shapes layers structs (pre_cell plan kit n) draws.pre refl refl;
     data_ = bare_shapes layers structs (data_cell plan kit d.floorplan n) draws.data_ refl refl;
   };
@@ -126,12 +127,12 @@ shape_parts layers structs plan kit n d draws = record {
 }
 
 label_parts : (layers : List Layer) (structs : List Structure) (plan : Organization) (kit : LayoutKit) (n : List ℕ) (d : Drawing) → DrawsMacro layers structs plan kit n d
-    → AreParts IsLabelTaken (IsFlatLabel layers structs) (IsOwnLabel layers []) plan kit d.floorplan n d.bank_wires
+    → AreParts IsLabelTaken (IsFlatLabel layers structs) (IsOwnLabel layers []) plan kit d.bits d.floorplan n d.bank_wires
 label_parts layers structs plan kit n d draws = record {
   buildable = draws.buildable;
   bare = record {
-    row = bare_labels layers structs (row_cell plan kit n) draws.row refl refl;
-    array = bare_labels layers structs (array_cell plan kit n) draws.array refl refl;
+    row = λ r lt. bare_labels layers structs (row_cell plan kit d.bits n r) (each_row (IsDrawn layers structs) plan kit d.bits n draws.row r lt) refl refl;
+    array = bare_labels layers structs (array_cell plan kit d.bits n) draws.array refl refl;
     pre = bare_labels layers structs (pre_cell plan kit n) draws.pre refl refl;
     data_ = bare_labels layers structs (data_cell plan kit d.floorplan n) draws.data_ refl refl;
   };
@@ -150,15 +151,15 @@ macros_are_flat layers structs plan kit n d draws = record { shapes = shapes; la
         let flat = cells_are_flat layers structs (macro_cell plan d.floorplan n d.wires d.labels) draws.macro draws.macro_on s in (
           λ f. elim (flat.0 f) [
             | inl w ↦ inl w
-            | inr t ↦ elim (leaves_of_macro IsShapeTaken Flat Own plan kit d.floorplan n d.bank_wires d.wires d.labels shape_opens at_both parts s t) [
+            | inr t ↦ elim (leaves_of_macro IsShapeTaken Flat Own plan kit d.bits d.floorplan n d.bank_wires d.wires d.labels shape_opens at_both parts s t) [
               | inl own ↦ inr (inl (wire_of_banks layers plan n d s own))
               | inr l ↦ inr (inr l)
             ]
           ],
           λ in_layout. flat.1 (elim in_layout [
             | inl w ↦ inl w
-            | inr (inl w) ↦ inr (macro_of_own IsShapeTaken Flat Own plan kit d.floorplan n d.bank_wires d.wires d.labels shape_opens parts s (own_of_banks layers plan n d s w))
-            | inr (inr l) ↦ inr (macro_of_leaf IsShapeTaken Flat Own plan kit d.floorplan n d.bank_wires d.wires d.labels shape_opens both_at parts s l)
+            | inr (inl w) ↦ inr (macro_of_own IsShapeTaken Flat Own plan kit d.bits d.floorplan n d.bank_wires d.wires d.labels shape_opens parts s (own_of_banks layers plan n d s w))
+            | inr (inr l) ↦ inr (macro_of_leaf IsShapeTaken Flat Own plan kit d.bits d.floorplan n d.bank_wires d.wires d.labels shape_opens both_at parts s l)
           ]),
         )
 
@@ -170,14 +171,14 @@ macros_are_flat layers structs plan kit n d draws = record { shapes = shapes; la
         let flat = labels_are_flat layers structs (macro_cell plan d.floorplan n d.wires d.labels) draws.macro draws.macro_on label in (
           λ f. elim (flat.0 f) [
             | inl own ↦ inl own
-            | inr t ↦ elim (leaves_of_macro IsLabelTaken Flat Own plan kit d.floorplan n d.bank_wires d.wires d.labels label_opens label_at_both parts label t) [
+            | inr t ↦ elim (leaves_of_macro IsLabelTaken Flat Own plan kit d.bits d.floorplan n d.bank_wires d.wires d.labels label_opens label_at_both parts label t) [
               | inl own ↦ absurd (no_labels own.taken.has)
               | inr l ↦ inr l
             ]
           ],
           λ in_layout. flat.1 (elim in_layout [
             | inl own ↦ inl own
-            | inr l ↦ inr (macro_of_leaf IsLabelTaken Flat Own plan kit d.floorplan n d.bank_wires d.wires d.labels label_opens both_label_at parts label l)
+            | inr l ↦ inr (macro_of_leaf IsLabelTaken Flat Own plan kit d.bits d.floorplan n d.bank_wires d.wires d.labels label_opens both_label_at parts label l)
           ]),
         )
 
@@ -188,7 +189,7 @@ draws_macro layers kit_structs cells structs plan kit n d m =
     let drawn : (cell : DrawnCell) → Contains cells cell → IsDrawn layers structs cell = finished_cells_are_drawn layers kit_structs cells structs m.made m.differ in
     record {
       buildable = m.buildable;
-      row = drawn _ m.has.row;
+      row = λ r lt. drawn _ (m.has.row r lt);
       array = drawn _ m.has.array;
       pre = drawn _ m.has.pre;
       data_ = drawn _ m.has.data_;
@@ -210,7 +211,7 @@ alike layers structs kit_structs more cell parts whole =
     subst (λ (ss : List Structure). IsAlike layers ss kit_structs cell) (sym parts) (record { shapes = kept.shapes; labels = kept.labels })
 
 shapes_as : (layers : List Layer) (structs others : List Structure) (plan : Organization) (kit : LayoutKit) (d : Drawing) (s : Shape)
-    → ((leaf : LeafInstance) → HasLeafInstance plan leaf → (t : Shape) → IsFlatShape layers structs (leaf_cell plan kit leaf) t → IsFlatShape layers others (leaf_cell plan kit leaf) t)
+    → ((leaf : LeafInstance) → HasLeafInstance plan leaf → (t : Shape) → IsFlatShape layers structs (leaf_cell plan kit d.bits leaf) t → IsFlatShape layers others (leaf_cell plan kit d.bits leaf) t)
     → InLayout layers (IsFlatShape layers structs) plan kit d s → InLayout layers (IsFlatShape layers others) plan kit d s
 shapes_as layers structs others plan kit d s f (inl w) = inl w
 shapes_as layers structs others plan kit d s f (inr (inl w)) = inr (inl w)
@@ -219,11 +220,11 @@ shapes_as layers structs others plan kit d s f (inr (inr l)) = inr (inr (record 
   has = l.has;
   place = l.place;
   stands = l.stands;
-  taken = at_as (IsFlatShape layers structs (leaf_cell plan kit l.leaf)) (IsFlatShape layers others (leaf_cell plan kit l.leaf)) (leaf_item plan kit l.leaf l.place) s (f l.leaf l.has) l.taken;
+  taken = at_as (IsFlatShape layers structs (leaf_cell plan kit d.bits l.leaf)) (IsFlatShape layers others (leaf_cell plan kit d.bits l.leaf)) (leaf_item plan kit d.bits l.leaf l.place) s (f l.leaf l.has) l.taken;
 }))
 
 labels_as : (layers : List Layer) (structs others : List Structure) (plan : Organization) (kit : LayoutKit) (d : Drawing) (label : PlainLabel)
-    → ((leaf : LeafInstance) → HasLeafInstance plan leaf → (t : PlainLabel) → IsFlatLabel layers structs (leaf_cell plan kit leaf) t → IsFlatLabel layers others (leaf_cell plan kit leaf) t)
+    → ((leaf : LeafInstance) → HasLeafInstance plan leaf → (t : PlainLabel) → IsFlatLabel layers structs (leaf_cell plan kit d.bits leaf) t → IsFlatLabel layers others (leaf_cell plan kit d.bits leaf) t)
     → IsLayoutLabel layers (IsFlatLabel layers structs) plan kit d label → IsLayoutLabel layers (IsFlatLabel layers others) plan kit d label
 labels_as layers structs others plan kit d label f (inl own) = inl own
 labels_as layers structs others plan kit d label f (inr l) = inr (record {
@@ -231,13 +232,13 @@ labels_as layers structs others plan kit d label f (inr l) = inr (record {
   has = l.has;
   place = l.place;
   stands = l.stands;
-  taken = label_at_as (IsFlatLabel layers structs (leaf_cell plan kit l.leaf)) (IsFlatLabel layers others (leaf_cell plan kit l.leaf)) (leaf_item plan kit l.leaf l.place) label (f l.leaf l.has) l.taken;
+  taken = label_at_as (IsFlatLabel layers structs (leaf_cell plan kit d.bits l.leaf)) (IsFlatLabel layers others (leaf_cell plan kit d.bits l.leaf)) (leaf_item plan kit d.bits l.leaf l.place) label (f l.leaf l.has) l.taken;
 })
 
 pub flat_lists_are_layout : FlatListsAreLayout
 flat_lists_are_layout layers kit_structs cells structs plan kit n d m lists are =
     let flat = macros_are_flat layers structs plan kit n d (draws_macro layers kit_structs cells structs plan kit n d m) in
-    let same : (leaf : LeafInstance) → HasLeafInstance plan leaf → IsAlike layers structs kit_structs (leaf_cell plan kit leaf) = λ leaf has. alike layers structs kit_structs m.made.made (leaf_cell plan kit leaf) m.made.parts (m.complete leaf has) in
+    let same : (leaf : LeafInstance) → HasLeafInstance plan leaf → IsAlike layers structs kit_structs (leaf_cell plan kit d.bits leaf) = λ leaf has. alike layers structs kit_structs m.made.made (leaf_cell plan kit d.bits leaf) m.made.parts (m.complete leaf has) in
     record {
       shapes = λ s. (
         λ c. shapes_as layers structs kit_structs plan kit d s (λ leaf has t h. ((same leaf has).shapes t).0 h) ((flat.shapes s).0 ((are.shapes_exact s).0 c)),

@@ -6,14 +6,16 @@ use Rattle.cell_hierarchy.specs.FlatSet.{path_under}
 use Rattle.sram_netlist.specs.Organization.{Organization, bank_rows, columns_of, IsBuildable}
 use Rattle.sram_netlist.specs.Instances.{LogicCell, Clki, Csd, Wed, Csi, Wei, Wln, Wli, Wrn, Wri, Rdn, Rdi, Dlay, Senn, Seni, Ad, Ai, Dd, Dm, Pn, Pi, Ln, Li, Kn, Ki, Gn, Gi, LogicAt}
 use Rattle.sram_netlist.specs.Membership.{HasLogicCell, IsChoice}
+use Rattle.sram_netlist.specs.Netlist.{enable_count}
 use Rattle.sram_netlist.specs.Names.{LineKind, Column, Group, Bank, line_kind, with_number, bank_name, gate_name, inv_name, cell_name, leaf_name, leaf_path}
-use Rattle.sram_netlist.proofs.Bounds.{bounds, line_few}
+use Rattle.sram_netlist.specs.BitCells.{BitCells}
+use Rattle.sram_netlist.proofs.Bounds.{bounds, line_few, written_fits}
 use Rattle.sram_netlist.proofs.ChoiceLaws.{which}
 use Rattle.macro_layout.specs.LayoutKit.{LayoutKit}
 use Rattle.macro_layout.specs.Places.{Floorplan}
 use Rattle.macro_layout.specs.Cells.{column_leaf}
 use Rattle.macro_layout.proofs.NameLaws.{number_kept, decimal_kept}
-use Rattle.macro_layout.proofs.Parts.{lowered, Slot, BitSlot, GateSlot, DriverSlot, IsSlot, site_path, row_name, Spot, ArraySpot, PrechargeSpot, WriteSpot, SenseSpot, ColumnSpot, IsSpot, spot_item, leaf_of, leaf_in_row}
+use Rattle.macro_layout.proofs.Parts.{lowered, Slot, BitSlot, GateSlot, DriverSlot, IsSlot, site_path, row_instance_name, Spot, ArraySpot, PrechargeSpot, WriteSpot, SenseSpot, ColumnSpot, IsSpot, spot_item, leaf_of, leaf_in_row}
 
 -- up to 512 numbers
 pub few : (n : ℕ) → n ≤ 512 → n < 2 ^ 64
@@ -31,7 +33,7 @@ pub bank_kept : (m b : ℕ) → b < 2 ^ 64 → lowered (bank_name m b) ≡ bank_
 bank_kept zero b few = refl
 bank_kept (suc m) b few = λ i. 120 ∷ 98 ∷ 97 ∷ 110 ∷ 107 ∷ number_kept b few i
 
-row_kept : (r : ℕ) → r < 2 ^ 64 → lowered (row_name r) ≡ row_name r
+row_kept : (r : ℕ) → r < 2 ^ 64 → lowered (row_instance_name r) ≡ row_instance_name r
 row_kept r few = λ i. 120 ∷ 114 ∷ number_kept r few i
 
 -- paths of three and of four names
@@ -50,33 +52,33 @@ four_names a b c d =
 
 -- a leaf of a bank
 
-pub spot_path : (plan : Organization) (kit : LayoutKit) (floorplan : Floorplan) (b : ℕ) (spot : Spot) → b < 2 ^ 64 → bank_rows plan < 2 ^ 64 → columns_of plan < 2 ^ 64 → plan.word_size < 2 ^ 64 → IsSpot plan spot
-    → leaf_path plan (leaf_of plan b spot) ≡ path_under (lowered (bank_name plan.bank_bits b)) (spot_item plan kit floorplan spot).name
-spot_path plan kit floorplan b (ArraySpot site) b_few rows columns bits is = row_path site.slot is.slot
+pub spot_path : (plan : Organization) (kit : LayoutKit) (bits : BitCells) (floorplan : Floorplan) (b : ℕ) (spot : Spot) → b < 2 ^ 64 → bank_rows plan < 2 ^ 64 → columns_of plan < 2 ^ 64 → plan.word_size < 2 ^ 64 → IsSpot plan spot
+    → leaf_path plan (leaf_of plan b spot) ≡ path_under (lowered (bank_name plan.bank_bits b)) (spot_item plan kit bits floorplan spot).name
+spot_path plan kit bits floorplan b (ArraySpot site) b_few rows columns words is = row_path site.slot is.slot
   where
     r_few : site.row < 2 ^ 64
     r_few = let lt = is.row in omega (arith, lt, rows)
 
-    row_path : (slot : Slot) → IsSlot plan slot → leaf_path plan (leaf_in_row b site.row slot) ≡ path_under (lowered (bank_name plan.bank_bits b)) (path_under (codes "xarray") (site_path plan kit (record { row = site.row; slot = slot })))
+    row_path : (slot : Slot) → IsSlot plan slot → leaf_path plan (leaf_in_row b site.row slot) ≡ path_under (lowered (bank_name plan.bank_bits b)) (path_under (codes "xarray") (site_path plan kit bits (record { row = site.row; slot = slot })))
     row_path (BitSlot c) lt =
-        four_names (bank_name plan.bank_bits b) (codes "xarray") (row_name site.row) (with_number (codes "xb") c)
+        four_names (bank_name plan.bank_bits b) (codes "xarray") (row_instance_name site.row) (with_number (codes "xb") c)
         ∙ (λ i. sym (bank_kept plan.bank_bits b b_few) i ++ (47 ∷ (codes "xarray" ++ (47 ∷ (sym (row_kept site.row r_few) i ++ (47 ∷ 120 ∷ 98 ∷ sym (number_kept c (omega (arith, lt, columns))) i))))))
     row_path GateSlot lt =
-        four_names (bank_name plan.bank_bits b) (codes "xarray") (row_name site.row) (codes "xnand")
+        four_names (bank_name plan.bank_bits b) (codes "xarray") (row_instance_name site.row) (codes "xnand")
         ∙ (λ i. sym (bank_kept plan.bank_bits b b_few) i ++ (47 ∷ (codes "xarray" ++ (47 ∷ (sym (row_kept site.row r_few) i ++ (47 ∷ codes "xnand"))))))
     row_path DriverSlot lt =
-        four_names (bank_name plan.bank_bits b) (codes "xarray") (row_name site.row) (codes "xdrv")
+        four_names (bank_name plan.bank_bits b) (codes "xarray") (row_instance_name site.row) (codes "xdrv")
         ∙ (λ i. sym (bank_kept plan.bank_bits b b_few) i ++ (47 ∷ (codes "xarray" ++ (47 ∷ (sym (row_kept site.row r_few) i ++ (47 ∷ codes "xdrv"))))))
-spot_path plan kit floorplan b (PrechargeSpot c) b_few rows columns bits is =
+spot_path plan kit bits floorplan b (PrechargeSpot c) b_few rows columns words is =
     three_names (bank_name plan.bank_bits b) (codes "xpre") (with_number (codes "xp") c)
     ∙ (λ i. sym (bank_kept plan.bank_bits b b_few) i ++ (47 ∷ (codes "xpre" ++ (47 ∷ 120 ∷ 112 ∷ sym (number_kept c (omega (arith, is, columns))) i))))
-spot_path plan kit floorplan b (WriteSpot k) b_few rows columns bits is =
+spot_path plan kit bits floorplan b (WriteSpot k) b_few rows columns words is =
     three_names (bank_name plan.bank_bits b) (codes "xdata") (with_number (codes "xw") k)
-    ∙ (λ i. sym (bank_kept plan.bank_bits b b_few) i ++ (47 ∷ (codes "xdata" ++ (47 ∷ 120 ∷ 119 ∷ sym (number_kept k (omega (arith, is, bits))) i))))
-spot_path plan kit floorplan b (SenseSpot k) b_few rows columns bits is =
+    ∙ (λ i. sym (bank_kept plan.bank_bits b b_few) i ++ (47 ∷ (codes "xdata" ++ (47 ∷ 120 ∷ 119 ∷ sym (number_kept k (let fits = written_fits plan.write_size plan.word_size k is in omega (arith, fits, words))) i))))
+spot_path plan kit bits floorplan b (SenseSpot k) b_few rows columns words is =
     three_names (bank_name plan.bank_bits b) (codes "xdata") (with_number (codes "xs") k)
-    ∙ (λ i. sym (bank_kept plan.bank_bits b b_few) i ++ (47 ∷ (codes "xdata" ++ (47 ∷ 120 ∷ 115 ∷ sym (number_kept k (omega (arith, is, bits))) i))))
-spot_path plan kit floorplan b (ColumnSpot c) b_few rows columns bits is = column_path plan.col_bits
+    ∙ (λ i. sym (bank_kept plan.bank_bits b b_few) i ++ (47 ∷ (codes "xdata" ++ (47 ∷ 120 ∷ 115 ∷ sym (number_kept k (omega (arith, is, words))) i))))
+spot_path plan kit bits floorplan b (ColumnSpot c) b_few rows columns words is = column_path plan.col_bits
   where
     column_path : (m : ℕ) → leaf_path plan (column_leaf m b c) ≡ path_under (lowered (bank_name plan.bank_bits b)) (path_under (codes "xdata") (lowered (leaf_name plan (column_leaf m 0 c))))
     column_path zero =
@@ -117,7 +119,7 @@ small_kind plan o b p choice = elim (which plan o b p choice) [
 pub cell_plain : (plan : Organization) (cell : LogicCell) → IsBuildable plan → HasLogicCell plan cell → IsPlain (cell_name plan cell)
 cell_plain plan (Ad i) p h = let n = (bounds plan p).address in record { lower = λ j. 120 ∷ 97 ∷ 100 ∷ number_kept i (omega (arith, h, n)) j; some = λ e. absurd cc }
 cell_plain plan (Ai i) p h = let n = (bounds plan p).address in record { lower = λ j. 120 ∷ 97 ∷ 105 ∷ number_kept i (omega (arith, h, n)) j; some = λ e. absurd cc }
-cell_plain plan (Dd i) p h = let n = (bounds plan p).words in record { lower = λ j. 120 ∷ 100 ∷ 100 ∷ number_kept i (omega (arith, h, n)) j; some = λ e. absurd cc }
+cell_plain plan (Dd i) p h = let n = (bounds plan p).words in let lt = written_fits plan.write_size plan.word_size i h in record { lower = λ j. 120 ∷ 100 ∷ 100 ∷ number_kept i (omega (arith, lt, n)) j; some = λ e. absurd cc }
 cell_plain plan (Dm i) p h = let n = (bounds plan p).masks in record { lower = λ j. 120 ∷ 100 ∷ 109 ∷ number_kept i (omega (arith, h, n)) j; some = λ e. absurd cc }
 cell_plain plan (Pn o b k) p h = gate_plain (line_kind plan o) k (small_kind plan o b p h.0) (line_few plan o b k p h.0 h.1)
 cell_plain plan (Pi o b k) p h = inv_plain (line_kind plan o) k (small_kind plan o b p h.0) (line_few plan o b k p h.0 h.1)
@@ -129,13 +131,13 @@ cell_plain plan (Gn b m) p h =
     let n = (bounds plan p).banks in
     let k = (bounds plan p).enables in
     let lt = h.0.0 in
-    let lt2 = h.0.1 in
+    let lt2 = written_fits plan.write_size (enable_count plan.masks) m h.0.1 in
     record { lower = λ j. 120 ∷ 103 ∷ 110 ∷ numbers_kept b m (omega (arith, lt, n)) (omega (arith, lt2, k)) j; some = λ e. absurd cc }
 cell_plain plan (Gi b m) p h =
     let n = (bounds plan p).banks in
     let k = (bounds plan p).enables in
     let lt = h.0.0 in
-    let lt2 = h.0.1 in
+    let lt2 = written_fits plan.write_size (enable_count plan.masks) m h.0.1 in
     record { lower = λ j. 120 ∷ 103 ∷ 105 ∷ numbers_kept b m (omega (arith, lt, n)) (omega (arith, lt2, k)) j; some = λ e. absurd cc }
 cell_plain plan Clki p h = record { lower = refl; some = λ e. absurd cc }
 cell_plain plan Csd p h = record { lower = refl; some = λ e. absurd cc }

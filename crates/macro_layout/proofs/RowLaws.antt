@@ -11,6 +11,7 @@ use Rattle.sram_netlist.specs.Instances.{LogicCell, LogicAt}
 use Rattle.sram_netlist.specs.Netlist.{role}
 use Rattle.sram_netlist.specs.InstanceList.{logic_cells, tabulate_lists, bank_leaves}
 use Rattle.sram_netlist.specs.Membership.{IsOneOf, HasLogicCell}
+use Rattle.sram_netlist.specs.BitCells.{BitCells}
 use Rattle.sram_netlist.proofs.InstanceLists.{lists_agree}
 use Rattle.macro_layout.specs.LayoutKit.{LayoutKit}
 use Rattle.macro_layout.specs.Places.{Floorplan, upright, total_width, leaf_item}
@@ -94,9 +95,9 @@ zero_plus t = omega arith
 seat_place : (x u : ℤ) (p : Point) → placed (upright (x +ℤ u) (pos 0)) p ≡ placed (upright x (pos 0)) (placed (upright u (pos 0)) p)
 seat_place x u p = same_point _ _ (omega (arith, ints)) (omega (arith, ints))
 
-pub seat_beside : (plan : Organization) (kit : LayoutKit) (floorplan : Floorplan) (n : List ℕ) (seat : Seat) → IsBuildable plan → IsSeat (logic_cells plan) seat
-    → StandsBeside (item_of (logic_at floorplan n)) (seat_item_at plan kit 0 seat) (leaf_item plan kit (LogicAt seat.cell) (upright (floorplan.logic_x +ℤ pos (total_width plan kit seat.before)) (pos 0)))
-seat_beside plan kit floorplan n seat buildable is =
+pub seat_beside : (plan : Organization) (kit : LayoutKit) (bits : BitCells) (floorplan : Floorplan) (n : List ℕ) (seat : Seat) → IsBuildable plan → IsSeat (logic_cells plan) seat
+    → StandsBeside (item_of (logic_at floorplan n)) (seat_item_at plan kit 0 seat) (leaf_item plan kit bits (LogicAt seat.cell) (upright (floorplan.logic_x +ℤ pos (total_width plan kit seat.before)) (pos 0)))
+seat_beside plan kit bits floorplan n seat buildable is =
     let plain = cell_plain plan seat.cell buildable (has_seat plan seat is) in
     record {
       nested = record {

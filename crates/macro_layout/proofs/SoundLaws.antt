@@ -17,17 +17,18 @@ use Rattle.sram_netlist.specs.Organization.{Organization, bank_rows, columns_of,
 use Rattle.sram_netlist.specs.Instances.{LeafInstance, BitAt, NandAt, DriverAt, PrechargeAt, WriteAt, SenseAt, LogicAt}
 use Rattle.sram_netlist.specs.InstanceList.{tabulate, logic_cells}
 use Rattle.sram_netlist.specs.Membership.{HasLeafInstance}
+use Rattle.sram_netlist.specs.BitCells.{row_name}
 use Rattle.sram_netlist.proofs.Bounds.{twice_above}
 use Rattle.macro_layout.specs.LayoutKit.{LayoutKit}
 use Rattle.macro_layout.specs.Places.{leaf_cell}
-use Rattle.macro_layout.specs.Cells.{row_cell, row_cell_name, row_at, array_cell, array_cell_name, pre_cell, pre_cell_name, precharge_at, data_cell, data_cell_name, column_leaf, bank_cell, bank_cell_name, array_at, pre_at, data_at, logic_row_cell, logic_cell_name, logic_at, bank_at, macro_cell}
+use Rattle.macro_layout.specs.Cells.{row_cell, row_at, array_cell, array_cell_name, pre_cell, pre_cell_name, precharge_at, data_cell, data_cell_name, column_leaf, bank_cell, bank_cell_name, array_at, pre_at, data_at, logic_row_cell, logic_cell_name, logic_at, bank_at, macro_cell}
 use Rattle.macro_layout.specs.Layout.{Drawing, IsMacroOf}
 use Rattle.macro_layout.specs.Sound.{IsSoundWithin, MacrosAreSound}
 use Rattle.macro_layout.proofs.TakenLaws.{taken_none, taken_cases, numbered_taken}
-use Rattle.macro_layout.proofs.Parts.{Slot, BitSlot, GateSlot, DriverSlot, IsSlot, slot_item}
+use Rattle.macro_layout.proofs.Parts.{each_row, Slot, BitSlot, GateSlot, DriverSlot, IsSlot, slot_item}
 use Rattle.macro_layout.proofs.BankLaws.{slots_of_row, data_leaf}
 use Rattle.macro_layout.proofs.RowLaws.{seats_of_row, has_seat}
-use Rattle.macro_layout.proofs.MacroLaws.{column_has}
+use Rattle.macro_layout.proofs.MacroLaws.{same_column, column_has}
 
 -- a macro over a kit whose leaves are sound
 record Setting : Type 0 where
@@ -41,7 +42,7 @@ record Setting : Type 0 where
   d : Drawing
   depth : ℕ
   is : IsMacroOf layers kit_structs cells structs plan kit n d
-  sound : (leaf : LeafInstance) → HasLeafInstance plan leaf → IsSoundWithin depth kit_structs (leaf_cell plan kit leaf)
+  sound : (leaf : LeafInstance) → HasLeafInstance plan leaf → IsSoundWithin depth kit_structs (leaf_cell plan kit d.bits leaf)
 
 -- chains
 
@@ -53,13 +54,13 @@ chain_joined structs from middle to (item ∷ items) second h g = (h.0, chain_jo
 record InKit (s : Setting) (name : List ℕ) : Type 0 where
   leaf : LeafInstance
   has : HasLeafInstance s.plan leaf
-  reached : Reaches s.kit_structs (leaf_cell s.plan s.kit leaf) name
+  reached : Reaches s.kit_structs (leaf_cell s.plan s.kit s.d.bits leaf) name
 
 -- The name is of a cell on this level: a leaf's cell or one below it; one whose instances are leaves; the array; the bank; the
 -- macro.
 abbrev IsOnLevel : Setting → ℕ → List ℕ → Type 0
 IsOnLevel s zero name = InKit s name
-IsOnLevel s (suc zero) name = (name ≡ row_cell_name s.n) ⊎ ((name ≡ pre_cell_name s.n) ⊎ ((name ≡ data_cell_name s.n) ⊎ (name ≡ logic_cell_name s.n)))
+IsOnLevel s (suc zero) name = ((r : ℕ) × (r < bank_rows s.plan) × (name ≡ row_name s.d.bits s.n r)) ⊎ ((name ≡ pre_cell_name s.n) ⊎ ((name ≡ data_cell_name s.n) ⊎ (name ≡ logic_cell_name s.n)))
 IsOnLevel s (suc (suc zero)) name = name ≡ array_cell_name s.n
 IsOnLevel s (suc (suc (suc zero))) name = name ≡ bank_cell_name s.n
 IsOnLevel s (suc (suc (suc (suc zero)))) name = name ≡ s.n
@@ -88,9 +89,13 @@ drawn_in s cell among = finished_cells_are_drawn s.layers s.kit_structs s.cells 
 item_in : (s : Setting) (cell : DrawnCell) (name : List ℕ) (item : Item) → Contains s.cells cell → name ≡ cell.name → IsItemOf s.structs name item → IsTakenOver Refers IsName cell.instances item.cell
 item_in s cell name item among e h = referred s.layers s.structs cell item (drawn_in s cell among) (subst (λ (x : List ℕ). IsItemOf s.structs x item) e h)
 
+-- a row's cell
+row_among : (s : Setting) (r : ℕ) → r < bank_rows s.plan → Contains s.cells (row_cell s.plan s.kit s.d.bits s.n r)
+row_among s r lt = each_row (Contains s.cells) s.plan s.kit s.d.bits s.n s.is.has.row r lt
+
 -- leaves
 
-leaf_in_kit : (s : Setting) (leaf : LeafInstance) (k : ℕ) (name : List ℕ) → HasLeafInstance s.plan leaf → leaf_cell s.plan s.kit leaf ≡ name → 0 < k → IsBelowLevel s k name
+leaf_in_kit : (s : Setting) (leaf : LeafInstance) (k : ℕ) (name : List ℕ) → HasLeafInstance s.plan leaf → leaf_cell s.plan s.kit s.d.bits leaf ≡ name → 0 < k → IsBelowLevel s k name
 leaf_in_kit s leaf k name has e some = record { level = 0; below = some; on = record { leaf = leaf; has = has; reached = record { chain = []; leads = sym e } } }
 
 some_bank : (plan : Organization) → 0 < banks_of plan
@@ -99,13 +104,13 @@ some_bank plan = let t = twice_above plan.bank_bits in omega (arith, t)
 some_row : (plan : Organization) → 0 < bank_rows plan
 some_row plan = let t = twice_above (total_bits plan.groups) in omega (arith, t)
 
-slot_in_kit : (s : Setting) (slot : Slot) (name : List ℕ) → IsSlot s.plan slot → (slot_item s.plan s.kit slot).cell ≡ name → IsBelowLevel s 1 name
-slot_in_kit s (BitSlot c) name is e = leaf_in_kit s (BitAt 0 0 c) 1 name (some_bank s.plan, (some_row s.plan, is)) e (omega arith)
-slot_in_kit s GateSlot name is e = leaf_in_kit s (NandAt 0 0) 1 name (some_bank s.plan, some_row s.plan) e (omega arith)
-slot_in_kit s DriverSlot name is e = leaf_in_kit s (DriverAt 0 0) 1 name (some_bank s.plan, some_row s.plan) e (omega arith)
+slot_in_kit : (s : Setting) (r : ℕ) (slot : Slot) (name : List ℕ) → r < bank_rows s.plan → IsSlot s.plan slot → (slot_item s.plan s.kit s.d.bits r slot).cell ≡ name → IsBelowLevel s 1 name
+slot_in_kit s r (BitSlot c) name lt is e = leaf_in_kit s (BitAt 0 r c) 1 name (some_bank s.plan, (lt, is)) e (omega arith)
+slot_in_kit s r GateSlot name lt is e = leaf_in_kit s (NandAt 0 0) 1 name (some_bank s.plan, some_row s.plan) e (omega arith)
+slot_in_kit s r DriverSlot name lt is e = leaf_in_kit s (DriverAt 0 0) 1 name (some_bank s.plan, some_row s.plan) e (omega arith)
 
-below_row : (s : Setting) (name : List ℕ) → IsTakenOver Refers IsName (row_cell s.plan s.kit s.n).instances name → IsBelowLevel s 1 name
-below_row s name t = let l = slots_of_row Refers IsName s.plan s.kit s.n name t in slot_in_kit s l.index name l.is l.taken
+below_row : (s : Setting) (r : ℕ) (name : List ℕ) → r < bank_rows s.plan → IsTakenOver Refers IsName (row_cell s.plan s.kit s.d.bits s.n r).instances name → IsBelowLevel s 1 name
+below_row s r name lt t = let l = slots_of_row Refers IsName s.plan s.kit s.d.bits s.n r name t in slot_in_kit s r l.index name lt l.is l.taken
 
 below_pre : (s : Setting) (name : List ℕ) → IsTakenOver Refers IsName (pre_cell s.plan s.kit s.n).instances name → IsBelowLevel s 1 name
 below_pre s name t =
@@ -116,7 +121,7 @@ below_data : (s : Setting) (name : List ℕ) → IsTakenOver Refers IsName (data
 below_data s name t = elim (data_leaf Refers IsName s.plan s.kit s.d.floorplan s.n name t) [
   | inl w ↦ leaf_in_kit s (WriteAt 0 w.index) 1 name (some_bank s.plan, w.is) w.taken (omega arith)
   | inr (inl r) ↦ leaf_in_kit s (SenseAt 0 r.index) 1 name (some_bank s.plan, r.is) r.taken (omega arith)
-  | inr (inr c) ↦ leaf_in_kit s (column_leaf s.plan.col_bits 0 c.index) 1 name (column_has s.plan s.plan.col_bits 0 c.index refl (some_bank s.plan) c.is) c.taken (omega arith)
+  | inr (inr c) ↦ leaf_in_kit s (column_leaf s.plan.col_bits 0 c.index) 1 name (column_has s.plan s.plan.col_bits 0 c.index refl (some_bank s.plan) c.is) (same_column s.plan s.kit s.d.bits s.plan.col_bits 0 c.index ∙ c.taken) (omega arith)
 ]
 
 below_logic : (s : Setting) (name : List ℕ) → IsTakenOver Refers IsName (logic_row_cell s.plan s.kit s.n).instances name → IsBelowLevel s 1 name
@@ -124,10 +129,10 @@ below_logic s name t =
     let l = seats_of_row Refers IsName s.plan s.kit 0 (logic_cells s.plan) name t in
     leaf_in_kit s (LogicAt l.index.cell) 1 name (has_seat s.plan l.index l.is) l.taken (omega arith)
 
-below_array : (s : Setting) (name : List ℕ) → IsTakenOver Refers IsName (array_cell s.plan s.kit s.n).instances name → IsBelowLevel s 2 name
+below_array : (s : Setting) (name : List ℕ) → IsTakenOver Refers IsName (array_cell s.plan s.kit s.d.bits s.n).instances name → IsBelowLevel s 2 name
 below_array s name t =
-    let m = numbered_taken Refers IsName (row_at s.kit s.n) (bank_rows s.plan) name t in
-    record { level = 1; below = omega arith; on = inl (sym m.taken) }
+    let m = numbered_taken Refers IsName (row_at s.kit s.d.bits s.n) (bank_rows s.plan) name t in
+    record { level = 1; below = omega arith; on = inl (m.number, m.below, sym m.taken) }
 
 below_bank : (s : Setting) (name : List ℕ) → IsTakenOver Refers IsName (bank_cell s.plan s.kit s.d.floorplan s.n s.d.bank_wires).instances name → IsBelowLevel s 3 name
 below_bank s name t = elim (taken_cases Refers IsName (array_at s.d.floorplan s.n) (pre_at s.plan s.kit s.d.floorplan s.n ∷ data_at s.plan s.kit s.d.floorplan s.n ∷ []) name t) [
@@ -149,11 +154,11 @@ below_macro s name t = elim (taken_cases Refers IsName (logic_at s.d.floorplan s
 
 -- an instance of a cell of the macro is on a lower level
 step_down : (s : Setting) (k : ℕ) (name : List ℕ) (item : Item) → IsOnLevel s (suc k) name → IsItemOf s.structs name item → IsBelowLevel s (suc k) item.cell
-step_down s zero name item (inl e) h = below_row s item.cell (item_in s (row_cell s.plan s.kit s.n) name item s.is.has.row e h)
+step_down s zero name item (inl o) h = below_row s o.0 item.cell o.1 (item_in s (row_cell s.plan s.kit s.d.bits s.n o.0) name item (row_among s o.0 o.1) o.2 h)
 step_down s zero name item (inr (inl e)) h = below_pre s item.cell (item_in s (pre_cell s.plan s.kit s.n) name item s.is.has.pre e h)
 step_down s zero name item (inr (inr (inl e))) h = below_data s item.cell (item_in s (data_cell s.plan s.kit s.d.floorplan s.n) name item s.is.has.data_ e h)
 step_down s zero name item (inr (inr (inr e))) h = below_logic s item.cell (item_in s (logic_row_cell s.plan s.kit s.n) name item s.is.has.logic e h)
-step_down s (suc zero) name item e h = below_array s item.cell (item_in s (array_cell s.plan s.kit s.n) name item s.is.has.array e h)
+step_down s (suc zero) name item e h = below_array s item.cell (item_in s (array_cell s.plan s.kit s.d.bits s.n) name item s.is.has.array e h)
 step_down s (suc (suc zero)) name item e h = below_bank s item.cell (item_in s (bank_cell s.plan s.kit s.d.floorplan s.n s.d.bank_wires) name item s.is.has.bank e h)
 step_down s (suc (suc (suc zero))) name item e h = below_macro s item.cell (item_in s (macro_cell s.plan s.d.floorplan s.n s.d.wires s.d.labels) name item s.is.has.macro e h)
 step_down s (suc (suc (suc (suc k)))) name item none h = absurd none
@@ -173,7 +178,7 @@ next_in_kit : (s : Setting) (name : List ℕ) (item : Item) → InKit s name →
 next_in_kit s name item k h = record {
   leaf = k.leaf;
   has = k.has;
-  reached = record { chain = k.reached.chain ++ item ∷ []; leads = chain_joined s.kit_structs (leaf_cell s.plan s.kit k.leaf) name item.cell k.reached.chain (item ∷ []) k.reached.leads (h, refl) };
+  reached = record { chain = k.reached.chain ++ item ∷ []; leads = chain_joined s.kit_structs (leaf_cell s.plan s.kit s.d.bits k.leaf) name item.cell k.reached.chain (item ∷ []) k.reached.leads (h, refl) };
 }
 
 chain_in_kit : (s : Setting) (name to : List ℕ) (chain : List Item) → InKit s name → IsChain s.structs name chain to → IsChain s.kit_structs name chain to
@@ -201,7 +206,7 @@ end_level s (suc k) name to (item ∷ items) on h =
 short_from : (s : Setting) (k : ℕ) (name to : List ℕ) (chain : List Item) → IsOnLevel s k name → IsChain s.structs name chain to → length chain ≤ s.depth + k
 short_from s k name to [] on h = omega arith
 short_from s zero name to (item ∷ items) on h =
-    let whole = chain_joined s.kit_structs (leaf_cell s.plan s.kit on.leaf) name to on.reached.chain (item ∷ items) on.reached.leads (chain_in_kit s name to (item ∷ items) on h) in
+    let whole = chain_joined s.kit_structs (leaf_cell s.plan s.kit s.d.bits on.leaf) name to on.reached.chain (item ∷ items) on.reached.leads (chain_in_kit s name to (item ∷ items) on h) in
     let le = (s.sound on.leaf on.has).short (on.reached.chain ++ (item ∷ items)) to whole in
     let e = length-append on.reached.chain (item ∷ items) in
     omega (arith, le, e)
@@ -245,11 +250,11 @@ there_kept (u ∷ us) more name (inr there) = inr (there_kept us more name there
 
 there_on : (s : Setting) (k : ℕ) (name : List ℕ) → IsOnLevel s k name → IsThere s.structs name
 there_on s zero name on = subst (λ (structs : List Structure). IsThere structs name) (sym s.is.made.parts) (there_kept s.kit_structs s.is.made.made name (there_in_kit s name on))
-there_on s (suc zero) name (inl e) = there_cell s (row_cell s.plan s.kit s.n) name s.is.has.row e
+there_on s (suc zero) name (inl o) = there_cell s (row_cell s.plan s.kit s.d.bits s.n o.0) name (row_among s o.0 o.1) o.2
 there_on s (suc zero) name (inr (inl e)) = there_cell s (pre_cell s.plan s.kit s.n) name s.is.has.pre e
 there_on s (suc zero) name (inr (inr (inl e))) = there_cell s (data_cell s.plan s.kit s.d.floorplan s.n) name s.is.has.data_ e
 there_on s (suc zero) name (inr (inr (inr e))) = there_cell s (logic_row_cell s.plan s.kit s.n) name s.is.has.logic e
-there_on s (suc (suc zero)) name e = there_cell s (array_cell s.plan s.kit s.n) name s.is.has.array e
+there_on s (suc (suc zero)) name e = there_cell s (array_cell s.plan s.kit s.d.bits s.n) name s.is.has.array e
 there_on s (suc (suc (suc zero))) name e = there_cell s (bank_cell s.plan s.kit s.d.floorplan s.n s.d.bank_wires) name s.is.has.bank e
 there_on s (suc (suc (suc (suc zero)))) name e = there_cell s (macro_cell s.plan s.d.floorplan s.n s.d.wires s.d.labels) name s.is.has.macro e
 there_on s (suc (suc (suc (suc (suc k))))) name none = absurd none

@@ -121,7 +121,7 @@ banks_as_stated layers plan kit wire tracks d s same = (
 )
 
 shapes_as_stated : (layers : List Layer) (Flat : List ℕ → Shape → Type 0) (plan : Organization) (kit : LayoutKit) (wire : Wire) (tracks : Tracks) (d : Drawing) (s : Shape) → IsDrawnAs plan kit wire tracks d
-    → InLayout layers Flat plan kit d s ↔ IsInMacro layers Flat plan kit wire tracks d.floorplan s
+    → InLayout layers Flat plan kit d s ↔ IsInMacro layers Flat plan kit d.bits wire tracks d.floorplan s
 shapes_as_stated layers Flat plan kit wire tracks d s drawn =
     let own = own_as_stated layers d.wires (IsWireInMacro plan kit wire tracks d.floorplan) s drawn.wires in
     let banks = banks_as_stated layers plan kit wire tracks d s drawn.bank_wires in (
@@ -130,7 +130,7 @@ shapes_as_stated layers Flat plan kit wire tracks d s drawn =
     )
 
 labels_as_stated : (layers : List Layer) (Flat : List ℕ → PlainLabel → Type 0) (plan : Organization) (kit : LayoutKit) (wire : Wire) (tracks : Tracks) (d : Drawing) (label : PlainLabel) → IsDrawnAs plan kit wire tracks d
-    → IsLayoutLabel layers Flat plan kit d label ↔ IsMacroLabel layers Flat plan kit wire tracks d.floorplan label
+    → IsLayoutLabel layers Flat plan kit d label ↔ IsMacroLabel layers Flat plan kit d.bits wire tracks d.floorplan label
 labels_as_stated layers Flat plan kit wire tracks d label drawn =
     let own = label_as_stated layers d.labels (IsLabelInMacro plan kit wire tracks d.floorplan) label drawn.labels in (
       λ l. elim l [ inl o ↦ inl (own.0 o) | inr leaf ↦ inr leaf ],

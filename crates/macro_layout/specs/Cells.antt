@@ -4,18 +4,16 @@ use Rattle.or_geom.specs.declared.shape.Shape.{Shape}
 use Rattle.cell_builder.specs.declared.cell.PlacedInstance.{PlacedInstance}
 use Rattle.cell_builder.specs.declared.cell.PlacedLabel.{PlacedLabel}
 use Rattle.cell_builder.specs.declared.cell.DrawnCell.{DrawnCell}
-use Rattle.sram_netlist.specs.Organization.{Organization, bank_rows, columns_of, banks_of, words_per_row}
+use Rattle.sram_netlist.specs.Organization.{Organization, inputs_of, bank_rows, columns_of, banks_of, words_per_row}
 use Rattle.sram_netlist.specs.Instances.{LogicCell, LeafInstance, BitAt, NandAt, DriverAt, PrechargeAt, WriteAt, SenseAt, MuxAt, TieAt, LogicAt}
 use Rattle.sram_netlist.specs.Netlist.{role}
 use Rattle.sram_netlist.specs.InstanceList.{tabulate, logic_cells}
 use Rattle.sram_netlist.specs.Names.{with_number, bank_name, leaf_name}
+use Rattle.sram_netlist.specs.BitCells.{BitCells, bit_cell, row_name}
 use Rattle.macro_layout.specs.LayoutKit.{LayoutKit}
-use Rattle.macro_layout.specs.Places.{Floorplan, upright, gate_width, drive_width, bit_width, in_row_at, columns_x, leaf_cell}
+use Rattle.macro_layout.specs.Places.{Floorplan, upright, gate_width, drive_width, bit_width, in_row_at, columns_x}
 
--- The cells' names are the output name and these behind it.
-abbrev pub row_cell_name : List ℕ → List ℕ
-row_cell_name n = n ++ codes "_row"
-
+-- The cells' names are the output name and these behind it. (Those of rows are row_name.)
 abbrev pub array_cell_name : List ℕ → List ℕ
 array_cell_name n = n ++ codes "_array"
 
@@ -31,33 +29,33 @@ bank_cell_name n = n ++ codes "_bank"
 abbrev pub logic_cell_name : List ℕ → List ℕ
 logic_cell_name n = n ++ codes "_logic"
 
--- a leaf instance in its cell. (A cell is the same in all banks and rows, so that the first stand for all.)
+-- a leaf instance in its cell. (A cell is the same in all banks, so that the first stands for all.)
 abbrev pub leaf_in_cell : Organization → LayoutKit → LeafInstance → ℤ → ℤ → PlacedInstance
-leaf_in_cell plan kit leaf x y = record { name = leaf_name plan leaf; of = leaf_cell plan kit leaf; place = upright x y }
+leaf_in_cell plan kit leaf x y = record { name = leaf_name plan leaf; of = kit.cell (role plan leaf); place = upright x y }
 
 -- a cell without wires and labels
 abbrev pub bare_cell : List ℕ → List PlacedInstance → DrawnCell
 bare_cell name instances = record { name = name; instances = instances; wires = []; labels = [] }
 
--- A row: its gate, its driver and its bitcells, side by side.
+-- A row: its gate, its driver and the cells of its bits, side by side.
 abbrev pub row_gate_at : Organization → LayoutKit → PlacedInstance
 row_gate_at plan kit = leaf_in_cell plan kit (NandAt 0 0) (pos 0) (pos 0)
 
 abbrev pub row_driver_at : Organization → LayoutKit → PlacedInstance
 row_driver_at plan kit = leaf_in_cell plan kit (DriverAt 0 0) (pos (gate_width plan kit)) (pos 0)
 
-abbrev pub row_bit_at : Organization → LayoutKit → ℕ → PlacedInstance
-row_bit_at plan kit c = leaf_in_cell plan kit (BitAt 0 0 c) (pos (drive_width plan kit + c * bit_width kit)) (pos 0)
+abbrev pub row_bit_at : Organization → LayoutKit → BitCells → ℕ → ℕ → PlacedInstance
+row_bit_at plan kit bits r c = record { name = leaf_name plan (BitAt 0 r c); of = bit_cell bits r c; place = upright (pos (drive_width plan kit + c * bit_width kit)) (pos 0) }
 
-abbrev pub row_cell : Organization → LayoutKit → List ℕ → DrawnCell
-row_cell plan kit n = bare_cell (row_cell_name n) (row_gate_at plan kit ∷ row_driver_at plan kit ∷ tabulate (columns_of plan) (row_bit_at plan kit))
+abbrev pub row_cell : Organization → LayoutKit → BitCells → List ℕ → ℕ → DrawnCell
+row_cell plan kit bits n r = bare_cell (row_name bits n r) (row_gate_at plan kit ∷ row_driver_at plan kit ∷ tabulate (columns_of plan) (row_bit_at plan kit bits r))
 
 -- The array: its rows, of which every other one is mirrored.
-abbrev pub row_at : LayoutKit → List ℕ → ℕ → PlacedInstance
-row_at kit n r = record { name = with_number (codes "xr") r; of = row_cell_name n; place = in_row_at kit (pos 0) r (pos 0) }
+abbrev pub row_at : LayoutKit → BitCells → List ℕ → ℕ → PlacedInstance
+row_at kit bits n r = record { name = with_number (codes "xr") r; of = row_name bits n r; place = in_row_at kit (pos 0) r (pos 0) }
 
-abbrev pub array_cell : Organization → LayoutKit → List ℕ → DrawnCell
-array_cell plan kit n = bare_cell (array_cell_name n) (tabulate (bank_rows plan) (row_at kit n))
+abbrev pub array_cell : Organization → LayoutKit → BitCells → List ℕ → DrawnCell
+array_cell plan kit bits n = bare_cell (array_cell_name n) (tabulate (bank_rows plan) (row_at kit bits n))
 
 -- The precharge cells, one a column.
 abbrev pub precharge_at : Organization → LayoutKit → ℕ → PlacedInstance
@@ -86,7 +84,7 @@ abbrev pub column_at : Organization → LayoutKit → Floorplan → ℕ → Plac
 column_at plan kit floorplan c = leaf_in_cell plan kit (column_leaf plan.col_bits 0 c) (pos (c * bit_width kit)) (floorplan.column_y -ℤ floorplan.write_y)
 
 abbrev pub data_cell : Organization → LayoutKit → Floorplan → List ℕ → DrawnCell
-data_cell plan kit floorplan n = bare_cell (data_cell_name n) (tabulate plan.word_size (write_at plan kit)
+data_cell plan kit floorplan n = bare_cell (data_cell_name n) (tabulate (inputs_of plan) (write_at plan kit)
     ++ (tabulate plan.word_size (sense_at plan kit floorplan) ++ tabulate (columns_of plan) (column_at plan kit floorplan)))
 
 -- A bank: the array, the precharge cells and the data. Its lower edge is that of the data.

@@ -5,7 +5,7 @@ use Rattle.cell_roles.specs.declared.role.Role.TheVariants.{Precharge, Mux, Tie,
 use Rattle.tech_rules.specs.declared.tech.Wire.{Wire}
 use Rattle.tech_rules.specs.Drawing.{pitch}
 use Rattle.channel_router.specs.Wires.{channel_height}
-use Rattle.sram_netlist.specs.Organization.{Organization, power_of_two, bank_rows, columns_of}
+use Rattle.sram_netlist.specs.Organization.{Organization, power_of_two, bank_rows, columns_of, written_bits}
 use Rattle.macro_layout.specs.LayoutKit.{LayoutKit}
 use Rattle.macro_layout.specs.Places.{Floorplan, bit_width, bit_height, columns_x}
 
@@ -38,6 +38,10 @@ pub record Tracks : Type 0 where
   pub main : ℕ
   pub column : ℕ
 
+-- the height of the write row, which a read-only memory doesn't have
+abbrev pub write_height : Organization → LayoutKit → ℕ
+write_height plan kit = written_bits plan.write_size (kit.height Write)
+
 -- where the column channel begins
 abbrev pub column_channel_y : LayoutKit → Floorplan → ℤ
 column_channel_y kit floorplan = floorplan.sense_y +ℤ pos (kit.height Sense)
@@ -51,7 +55,7 @@ pub record IsFloorplan (plan : Organization) (kit : LayoutKit) (wire : Wire) (tr
   -- behind the last rail
   pub row_x : floorplan.row_x ≡ rail_x wire (rail_count plan)
   pub write_y : floorplan.write_y ≡ pos (kit.height Inv) +ℤ channel_height wire tracks.main
-  pub sense_y : floorplan.sense_y ≡ floorplan.write_y +ℤ pos (kit.height Write)
+  pub sense_y : floorplan.sense_y ≡ floorplan.write_y +ℤ pos (write_height plan kit)
   pub column_y : floorplan.column_y ≡ column_channel_y kit floorplan +ℤ channel_height wire tracks.column
   pub array_y : floorplan.array_y ≡ floorplan.column_y +ℤ pos (kit.height (column_role plan.col_bits))
   pub precharge_y : floorplan.precharge_y ≡ floorplan.array_y +ℤ pos (bank_rows plan * bit_height kit)

@@ -17,15 +17,18 @@ use Rattle.cell_builder.specs.declared.cell.DrawnCell.{DrawnCell}
 use Rattle.cell_builder.specs.Finish.{IsMade}
 use Rattle.cell_builder.specs.Flat.{IsShapeTaken, IsLabelTaken, IsDrawn, IsOwnWire, IsOwnLabel, HasLayers}
 use Rattle.cell_builder.specs.Libraries.{IsComplete}
-use Rattle.sram_netlist.specs.Organization.{Organization, IsBuildable, banks_of}
+use Rattle.sram_netlist.specs.Organization.{Organization, IsBuildable, bank_rows, banks_of}
 use Rattle.sram_netlist.specs.Instances.{LeafInstance}
 use Rattle.sram_netlist.specs.Membership.{HasLeafInstance}
+use Rattle.sram_netlist.specs.BitCells.{BitCells, row_kinds}
 use Rattle.macro_layout.specs.LayoutKit.{LayoutKit}
 use Rattle.macro_layout.specs.Places.{Floorplan, IsPlaceOf, leaf_cell, leaf_item}
 use Rattle.macro_layout.specs.Cells.{row_cell, array_cell, pre_cell, data_cell, bank_cell, logic_row_cell, macro_cell}
 
--- where the cells stand, the wires of each bank from the bank's lower left corner, and the macro's wires and labels
+-- which cells hold the bits, where the cells stand, the wires of each bank from the bank's lower left corner, and the macro's wires and
+-- labels
 pub record Drawing : Type 0 where
+  pub bits : BitCells
   pub floorplan : Floorplan
   pub bank_wires : List Shape
   pub wires : List Shape
@@ -47,26 +50,26 @@ pub record IsWireOfBanks (layers : List Layer) (plan : Organization) (d : Drawin
   pub wire : IsBankWire layers d.floorplan bank d.bank_wires s
 
 -- one of the leaf instances, at its place, takes x over from what is flat in its cell
-pub record IsOfLeaf {X : Type 0} (plan : Organization) (kit : LayoutKit) (floorplan : Floorplan) (Takes : Item → (X → Type 0) → X → Type 0) (Flat : List ℕ → X → Type 0) (x : X) : Type 0 where
+pub record IsOfLeaf {X : Type 0} (plan : Organization) (kit : LayoutKit) (bits : BitCells) (floorplan : Floorplan) (Takes : Item → (X → Type 0) → X → Type 0) (Flat : List ℕ → X → Type 0) (x : X) : Type 0 where
   pub leaf : LeafInstance
   pub has : HasLeafInstance plan leaf
   pub place : Place
   pub stands : IsPlaceOf plan kit floorplan leaf place
-  pub taken : Takes (leaf_item plan kit leaf place) (Flat (leaf_cell plan kit leaf)) x
+  pub taken : Takes (leaf_item plan kit bits leaf place) (Flat (leaf_cell plan kit bits leaf)) x
 
 -- The layout: the macro's wires, the wires of each bank, and the shapes of each leaf instance's cell at the instance's place.
 abbrev pub InLayout : List Layer → (List ℕ → Shape → Type 0) → Organization → LayoutKit → Drawing → Shape → Type 0
-InLayout layers Flat plan kit d s = IsOwnWire layers d.wires s ⊎ (IsWireOfBanks layers plan d s ⊎ IsOfLeaf plan kit d.floorplan IsShapeTaken Flat s)
+InLayout layers Flat plan kit d s = IsOwnWire layers d.wires s ⊎ (IsWireOfBanks layers plan d s ⊎ IsOfLeaf plan kit d.bits d.floorplan IsShapeTaken Flat s)
 
 -- Its labels: the macro's, and those of each leaf instance's cell, below the instance's path.
 abbrev pub IsLayoutLabel : List Layer → (List ℕ → PlainLabel → Type 0) → Organization → LayoutKit → Drawing → PlainLabel → Type 0
-IsLayoutLabel layers Flat plan kit d label = IsOwnLabel layers d.labels label ⊎ IsOfLeaf plan kit d.floorplan IsLabelTaken Flat label
+IsLayoutLabel layers Flat plan kit d label = IsOwnLabel layers d.labels label ⊎ IsOfLeaf plan kit d.bits d.floorplan IsLabelTaken Flat label
 
--- the library draws the macro's seven cells, for the output name n
+-- the library draws the macro's cells, those of its rows and six more, for the output name n
 pub record DrawsMacro (layers : List Layer) (structs : List Structure) (plan : Organization) (kit : LayoutKit) (n : List ℕ) (d : Drawing) : Type 0 where
   pub buildable : IsBuildable plan
-  pub row : IsDrawn layers structs (row_cell plan kit n)
-  pub array : IsDrawn layers structs (array_cell plan kit n)
+  pub row : (r : ℕ) → r < row_kinds d.bits (bank_rows plan) → IsDrawn layers structs (row_cell plan kit d.bits n r)
+  pub array : IsDrawn layers structs (array_cell plan kit d.bits n)
   pub pre : IsDrawn layers structs (pre_cell plan kit n)
   pub data_ : IsDrawn layers structs (data_cell plan kit d.floorplan n)
   pub bank : IsDrawn layers structs (bank_cell plan kit d.floorplan n d.bank_wires)
@@ -85,8 +88,8 @@ MacrosAreFlat = (layers : List Layer) (structs : List Structure) (plan : Organiz
 
 -- the macro's cells are among the cells
 pub record HasCells (cells : List DrawnCell) (plan : Organization) (kit : LayoutKit) (n : List ℕ) (d : Drawing) : Type 0 where
-  pub row : Contains cells (row_cell plan kit n)
-  pub array : Contains cells (array_cell plan kit n)
+  pub row : (r : ℕ) → r < row_kinds d.bits (bank_rows plan) → Contains cells (row_cell plan kit d.bits n r)
+  pub array : Contains cells (array_cell plan kit d.bits n)
   pub pre : Contains cells (pre_cell plan kit n)
   pub data_ : Contains cells (data_cell plan kit d.floorplan n)
   pub bank : Contains cells (bank_cell plan kit d.floorplan n d.bank_wires)
@@ -101,7 +104,7 @@ pub record IsMacroOf (layers : List Layer) (kit_structs : List Structure) (cells
   pub has : HasCells cells plan kit n d
   pub bank_on : HasLayers layers (bank_cell plan kit d.floorplan n d.bank_wires)
   pub macro_on : HasLayers layers (macro_cell plan d.floorplan n d.wires d.labels)
-  pub complete : (leaf : LeafInstance) → HasLeafInstance plan leaf → IsComplete kit_structs (leaf_cell plan kit leaf)
+  pub complete : (leaf : LeafInstance) → HasLeafInstance plan leaf → IsComplete kit_structs (leaf_cell plan kit d.bits leaf)
 
 -- The flat lists hold the layout, in which each leaf is what its cell is, flat, in the kit.
 pub record AreLayout (layers : List Layer) (kit_structs : List Structure) (plan : Organization) (kit : LayoutKit) (d : Drawing) (lists : FlatLists) : Type 0 where

@@ -14,6 +14,7 @@ use Rattle.cell_builder.specs.declared.cell.PlacedLabel.{PlacedLabel}
 use Rattle.cell_builder.specs.declared.cell.DrawnCell.{DrawnCell}
 use Rattle.cell_builder.specs.Flat.{IsShapeTaken, IsLabelTaken}
 use Rattle.sram_netlist.specs.Organization.{Organization, banks_of}
+use Rattle.sram_netlist.specs.BitCells.{BitCells}
 use Rattle.macro_layout.specs.LayoutKit.{LayoutKit}
 use Rattle.macro_layout.specs.Places.{Floorplan}
 use Rattle.macro_layout.specs.Floorplan.{Tracks, IsFloorplan}
@@ -57,14 +58,14 @@ pub record IsWireInBanks (plan : Organization) (kit : LayoutKit) (wire : Wire) (
   pub shifted : IsShifted (pos bank *ℤ floorplan.bank_width) (pos 0) inner s
 
 -- The layout: the macro's wires, those of its banks, and the shapes of each leaf instance's cell at the instance's place.
-abbrev pub IsInMacro : List Layer → (List ℕ → Shape → Type 0) → Organization → LayoutKit → Wire → Tracks → Floorplan → Shape → Type 0
-IsInMacro layers Flat plan kit wire tracks floorplan s =
-    IsOnFirstLayer layers (IsWireInMacro plan kit wire tracks floorplan) s ⊎ (IsOnFirstLayer layers (IsWireInBanks plan kit wire tracks floorplan) s ⊎ IsOfLeaf plan kit floorplan IsShapeTaken Flat s)
+abbrev pub IsInMacro : List Layer → (List ℕ → Shape → Type 0) → Organization → LayoutKit → BitCells → Wire → Tracks → Floorplan → Shape → Type 0
+IsInMacro layers Flat plan kit bits wire tracks floorplan s =
+    IsOnFirstLayer layers (IsWireInMacro plan kit wire tracks floorplan) s ⊎ (IsOnFirstLayer layers (IsWireInBanks plan kit wire tracks floorplan) s ⊎ IsOfLeaf plan kit bits floorplan IsShapeTaken Flat s)
 
 -- Its labels: the macro's, and those of each leaf instance's cell, below the instance's path.
-abbrev pub IsMacroLabel : List Layer → (List ℕ → PlainLabel → Type 0) → Organization → LayoutKit → Wire → Tracks → Floorplan → PlainLabel → Type 0
-IsMacroLabel layers Flat plan kit wire tracks floorplan label =
-    IsOnFirstTextLayer layers (IsLabelInMacro plan kit wire tracks floorplan) label ⊎ IsOfLeaf plan kit floorplan IsLabelTaken Flat label
+abbrev pub IsMacroLabel : List Layer → (List ℕ → PlainLabel → Type 0) → Organization → LayoutKit → BitCells → Wire → Tracks → Floorplan → PlainLabel → Type 0
+IsMacroLabel layers Flat plan kit bits wire tracks floorplan label =
+    IsOnFirstTextLayer layers (IsLabelInMacro plan kit wire tracks floorplan) label ⊎ IsOfLeaf plan kit bits floorplan IsLabelTaken Flat label
 
 -- a wire of bank 0, from the bank's lower left corner
 pub record IsWireOfCell (plan : Organization) (kit : LayoutKit) (wire : Wire) (tracks : Tracks) (floorplan : Floorplan) (s : Shape) : Type 0 where
@@ -80,11 +81,11 @@ pub record IsDrawnAs (plan : Organization) (kit : LayoutKit) (wire : Wire) (trac
   pub labels : (label : PlacedLabel) → Contains d.labels label ↔ IsLabelInMacro plan kit wire tracks d.floorplan label
 
 -- the flat lists hold the stated layout, in which each leaf is what its cell is, flat, in the kit
-pub record AreStated (layers : List Layer) (kit_structs : List Structure) (plan : Organization) (kit : LayoutKit) (wire : Wire) (tracks : Tracks) (floorplan : Floorplan) (lists : FlatLists) : Type 0 where
-  pub shapes : (s : Shape) → Contains lists.shapes s ↔ IsInMacro layers (IsFlatShape layers kit_structs) plan kit wire tracks floorplan s
-  pub labels : (label : PlainLabel) → Contains lists.labels label ↔ IsMacroLabel layers (IsFlatLabel layers kit_structs) plan kit wire tracks floorplan label
+pub record AreStated (layers : List Layer) (kit_structs : List Structure) (plan : Organization) (kit : LayoutKit) (bits : BitCells) (wire : Wire) (tracks : Tracks) (floorplan : Floorplan) (lists : FlatLists) : Type 0 where
+  pub shapes : (s : Shape) → Contains lists.shapes s ↔ IsInMacro layers (IsFlatShape layers kit_structs) plan kit bits wire tracks floorplan s
+  pub labels : (label : PlainLabel) → Contains lists.labels label ↔ IsMacroLabel layers (IsFlatLabel layers kit_structs) plan kit bits wire tracks floorplan label
 
 -- The flat lists of a macro that is drawn as stated are the stated layout.
 abbrev pub FlatListsAreStated : Type 0
 FlatListsAreStated = (layers : List Layer) (kit_structs : List Structure) (cells : List DrawnCell) (structs : List Structure) (plan : Organization) (kit : LayoutKit) (n : List ℕ) (d : Drawing) (wire : Wire) (tracks : Tracks)
-    → IsMacroOf layers kit_structs cells structs plan kit n d → IsDrawnAs plan kit wire tracks d → (lists : FlatLists) → AreFlatLists layers structs n lists → AreStated layers kit_structs plan kit wire tracks d.floorplan lists
+    → IsMacroOf layers kit_structs cells structs plan kit n d → IsDrawnAs plan kit wire tracks d → (lists : FlatLists) → AreFlatLists layers structs n lists → AreStated layers kit_structs plan kit d.bits wire tracks d.floorplan lists

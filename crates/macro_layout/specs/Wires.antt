@@ -7,7 +7,7 @@ use Rattle.cell_roles.specs.declared.role.Role.TheVariants.{Inv}
 use Rattle.tech_rules.specs.declared.tech.Wire.{Wire}
 use Rattle.tech_rules.specs.Drawing.{pitch, IsBox, IsVia}
 use Rattle.cell_builder.specs.declared.cell.PlacedLabel.{PlacedLabel}
-use Rattle.sram_netlist.specs.Organization.{Organization, bank_rows, columns_of, banks_of}
+use Rattle.sram_netlist.specs.Organization.{Organization, IsWritten, inputs_of, bank_rows, columns_of, banks_of}
 use Rattle.sram_netlist.specs.Nets.{Net}
 use Rattle.sram_netlist.specs.Instances.{LeafInstance, NandAt, DriverAt, PrechargeAt, SenseAt}
 use Rattle.sram_netlist.specs.InstanceList.{logic_cells}
@@ -70,9 +70,10 @@ pub record IsRailWire (plan : Organization) (kit : LayoutKit) (wire : Wire) (tra
 
 -- Other wires of bank 0
 
--- dout of a sense cell, down to the write cells' lower edge
+-- dout of a sense cell above a write cell, down to the write cells' lower edge
 pub record IsOutputWire (plan : Organization) (kit : LayoutKit) (wire : Wire) (floorplan : Floorplan) (s : Shape) : Type 0 where
   pub bit : ℕ
+  pub below : bit < inputs_of plan
   pub net : Net
   pub rect : Rect
   pub pin : IsPin plan kit floorplan (SenseAt 0 bit) 2 3 net rect
@@ -82,9 +83,9 @@ pub record IsOutputWire (plan : Organization) (kit : LayoutKit) (wire : Wire) (f
 abbrev pub columns_end : Organization → LayoutKit → Floorplan → ℤ
 columns_end plan kit floorplan = columns_x plan kit floorplan +ℤ pos (columns_of plan * bit_width kit)
 
--- along the upper rails of the write cells
+-- along the upper rails of the write cells, where there are any
 abbrev pub IsWriteJoiner : Organization → LayoutKit → Wire → Floorplan → Shape → Type 0
-IsWriteJoiner plan kit wire floorplan = IsBox (slice_index wire.metals 0) (columns_x plan kit floorplan) (floorplan.sense_y -ℤ wire.width) (columns_end plan kit floorplan) floorplan.sense_y
+IsWriteJoiner plan kit wire floorplan s = IsWritten plan × IsBox (slice_index wire.metals 0) (columns_x plan kit floorplan) (floorplan.sense_y -ℤ wire.width) (columns_end plan kit floorplan) floorplan.sense_y s
 
 -- along the upper rails of the columns' ends, and on to the rows' left end
 abbrev pub IsCornerJoiner : Organization → LayoutKit → Wire → Floorplan → Shape → Type 0
@@ -120,11 +121,12 @@ IsBar wire trunk x y s = IsBox (slice_index wire.metals 0) x y (trunk +ℤ wire.
 abbrev pub row_y : LayoutKit → Floorplan → ℕ → ℤ
 row_y kit floorplan r = floorplan.array_y +ℤ pos (r * bit_height kit)
 
--- Where bars begin: along each supply rail of the cells. Between two rows the rails coincide.
+-- Where bars begin: along each supply rail of the cells; that of the write cells where something is written. Between two rows the rails
+-- coincide.
 abbrev pub IsPowerBarAt : Organization → LayoutKit → Wire → Floorplan → ℤ → ℤ → Type 0
 IsPowerBarAt plan kit wire floorplan x y =
     ((x ≡ floorplan.logic_x) × (y ≡ pos (kit.height Inv) -ℤ wire.width))
-    ⊎ (((x ≡ columns_x plan kit floorplan) × (y ≡ floorplan.write_y))
+    ⊎ ((IsWritten plan × (x ≡ columns_x plan kit floorplan) × (y ≡ floorplan.write_y))
     ⊎ (((x ≡ columns_x plan kit floorplan) × (y ≡ column_channel_y kit floorplan -ℤ wire.width))
     ⊎ (((x ≡ columns_x plan kit floorplan) × (y ≡ floorplan.column_y))
     ⊎ (((r : ℕ) × (r < bank_rows plan) × (r % 2 ≡ 1) × (x ≡ floorplan.row_x) × (y ≡ row_y kit floorplan r))

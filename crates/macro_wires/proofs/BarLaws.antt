@@ -1,5 +1,5 @@
 -- Bars, and bars along every second row.
-use Rattle.std.proofs.Common.{◌≡◌, ◌⊎◌, inl, inr, ℕ, ◌+◌, ◌*◌, ◌%◌, ℤ, pos, ◌+ℤ◌, List, ◌∷◌, [], ◌++◌, subst, arith}
+use Rattle.std.proofs.Common.{◌≡◌, ◌⊎◌, inl, inr, ℕ, ◌+◌, ℤ, ◌+ℤ◌, List, ◌∷◌, [], ◌++◌, subst, arith}
 use Rattle.std.specs.Prelude.{slice_index}
 use Rattle.or_geom.specs.declared.shape.Shape.{Shape}
 use Rattle.or_geom.specs.Adds.{Adds}
@@ -35,13 +35,12 @@ bar_as wire a b c trunk x y old now adds behind left low =
     (subst (λ (z : ℤ). Adds old now (IsBar wire trunk z c)) left
     (subst (λ (z : ℤ). Adds old now (IsBar wire z b c)) behind adds))
 
--- a row that has a bar
-pub row_drawn : (wire : Wire) (trunk x y : ℤ) (height odd r : ℕ) (old now : List Shape) → r % 2 ≡ odd → Adds old now (IsBar wire trunk x (y +ℤ pos (r * height))) → Adds old now (IsBarOfRow wire trunk x y height odd r)
-row_drawn wire trunk x y height odd r old now parity adds = adds_as old now (IsBar wire trunk x (y +ℤ pos (r * height))) (IsBarOfRow wire trunk x y height odd r) (λ s is. (parity, is)) (λ s is. is.1) adds
+-- what is drawn where P holds
+pub adds_where : (P : Type 0) (Q : Shape → Type 0) (old now : List Shape) → P → Adds old now Q → Adds old now (λ s. P × Q s)
+adds_where P Q old now holds adds = adds_as old now Q (λ s. P × Q s) (λ s is. (holds, is)) (λ s is. is.1) adds
 
--- a row that has none
-pub row_skipped : (wire : Wire) (trunk x y : ℤ) (height odd r : ℕ) (old : List Shape) → (r % 2 ≡ odd → ⊥) → Adds old old (IsBarOfRow wire trunk x y height odd r)
-row_skipped wire trunk x y height odd r old other = adds_none old (IsBarOfRow wire trunk x y height odd r) (λ s is. other is.0)
+pub adds_nowhere : (P : Type 0) (Q : Shape → Type 0) (old : List Shape) → (P → ⊥) → Adds old old (λ s. P × Q s)
+adds_nowhere P Q old other = adds_none old (λ s. P × Q s) (λ s is. other is.0)
 
 -- a row more
 pub row_more : (wire : Wire) (trunk x y : ℤ) (height odd k : ℕ) (old now new : List Shape) → Adds old now (IsRowBar wire trunk x y height odd k) → Adds now new (IsBarOfRow wire trunk x y height odd k) → Adds old new (IsRowBar wire trunk x y height odd (k + 1))

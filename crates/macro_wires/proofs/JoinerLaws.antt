@@ -1,9 +1,9 @@
 -- Boxes further down, and the columns of a plan.
-use Rattle.std.proofs.Common.{◌≡◌, ◌⊎◌, inl, inr, ℕ, ◌<◌, ℤ, pos, ◌+ℤ◌, ◌-ℤ◌, ◌<ℤ◌, ◌≤ℤ◌, ◌≤◌, w64, to_z, of_z, FitsSigned, List, refl, sym, ◌∙◌, arith}
+use Rattle.std.proofs.Common.{◌≡◌, ◌⊎◌, inl, inr, ℕ, ◌+◌, ◌<◌, ℤ, pos, ◌+ℤ◌, ◌-ℤ◌, ◌<ℤ◌, ◌≤ℤ◌, ◌≤◌, w64, to_z, of_z, FitsSigned, List, refl, sym, ◌∙◌, arith}
 use Rattle.std.proofs.lemmas.Int.{ints, to_z-of_z}
 use Rattle.or_geom.specs.declared.shape.Shape.{Shape}
 use Rattle.or_geom.specs.Adds.{Adds}
-use Rattle.or_geom.proofs.AddsLaws.{adds_both, adds_as}
+use Rattle.or_geom.proofs.AddsLaws.{adds_both, adds_as, adds_none}
 use Rattle.tech_rules.specs.Drawing.{IsBox}
 use Rattle.sram_netlist.specs.Numbers.{PlanNumbers, ArePlanNumbers}
 use Rattle.port_lists.proofs.NumberLaws.{words_are}
@@ -93,6 +93,24 @@ lower_both by A B old now new first second =
     (λ s is. elim is [ inl l ↦ record { inner = l.inner; is = inl l.is; shifted = l.shifted } | inr r ↦ record { inner = r.inner; is = inr r.is; shifted = r.shifted } ])
     (λ s is. elim is.is [ inl l ↦ inl (record { inner = is.inner; is = l; shifted = is.shifted }) | inr r ↦ inr (record { inner = is.inner; is = r; shifted = is.shifted }) ])
     (adds_both old now new (IsLowered by A) (IsLowered by B) first second)
+
+-- where the columns begin and end
+pub begins_at : (row left : ℤ) (g d kg kd : ℕ) → IsUpTo 8388608 row → left ≡ row +ℤ pos (g + d) → g + d ≤ 131072 → g ≡ kg → d ≡ kd → to_z w64 (of_z w64 left) ≡ row +ℤ pos (kg + kd)
+begins_at row left g d kg kd placed is near gate drive = omega (arith, ints, placed.above, placed.below, is, near, gate, drive)
+
+pub ends_at : (row left : ℤ) (g d e kg kd n : ℕ) → IsUpTo 8388608 row → left ≡ row +ℤ pos (g + d) → g + d ≤ 131072 → e ≤ 16777216 → g ≡ kg → d ≡ kd → e ≡ n → to_z w64 (of_z w64 (to_z w64 (of_z w64 left) +ℤ to_z w64 e)) ≡ (row +ℤ pos (kg + kd)) +ℤ pos n
+ends_at row left g d e kg kd n placed is near few gate drive columns = omega (arith, ints, placed.above, placed.below, is, near, few, gate, drive, columns)
+
+-- what is drawn where P holds
+pub lower_where : (by : ℤ) (P : Type 0) (Q : Shape → Type 0) (old now : List Shape) → P → Adds old now (IsLowered by Q) → Adds old now (IsLowered by (λ s. P × Q s))
+lower_where by P Q old now holds adds =
+    adds_as old now (IsLowered by Q) (IsLowered by (λ s. P × Q s))
+    (λ s is. record { inner = is.inner; is = (holds, is.is); shifted = is.shifted })
+    (λ s is. record { inner = is.inner; is = is.is.1; shifted = is.shifted })
+    adds
+
+pub lower_nowhere : (by : ℤ) (P : Type 0) (Q : Shape → Type 0) (old : List Shape) → (P → ⊥) → Adds old old (IsLowered by (λ s. P × Q s))
+lower_nowhere by P Q old other = adds_none old (IsLowered by (λ s. P × Q s)) (λ s is. other is.is.0)
 
 pub some_columns : (n : PlanNumbers) → ArePlanNumbers n → 0 < n.columns
 some_columns n are =

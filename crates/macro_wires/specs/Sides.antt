@@ -1,11 +1,11 @@
 -- The sides of leaf cells as the program holds them.
 use Rattle.std.specs.Prelude.{◌≡◌, ◌<◌, ◌≤◌, ℕ}
-use Rattle.cell_roles.specs.declared.role.Role.TheVariants.{Bitcell, Precharge, Sense, Write, Driver, Inv}
+use Rattle.cell_roles.specs.declared.role.Role.TheVariants.{Bitcell, Precharge, Sense, Driver, Inv}
 use Rattle.sram_netlist.specs.Organization.{Organization}
 use Rattle.sram_netlist.specs.InstanceList.{logic_cells}
 use Rattle.macro_layout.specs.LayoutKit.{LayoutKit}
 use Rattle.macro_layout.specs.Places.{gate_width, total_width}
-use Rattle.macro_layout.specs.Floorplan.{column_role}
+use Rattle.macro_layout.specs.Floorplan.{column_role, write_height}
 use Rattle.macro_wires.specs.declared.sides.LeafSides.{LeafSides}
 
 -- a side of a leaf cell
@@ -15,7 +15,8 @@ pub record IsSide (n : ℕ) : Type 0 where
 
 pub record AreLeafSides (sides : LeafSides) : Type 0 where
   pub inv_height : IsSide sides.inv_height
-  pub write_height : IsSide sides.write_height
+  -- none where nothing is written
+  pub write_height : sides.write_height ≤ 65536
   pub sense_height : IsSide sides.sense_height
   pub end_height : IsSide sides.end_height
   pub precharge_height : IsSide sides.precharge_height
@@ -27,7 +28,7 @@ pub record AreLeafSides (sides : LeafSides) : Type 0 where
 -- they are those of the cells that the plan uses
 pub record AreSidesOf (plan : Organization) (kit : LayoutKit) (sides : LeafSides) : Type 0 where
   pub inv_height : sides.inv_height ≡ kit.height Inv
-  pub write_height : sides.write_height ≡ kit.height Write
+  pub write_height : sides.write_height ≡ write_height plan kit
   pub sense_height : sides.sense_height ≡ kit.height Sense
   pub end_height : sides.end_height ≡ kit.height (column_role plan.col_bits)
   pub precharge_height : sides.precharge_height ≡ kit.height Precharge

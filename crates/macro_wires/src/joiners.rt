@@ -27,8 +27,9 @@ pub fn columns_x(sides: &LeafSides, floorplan: &FloorplanNumbers) -> i64
     floorplan.row_x + (sides.gate_width + sides.driver_width) as i64
 }
 
-/// Adds a bank's two joiners on the first metal: one along the upper rails of its write cells, and one along those of its
-/// columns' ends and on to the left end of its rows. The bank begins at the lower edge of its write cells.
+/// Adds a bank's joiners on the first metal: where something is written one along the upper rails of the write cells, and one
+/// along those of the columns' ends and on to the left end of the rows. The bank begins at its lower edge: that of
+/// the write cells, or else of the sense cells.
 pub fn add_bank_joiners(
     plan: &Plan,
     sides: &LeafSides,
@@ -52,7 +53,9 @@ pub fn add_bank_joiners(
         x2: right,
         y2: sense,
     };
-    add_box(wire.metals[0], along_write, shapes)?;
+    if plan.write_size > 0 {
+        add_box(wire.metals[0], along_write, shapes)?;
+    }
     let array = floorplan.array_y - floorplan.write_y;
     let along_ends = Rect {
         x1: floorplan.row_x,

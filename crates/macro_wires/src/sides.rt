@@ -3,6 +3,7 @@
 pub struct LeafSides {
     /// The height of the logic row.
     pub inv_height: u32,
+    /// 0 where nothing is written.
     pub write_height: u32,
     pub sense_height: u32,
     /// The height of the cells in which columns end: multiplexers, or ties where a row has one word.

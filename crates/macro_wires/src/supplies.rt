@@ -36,7 +36,8 @@ fn add_trunk(x: i64, upper: i64, wire: &Wire, shapes: &mut Vec<Shape>) -> Result
     Ok(())
 }
 
-/// Adds the trunk of vdd and its bars, which run along the supply rails of the cells.
+/// Adds the trunk of vdd and its bars, which run along the supply rails of the cells: those of the write cells where something is
+/// written.
 pub fn add_power_wires(
     plan: &Plan,
     sides: &LeafSides,
@@ -82,7 +83,9 @@ pub fn add_power_wires(
     };
     add_trunk(trunk, upper, wire, shapes)?;
     add_bar(trunk, logic, wire, shapes)?;
-    add_bar(trunk, write, wire, shapes)?;
+    if plan.write_size > 0 {
+        add_bar(trunk, write, wire, shapes)?;
+    }
     add_bar(trunk, sense, wire, shapes)?;
     add_bar(trunk, ends, wire, shapes)?;
     add_row_bars(trunk, rows, plan.rows, sides.bit_height, 1, wire, shapes)?;

@@ -1,5 +1,5 @@
 -- The pins of the banks are those that the layout states.
-use Rattle.std.proofs.Common.{◌≡◌, inl, inr, ℕ, zero, suc, ◌+◌, ◌*◌, ◌<◌, ℤ, pos, ◌+ℤ◌, ◌*ℤ◌, List, [], ◌++◌, map, length, get_or, Option, Some, refl, ap, sym, ◌∙◌, arith}
+use Rattle.std.proofs.Common.{◌≡◌, inl, inr, ℕ, zero, suc, ◌+◌, ◌*◌, ◌<◌, ℤ, pos, ◌+ℤ◌, ◌*ℤ◌, List, [], ◌++◌, map, length, get_or, Option, Some, refl, ap, sym, subst, ◌∙◌, arith}
 use Rattle.std.specs.Prelude.{slice_get, option_map, ◌↔◌}
 use Rattle.std.proofs.lemmas.Int.{ints}
 use Rattle.std.proofs.lemmas.Option.{same_Some, slice_get-map, slice_get-get_or, slice_get_within, get_or_from_slice_get}
@@ -9,13 +9,14 @@ use Rattle.tech_rules.specs.declared.tech.Wire.{Wire}
 use Rattle.tech_rules.specs.Drawing.{pitch}
 use Rattle.channel_router.specs.declared.channel.ChannelPin.{ChannelPin}
 use Rattle.channel_router.specs.Channel.{IsPinOf}
-use Rattle.sram_netlist.specs.Organization.{Organization, IsBuildable, words_per_row, banks_of}
+use Rattle.sram_netlist.specs.Organization.{Organization, IsBuildable, written_bits, inputs_of, words_per_row, banks_of}
 use Rattle.sram_netlist.specs.Nets.{Net, Dout, D}
 use Rattle.sram_netlist.specs.Instances.{WriteAt, SenseAt}
-use Rattle.sram_netlist.specs.Netlist.{ports, enable_at, enable_count, mask_of}
+use Rattle.sram_netlist.specs.Netlist.{ports, enable_at, enable_count, enables_of, mask_of}
 use Rattle.sram_netlist.specs.Names.{net_name}
 use Rattle.sram_netlist.specs.InstanceList.{tabulate_lists}
-use Rattle.sram_rows.proofs.PlainNames.{mask_few}
+use Rattle.sram_netlist.proofs.Bounds.{some_written}
+use Rattle.sram_rows.proofs.PlainNames.{inputs_within, enables_within, written_mask_few}
 use Rattle.macro_layout.specs.LayoutKit.{LayoutKit}
 use Rattle.macro_layout.specs.Places.{Floorplan, bank_x, column_x}
 use Rattle.macro_layout.specs.Floorplan.{rail_x}
@@ -23,12 +24,12 @@ use Rattle.macro_layout.specs.Pins.{IsRailOf, rail_nets, main_nets}
 use Rattle.macro_layout.specs.Channels.{IsPinFrom, Numbered, MeetsMainTop, MeetsMainTopOfBanks}
 use Rattle.macro_cells.proofs.UprightLaws.{begins_at, begins_only}
 use Rattle.main_channel.specs.Pins.{numbered_net}
-use Rattle.main_channel.specs.Banks.{rail_channel_pin, bank_rail_pins, bit_begin, bit_channel_pins, slice_pins, columns_begin, bank_pins}
+use Rattle.main_channel.specs.Banks.{rail_channel_pin, bank_rail_pins, written_pins, bit_begin, bit_channel_pins, slice_pins, columns_begin, bank_pins}
 use Rattle.main_channel.specs.Formula.{port_begin}
 use Rattle.main_channel.proofs.ListLaws.{comes_from, all_at}
 use Rattle.main_channel.proofs.NameLaws.{IsChannelNet}
 use Rattle.main_channel.proofs.LookLaws.{IsNumbering}
-use Rattle.channel_router.proofs.PinListLaws.{pin_in_both, pin_left, pin_right}
+use Rattle.channel_router.proofs.PinListLaws.{pin_none, pin_in_both, pin_left, pin_right}
 use Rattle.main_channel.proofs.PinLaws.{named_is, named_there, in_one, of_one}
 use Rattle.main_channel.proofs.RailLaws.{rails_told}
 
@@ -39,10 +40,19 @@ swapped a b = omega (arith, ints)
 ordered : (bank columns bit pin : ℤ) → ((bank +ℤ columns) +ℤ bit) +ℤ pin ≡ pin +ℤ ((columns +ℤ bit) +ℤ bank)
 ordered bank columns bit pin = omega (arith, ints)
 
-enable_told : (plan : Organization) (n masks b m : ℕ) → plan.bank_bits ≡ n → plan.masks ≡ masks → b < banks_of plan → m < enable_count plan.masks → IsChannelNet plan (enable_at n masks b m)
-enable_told plan zero zero b m e f lt few = inl (tt, tt)
-enable_told plan zero (suc k) b m e f lt few = inl ((lt, few), inr (omega (arith, f)))
-enable_told plan (suc n) k b m e f lt few = inl ((lt, few), inl (omega (arith, e)))
+enable_told : (plan : Organization) (n masks b m : ℕ) → plan.bank_bits ≡ n → plan.masks ≡ masks → b < banks_of plan → m < enables_of plan → IsChannelNet plan (enable_at n masks b m)
+enable_told plan zero zero b m e f lt few = inl (tt, some_written plan.write_size (enable_count plan.masks) m few)
+enable_told plan zero (suc k) b m e f lt few = inl ((lt, enables_within plan m few), (inr (omega (arith, f)), few))
+enable_told plan (suc n) k b m e f lt few = inl ((lt, enables_within plan m few), (inl (omega (arith, e)), few))
+
+-- the pins of a write cell
+kept_pins : (w n i : ℕ) (pins : List ChannelPin) → i < written_bits w n → written_pins w pins ≡ pins
+kept_pins zero n i pins lt = absurd (omega arith)
+kept_pins (suc w) n i pins lt = refl
+
+is_input : (w n i : ℕ) (pins : List ChannelPin) (number : ℕ) (x : ℤ) → i < n → IsPinOf (written_pins w pins) number x → (i < written_bits w n) × IsPinOf pins number x
+is_input zero n i pins number x lt is = absurd (pin_none number x is)
+is_input (suc w) n i pins number x lt is = (lt, is)
 
 module _ (plan : Organization) (p : IsBuildable plan) (kit : LayoutKit) (wire : Wire) (floorplan : Floorplan) (look : List ℕ → Option ℕ) (numbering : IsNumbering plan look) where
   abbrev IsStated : ℕ → ℤ → Type 0
@@ -98,7 +108,7 @@ module _ (plan : Organization) (p : IsBuildable plan) (kit : LayoutKit) (wire : 
       (named_there look (get_or (names_of b) r.rail []) (bank_at b +ℤ (pos (r.rail + 1) *ℤ pitch wire)) number x (ap look named ∙ numbering.there y number numbered) (r.at ∙ swapped (rail_x wire r.rail) (bank_at b)))
 
   -- the pins of a bit
-  write_pin : (b i port : ℕ) (y : Net) (x : ℤ) → b < banks_of plan → i < plan.word_size → slice_get (ports plan (WriteAt b i)) port ≡ Some y → x ≡ (kit.pin Write port 3).x1 +ℤ slice_at b i → IsPinFrom plan kit floorplan (WriteAt b i) port 3 y x
+  write_pin : (b i port : ℕ) (y : Net) (x : ℤ) → b < banks_of plan → i < inputs_of plan → slice_get (ports plan (WriteAt b i)) port ≡ Some y → x ≡ (kit.pin Write port 3).x1 +ℤ slice_at b i → IsPinFrom plan kit floorplan (WriteAt b i) port 3 y x
   write_pin b i port y x lt below on at = begins_at plan kit floorplan (WriteAt b i) port 3 y (slice_at b i) floorplan.write_y x (lt, below) on refl at
 
   sense_pin : (b i port : ℕ) (y : Net) (x : ℤ) → b < banks_of plan → i < plan.word_size → slice_get (ports plan (SenseAt b i)) port ≡ Some y → x ≡ (kit.pin Sense port 3).x1 +ℤ slice_at b i → IsPinFrom plan kit floorplan (SenseAt b i) port 3 y x
@@ -114,19 +124,25 @@ module _ (plan : Organization) (p : IsBuildable plan) (kit : LayoutKit) (wire : 
   abbrev enable_of : ℕ → ℕ → List ChannelPin
   enable_of b i = numbered_net look (net_name plan (enable_net b i)) (bit_at b i +ℤ port_begin kit 3 Write 3)
 
+  abbrev write_of : ℕ → ℕ → List ChannelPin
+  write_of b i = data_of b i ++ enable_of b i
+
+  abbrev written_of : ℕ → ℕ → List ChannelPin
+  written_of b i = written_pins plan.write_size (write_of b i)
+
   abbrev output_of_bit : ℕ → ℕ → List ChannelPin
   output_of_bit b i = numbered_net look (net_name plan (Dout i)) (bit_at b i +ℤ port_begin kit 3 Sense 2)
 
-  data_meets : (b i : ℕ) (number : ℕ) (x : ℤ) → b < banks_of plan → i < plan.word_size → IsPinOf (data_of b i) number x → IsStated number x
+  data_meets : (b i : ℕ) (number : ℕ) (x : ℤ) → b < banks_of plan → i < inputs_of plan → IsPinOf (data_of b i) number x → IsStated number x
   data_meets b i number x lt below there =
       let bit = named_is look (net_name plan (D i)) (bit_at b i +ℤ port_begin kit 3 Write 0) number x there in
-      (D i, numbering.found (D i) number (inl (below, tt)) bit.number, (b, lt, inr (inl (i, write_pin b i 0 (D i) x lt below refl (bit.here ∙ begin_is b i 0 Write)))))
+      (D i, numbering.found (D i) number (inl (inputs_within plan i below, below)) bit.number, (b, lt, inr (inl (i, write_pin b i 0 (D i) x lt below refl (bit.here ∙ begin_is b i 0 Write)))))
 
-  enable_meets : (b i : ℕ) (number : ℕ) (x : ℤ) → b < banks_of plan → i < plan.word_size → IsPinOf (enable_of b i) number x → IsStated number x
+  enable_meets : (b i : ℕ) (number : ℕ) (x : ℤ) → b < banks_of plan → i < inputs_of plan → IsPinOf (enable_of b i) number x → IsStated number x
   enable_meets b i number x lt below there =
       let net = enable_net b i in
       let enable = named_is look (net_name plan net) (bit_at b i +ℤ port_begin kit 3 Write 3) number x there in
-      let told = enable_told plan plan.bank_bits plan.masks b (mask_of plan.masks plan.write_size i) refl refl lt (mask_few plan p i below) in
+      let told = enable_told plan plan.bank_bits plan.masks b (mask_of plan.masks plan.write_size i) refl refl lt (written_mask_few plan p i below) in
       (net, numbering.found net number told enable.number, (b, lt, inr (inr (inl (i, write_pin b i 3 net x lt below refl (enable.here ∙ begin_is b i 3 Write))))))
 
   output_meets : (b i : ℕ) (number : ℕ) (x : ℤ) → b < banks_of plan → i < plan.word_size → IsPinOf (output_of_bit b i) number x → IsStated number x
@@ -135,8 +151,10 @@ module _ (plan : Organization) (p : IsBuildable plan) (kit : LayoutKit) (wire : 
       (Dout i, numbering.found (Dout i) number (inr (i, below, refl)) output.number, (b, lt, inr (inr (inr (i, sense_pin b i 2 (Dout i) x lt below refl (output.here ∙ begin_is b i 2 Sense))))))
 
   bit_meets : (b i : ℕ) (number : ℕ) (x : ℤ) → b < banks_of plan → i < plan.word_size → IsPinOf (bit_of b i) number x → IsStated number x
-  bit_meets b i number x lt below is = elim (pin_in_both (data_of b i ++ enable_of b i) (output_of_bit b i) number x is) [
-    | inl write ↦ elim (pin_in_both (data_of b i) (enable_of b i) number x write) [ inl din ↦ data_meets b i number x lt below din | inr enable ↦ enable_meets b i number x lt below enable ]
+  bit_meets b i number x lt below is = elim (pin_in_both (written_of b i) (output_of_bit b i) number x is) [
+    | inl there ↦
+        let write = is_input plan.write_size plan.word_size i (write_of b i) number x below there in
+        elim (pin_in_both (data_of b i) (enable_of b i) number x write.1) [ inl din ↦ data_meets b i number x lt write.0 din | inr enable ↦ enable_meets b i number x lt write.0 enable ]
     | inr output ↦ output_meets b i number x lt below output
   ]
 
@@ -154,23 +172,27 @@ module _ (plan : Organization) (p : IsBuildable plan) (kit : LayoutKit) (wire : 
   named_as : (y z : Net) (number : ℕ) → slice_get (main_nets plan) number ≡ Some y → Some z ≡ Some y → look (net_name plan z) ≡ Some number
   named_as y z number numbered on = ap (λ (n : Net). look (net_name plan n)) (same_Some z y on) ∙ numbering.there y number numbered
 
+  write_there : (b i number : ℕ) (x : ℤ) → i < inputs_of plan → IsPinOf (write_of b i) number x → IsPinOf (bit_of b i) number x
+  write_there b i number x below there =
+      pin_left (written_of b i) (output_of_bit b i) number x (subst (λ (l : List ChannelPin). IsPinOf l number x) (sym (kept_pins plan.write_size plan.word_size i (write_of b i) below)) there)
+
   data_there : (b i : ℕ) (y : Net) (number : ℕ) (x : ℤ) → slice_get (main_nets plan) number ≡ Some y → IsPinFrom plan kit floorplan (WriteAt b i) 0 3 y x → IsPinOf (bit_of b i) number x
   data_there b i y number x numbered from =
       let at = begins_only plan kit floorplan (WriteAt b i) 0 3 y (slice_at b i) floorplan.write_y x from from.is.stands in
       let there = named_there look (net_name plan (D i)) (bit_at b i +ℤ port_begin kit 3 Write 0) number x (named_as y (D i) number numbered from.is.on) (at ∙ sym (begin_is b i 0 Write)) in
-      pin_left (data_of b i ++ enable_of b i) (output_of_bit b i) number x (pin_left (data_of b i) (enable_of b i) number x there)
+      write_there b i number x from.is.has.1 (pin_left (data_of b i) (enable_of b i) number x there)
 
   enable_there : (b i : ℕ) (y : Net) (number : ℕ) (x : ℤ) → slice_get (main_nets plan) number ≡ Some y → IsPinFrom plan kit floorplan (WriteAt b i) 3 3 y x → IsPinOf (bit_of b i) number x
   enable_there b i y number x numbered from =
       let at = begins_only plan kit floorplan (WriteAt b i) 3 3 y (slice_at b i) floorplan.write_y x from from.is.stands in
       let there = named_there look (net_name plan (enable_net b i)) (bit_at b i +ℤ port_begin kit 3 Write 3) number x (named_as y (enable_net b i) number numbered from.is.on) (at ∙ sym (begin_is b i 3 Write)) in
-      pin_left (data_of b i ++ enable_of b i) (output_of_bit b i) number x (pin_right (data_of b i) (enable_of b i) number x there)
+      write_there b i number x from.is.has.1 (pin_right (data_of b i) (enable_of b i) number x there)
 
   output_there : (b i : ℕ) (y : Net) (number : ℕ) (x : ℤ) → slice_get (main_nets plan) number ≡ Some y → IsPinFrom plan kit floorplan (SenseAt b i) 2 3 y x → IsPinOf (bit_of b i) number x
   output_there b i y number x numbered from =
       let at = begins_only plan kit floorplan (SenseAt b i) 2 3 y (slice_at b i) floorplan.sense_y x from from.is.stands in
       let there = named_there look (net_name plan (Dout i)) (bit_at b i +ℤ port_begin kit 3 Sense 2) number x (named_as y (Dout i) number numbered from.is.on) (at ∙ sym (begin_is b i 2 Sense)) in
-      pin_right (data_of b i ++ enable_of b i) (output_of_bit b i) number x there
+      pin_right (written_of b i) (output_of_bit b i) number x there
 
   of_bank : (b number : ℕ) (x : ℤ) → b < banks_of plan → IsPinOf (bank_of b) number x → IsPinOf (tabulate_lists (banks_of plan) bank_of) number x
   of_bank b number x lt is = of_one (banks_of plan) bank_of number x b lt is
@@ -182,8 +204,8 @@ module _ (plan : Organization) (p : IsBuildable plan) (kit : LayoutKit) (wire : 
   meets_bank number x (y, numbered, (b, lt, meets)) = by meets where
     by : MeetsMainTop plan kit wire floorplan b y x → IsPinOf (tabulate_lists (banks_of plan) bank_of) number x
     by (inl rail) = of_bank b number x lt (pin_left (rails_of b) (slices_of b) number x (rail_there b y number x numbered rail))
-    by (inr (inl (i, from))) = of_bit b i number x lt from.is.has.1 (data_there b i y number x numbered from)
-    by (inr (inr (inl (i, from)))) = of_bit b i number x lt from.is.has.1 (enable_there b i y number x numbered from)
+    by (inr (inl (i, from))) = of_bit b i number x lt (inputs_within plan i from.is.has.1) (data_there b i y number x numbered from)
+    by (inr (inr (inl (i, from)))) = of_bit b i number x lt (inputs_within plan i from.is.has.1) (enable_there b i y number x numbered from)
     by (inr (inr (inr (i, from)))) = of_bit b i number x lt from.is.has.1 (output_there b i y number x numbered from)
 
   pub bank_pins_are : (number : ℕ) (x : ℤ) → IsPinOf (tabulate_lists (banks_of plan) bank_of) number x ↔ IsStated number x

@@ -2,11 +2,11 @@
 use Rattle.std.proofs.Common.{◌≡◌, ◌⊎◌, inl, inr, ℕ, zero, suc, ◌+◌, ◌*◌, ◌≤◌, List, [], ◌∷◌, ◌++◌, length, flat_map, sym, subst, le_trans, length-append, arith}
 use Rattle.std.proofs.lemmas.Nat.{mul-le}
 use Rattle.std.specs.List.{AllByRecursion}
-use Rattle.sram_netlist.specs.Organization.{Organization, IsBuildable, IsGroupSize, power_of_two, total_bits, addr_bits, bank_bit}
+use Rattle.sram_netlist.specs.Organization.{Organization, inputs_of, IsBuildable, IsGroupSize, power_of_two, total_bits, addr_bits, bank_bit}
 use Rattle.sram_netlist.specs.Instances.{Dd, Dm}
-use Rattle.sram_netlist.specs.Netlist.{enable_count}
+use Rattle.sram_netlist.specs.Netlist.{enable_count, enables_of}
 use Rattle.sram_netlist.specs.InstanceList.{numbers_from, tabulate, tabulate_lists, fixed_cells, address_cells, line_gates, gates, choice_gates, groups_gates, bank_cells, banks_cells, enable_gates, enable_cells, logic_cells}
-use Rattle.sram_netlist.proofs.Bounds.{bounds, twice_up}
+use Rattle.sram_netlist.proofs.Bounds.{bounds, written_most, twice_up}
 use Rattle.std.specs.Prelude.{codes}
 use Rattle.sram_netlist.specs.Names.{with_number, with_numbers}
 use Rattle.sram_deck.specs.Deck.{predecode_lines, predecode_lines_from, column_choices, wlen_name, sen_name}
@@ -65,11 +65,15 @@ few_bank_cells plan (suc n) few =
 few_enables_of : (count bank : ℕ) → count ≤ 256 → length (tabulate_lists count (enable_gates bank)) ≤ 512
 few_enables_of count bank few = count_all count (enable_gates bank) 2 256 few (λ m. omega arith)
 
-few_enables : (n masks : ℕ) → n ≤ 2 → enable_count masks ≤ 256 → length (enable_cells n masks) ≤ 2048
-few_enables zero zero few small = omega arith
-few_enables zero (suc masks) few small = le_trans (count_all 1 (λ (bank : ℕ). tabulate_lists (suc masks) (enable_gates bank)) 512 4 (omega arith) (λ bank. few_enables_of (suc masks) bank small)) (omega arith)
-few_enables (suc n) masks few small =
-    count_all (power_of_two (suc n)) (λ (bank : ℕ). tabulate_lists (enable_count masks) (enable_gates bank)) 512 4 (few_banks (suc n) few) (λ bank. few_enables_of (enable_count masks) bank small)
+few_enables : (n masks enables : ℕ) → n ≤ 2 → enables ≤ 256 → length (enable_cells n masks enables) ≤ 2048
+few_enables zero zero enables few small = omega arith
+few_enables zero (suc masks) enables few small = le_trans (count_all 1 (λ (bank : ℕ). tabulate_lists enables (enable_gates bank)) 512 4 (omega arith) (λ bank. few_enables_of enables bank small)) (omega arith)
+few_enables (suc n) masks enables few small =
+    count_all (power_of_two (suc n)) (λ (bank : ℕ). tabulate_lists enables (enable_gates bank)) 512 4 (few_banks (suc n) few) (λ bank. few_enables_of enables bank small)
+
+few_fixed : (w : ℕ) → length (fixed_cells w) ≤ 14
+few_fixed zero = omega arith
+few_fixed (suc w) = omega arith
 
 pub few_groups : (groups : List ℕ) → (length groups ≡ 2) ⊎ (length groups ≡ 3) → length groups ≤ 3
 few_groups groups (inl two) = omega (arith, two)
@@ -91,25 +95,30 @@ few_cells plan is =
     let groups = few_groups plan.groups is.groups in
     let address = count_all (addr_bits plan) address_cells 2 14 (few_address plan is) (λ i. omega arith) in
     let gates_few = few_group_gates plan.groups plan.col_bits is.sizes in
-    let words = count_tabulated plan.word_size Dd in
+    let words = count_tabulated (inputs_of plan) Dd in
     let few_of_words = (bounds plan is).words in
+    let inputs = written_most plan.write_size plan.word_size in
+    let enables = (bounds plan is).enables in
+    let enabled = written_most plan.write_size (enable_count plan.masks) in
     let masks = count_tabulated plan.masks Dm in
     let few_of_masks = (bounds plan is).masks in
-    le_trans (both fixed_cells _ 14 2686 (omega arith)
+    le_trans (both (fixed_cells plan.write_size) _ 14 2686 (few_fixed plan.write_size)
     (both (tabulate_lists (addr_bits plan) address_cells) _ 28 2658 address
     (both (choice_gates plan.col_bits) _ 16 2642 (few_choices plan.col_bits is.choices)
     (both (groups_gates plan.groups plan.col_bits) _ 48 2594 (omega (arith, gates_few, groups))
-    (both (tabulate plan.word_size Dd) _ 256 2338 (omega (arith, words, few_of_words))
+    (both (tabulate (inputs_of plan) Dd) _ 256 2338 (omega (arith, words, few_of_words, inputs))
     (both (tabulate plan.masks Dm) _ 256 2082 (omega (arith, masks, few_of_masks))
-    (both (banks_cells plan plan.bank_bits) (enable_cells plan.bank_bits plan.masks) 34 2048 (le_trans (few_bank_cells plan plan.bank_bits is.banks) (omega arith))
-    (few_enables plan.bank_bits plan.masks is.banks (bounds plan is).enables)))))))) (omega arith)
+    (both (banks_cells plan plan.bank_bits) (enable_cells plan.bank_bits plan.masks (enables_of plan)) 34 2048 (le_trans (few_bank_cells plan plan.bank_bits is.banks) (omega arith))
+    (few_enables plan.bank_bits plan.masks (enables_of plan) is.banks (omega (arith, enables, enabled)))))))))) (omega arith)
 
 pub few_ports : (plan : Organization) → IsBuildable plan → port_count plan ≤ 800
 few_ports plan is =
     let address = few_address plan is in
     let words = (bounds plan is).words in
     let masks = (bounds plan is).masks in
-    omega (arith, address, words, masks)
+    let inputs = written_most plan.write_size plan.word_size in
+    let web = written_most plan.write_size 1 in
+    omega (arith, address, words, masks, inputs, web)
 
 abbrev lines_in : ℕ → ℕ → List (List ℕ)
 lines_in b g = tabulate (power_of_two b) (with_numbers (codes "p") g)

@@ -1,17 +1,17 @@
 -- A name's number is its net's place among the nets of the channel.
-use Rattle.std.proofs.Common.{◌≡◌, ℕ, ◌≤◌, ◌-◌, List, [], ◌∷◌, ◌++◌, map, length, get_or, Option, Some, refl, ap, sym, ◌∙◌, arith}
+use Rattle.std.proofs.Common.{◌≡◌, ℕ, zero, suc, ◌≤◌, ◌-◌, List, [], ◌∷◌, ◌++◌, map, length, get_or, Option, Some, refl, ap, sym, ◌∙◌, arith}
 use Rattle.std.specs.Prelude.{slice_get, option_map, codes}
 use Rattle.std.proofs.lemmas.List.{length-map}
 use Rattle.std.proofs.lemmas.Option.{slice_get-map, get_or_from_slice_get}
 use Rattle.cell_roles.specs.declared.role.Role.{Role}
 use Rattle.spice_netlist.specs.Names.{index_of}
-use Rattle.sram_netlist.specs.Organization.{Organization, IsBuildable, addr_bits}
+use Rattle.sram_netlist.specs.Organization.{Organization, IsBuildable, inputs_of, addr_bits}
 use Rattle.sram_netlist.specs.Nets.{Net, Addr, Din, Dout, Wmask}
 use Rattle.sram_netlist.specs.Instances.{LogicCell}
-use Rattle.sram_netlist.specs.Netlist.{logic_cell_ports}
+use Rattle.sram_netlist.specs.Netlist.{web_nets, logic_cell_ports}
 use Rattle.sram_netlist.specs.Names.{net_name}
 use Rattle.sram_netlist.specs.InstanceList.{tabulate, logic_cells}
-use Rattle.sram_deck.specs.Deck.{logic_cell, logic_instances, port_bits}
+use Rattle.sram_deck.specs.Deck.{web_ports, logic_cell, logic_instances, port_bits}
 use Rattle.sram_rows.proofs.FindLaws.{spot, find_some}
 use Rattle.port_lists.proofs.TabulateLaws.{map_append}
 use Rattle.macro_layout.specs.Pins.{port_nets, before_supplies, output_of, main_nets}
@@ -23,18 +23,24 @@ use Rattle.main_channel.proofs.NetLaws.{before_at, main_net, one_number}
 use Rattle.main_channel.proofs.PortLaws.{three_ports}
 
 -- The names of the channel are those of its nets.
+web_named : (plan : Organization) (w : ℕ) → map (net_name plan) (web_nets w) ≡ web_ports w
+web_named plan zero = refl
+web_named plan (suc w) = refl
+
 ports_named : (plan : Organization) → map (net_name plan) (port_nets plan) ≡ port_names plan
 ports_named plan =
     let name = net_name plan in
     let outs = tabulate plan.word_size Dout in
-    let ins = tabulate plan.word_size Din ++ outs in
+    let ins = tabulate (inputs_of plan) Din ++ outs in
     let address = tabulate (addr_bits plan) Addr ++ ins in
+    let masks = tabulate plan.masks Wmask ++ address in
     let bits : List ℕ → ℕ → List (List ℕ) = λ letters n. port_bits n letters in
-    ap (λ (l : List (List ℕ)). codes "clk0" ∷ codes "csb0" ∷ codes "web0" ∷ l)
-    (map_append name (tabulate plan.masks Wmask) address
+    ap (λ (l : List (List ℕ)). codes "clk0" ∷ codes "csb0" ∷ l)
+    (map_append name (web_nets plan.write_size) masks
+    ∙ (λ i. web_named plan plan.write_size i ++ (map_append name (tabulate plan.masks Wmask) address
     ∙ (λ i. map_tabulated name plan.masks Wmask i ++ (map_append name (tabulate (addr_bits plan) Addr) ins
-    ∙ (λ i. map_tabulated name (addr_bits plan) Addr i ++ (map_append name (tabulate plan.word_size Din) outs
-    ∙ (λ i. map_tabulated name plan.word_size Din i ++ map_tabulated name plan.word_size Dout i)) i)) i))
+    ∙ (λ i. map_tabulated name (addr_bits plan) Addr i ++ (map_append name (tabulate (inputs_of plan) Din) outs
+    ∙ (λ i. map_tabulated name (inputs_of plan) Din i ++ map_tabulated name plan.word_size Dout i)) i)) i)) i))
 
 named_at : (plan : Organization) (xs : List Net) → 3 ≤ length xs → get_or (map (net_name plan) xs) (length (map (net_name plan) xs) - 3) [] ≡ net_name plan (before_supplies xs)
 named_at plan xs three =

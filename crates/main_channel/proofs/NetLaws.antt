@@ -5,12 +5,14 @@ use Rattle.std.specs.List.{AllByRecursion}
 use Rattle.std.proofs.lemmas.Option.{slice_get-map}
 use Rattle.cell_roles.specs.declared.role.Role.{Role}
 use Rattle.row_laws.proofs.LookLaws.{all_append, all_map}
-use Rattle.sram_netlist.specs.Organization.{Organization, IsBuildable, addr_bits}
+use Rattle.sram_netlist.specs.Organization.{Organization, IsBuildable, written_bits, inputs_of, addr_bits}
 use Rattle.sram_netlist.specs.Nets.{Net, Clk0, Csb0, Web0, Clkb, Csq, Weq, Cs, We, Wlb, Wlen, Wrb, Wen, Rdb, Rd, Dly, Seb, Sen, Vdd, Gnd, Control, Addr, Din, Dout, Wmask, A, Na, D, M, LineB, Line, WlenB, WlenAt, SenB, SenAt, WenB, WenAt}
 use Rattle.sram_netlist.specs.Instances.{LogicCell, Clki, Csd, Wed, Csi, Wei, Wln, Wli, Wrn, Wri, Rdn, Rdi, Dlay, Senn, Seni, Ad, Ai, Dd, Dm, Pn, Pi, Ln, Li, Kn, Ki, Gn, Gi}
-use Rattle.sram_netlist.specs.Netlist.{picks, enable_inputs, supply_nets, logic_cell_ports}
+use Rattle.sram_netlist.specs.Netlist.{web_nets, picks, enable_inputs, supply_nets, logic_cell_ports}
 use Rattle.sram_netlist.specs.Membership.{HasLogicCell}
 use Rattle.sram_netlist.specs.InstanceList.{tabulate, logic_cells}
+use Rattle.sram_netlist.specs.BitCells.{Alike}
+use Rattle.sram_netlist.proofs.Bounds.{written_fits}
 use Rattle.sram_deck.specs.Deck.{logic_cell, logic_instances}
 use Rattle.sram_rows.proofs.DifferLaws.{all_follow}
 use Rattle.sram_rows.proofs.InstancesDiffer.{name_of_instance, logic_instances_differ}
@@ -139,13 +141,16 @@ never_port plan (Gn b m) = ap is_port (last_before (enable_inputs plan b m) (Wen
 never_port plan (Gi b m) = refl
 
 -- Each port has its number.
+abbrev behind_web : Organization → ℕ
+behind_web plan = 2 + written_bits plan.write_size 1
+
 abbrev port_number : Organization → Net → ℕ
 port_number plan (Control Csb0) = 1
 port_number plan (Control Web0) = 2
-port_number plan (Wmask m) = 3 + m
-port_number plan (Addr i) = 3 + plan.masks + i
-port_number plan (Din i) = 3 + plan.masks + addr_bits plan + i
-port_number plan (Dout i) = 3 + plan.masks + addr_bits plan + plan.word_size + i
+port_number plan (Wmask m) = behind_web plan + m
+port_number plan (Addr i) = behind_web plan + plan.masks + i
+port_number plan (Din i) = behind_web plan + plan.masks + addr_bits plan + i
+port_number plan (Dout i) = behind_web plan + plan.masks + addr_bits plan + inputs_of plan + i
 port_number plan net = 0
 
 record IsPortAt (plan : Organization) (i : ℕ) (x : Net) : Type 0 where
@@ -155,42 +160,63 @@ record IsPortAt (plan : Organization) (i : ℕ) (x : Net) : Type 0 where
 port_as : (plan : Organization) (i : ℕ) (x y : Net) → x ≡ y → port_number plan y ≡ i → is_port y ≡ true → IsPortAt plan i x
 port_as plan i x y e number is = record { number = ap (port_number plan) e ∙ number; is = ap is_port e ∙ is }
 
-data_port : (plan : Organization) (i : ℕ) (x : Net) → slice_get (tabulate plan.word_size Din ++ tabulate plan.word_size Dout) i ≡ Some x → IsPortAt plan (3 + plan.masks + addr_bits plan + i) x
-data_port plan i x at = elim (split_at (tabulate plan.word_size Din) (tabulate plan.word_size Dout) i x at) [
-  | inl here ↦ port_as plan (3 + plan.masks + addr_bits plan + i) x (Din i) (in_table plan.word_size Din i x here).0 refl refl
+data_port : (plan : Organization) (i : ℕ) (x : Net) → slice_get (tabulate (inputs_of plan) Din ++ tabulate plan.word_size Dout) i ≡ Some x → IsPortAt plan (behind_web plan + plan.masks + addr_bits plan + i) x
+data_port plan i x at = elim (split_at (tabulate (inputs_of plan) Din) (tabulate plan.word_size Dout) i x at) [
+  | inl here ↦ port_as plan (behind_web plan + plan.masks + addr_bits plan + i) x (Din i) (in_table (inputs_of plan) Din i x here).0 refl refl
   | inr b ↦
-      let long = count_tabulated plan.word_size Din in
+      let long = count_tabulated (inputs_of plan) Din in
       let sum = b.sum in
-      port_as plan (3 + plan.masks + addr_bits plan + i) x (Dout b.index) (in_table plan.word_size Dout b.index x b.at).0 (omega (arith, long, sum)) refl
+      port_as plan (behind_web plan + plan.masks + addr_bits plan + i) x (Dout b.index) (in_table plan.word_size Dout b.index x b.at).0 (omega (arith, long, sum)) refl
 ]
 
-address_port : (plan : Organization) (i : ℕ) (x : Net) → slice_get (tabulate (addr_bits plan) Addr ++ (tabulate plan.word_size Din ++ tabulate plan.word_size Dout)) i ≡ Some x → IsPortAt plan (3 + plan.masks + i) x
-address_port plan i x at = elim (split_at (tabulate (addr_bits plan) Addr) (tabulate plan.word_size Din ++ tabulate plan.word_size Dout) i x at) [
-  | inl here ↦ port_as plan (3 + plan.masks + i) x (Addr i) (in_table (addr_bits plan) Addr i x here).0 refl refl
+address_port : (plan : Organization) (i : ℕ) (x : Net) → slice_get (tabulate (addr_bits plan) Addr ++ (tabulate (inputs_of plan) Din ++ tabulate plan.word_size Dout)) i ≡ Some x → IsPortAt plan (behind_web plan + plan.masks + i) x
+address_port plan i x at = elim (split_at (tabulate (addr_bits plan) Addr) (tabulate (inputs_of plan) Din ++ tabulate plan.word_size Dout) i x at) [
+  | inl here ↦ port_as plan (behind_web plan + plan.masks + i) x (Addr i) (in_table (addr_bits plan) Addr i x here).0 refl refl
   | inr b ↦
       let long = count_tabulated (addr_bits plan) Addr in
       let sum = b.sum in
-      let e : 3 + plan.masks + addr_bits plan + b.index ≡ 3 + plan.masks + i = omega (arith, long, sum) in
+      let e : behind_web plan + plan.masks + addr_bits plan + b.index ≡ behind_web plan + plan.masks + i = omega (arith, long, sum) in
       subst (λ (n : ℕ). IsPortAt plan n x) e (data_port plan b.index x b.at)
 ]
 
-mask_port : (plan : Organization) (i : ℕ) (x : Net) → slice_get (tabulate plan.masks Wmask ++ (tabulate (addr_bits plan) Addr ++ (tabulate plan.word_size Din ++ tabulate plan.word_size Dout))) i ≡ Some x → IsPortAt plan (3 + i) x
-mask_port plan i x at = elim (split_at (tabulate plan.masks Wmask) (tabulate (addr_bits plan) Addr ++ (tabulate plan.word_size Din ++ tabulate plan.word_size Dout)) i x at) [
-  | inl here ↦ port_as plan (3 + i) x (Wmask i) (in_table plan.masks Wmask i x here).0 refl refl
+mask_port : (plan : Organization) (i : ℕ) (x : Net) → slice_get (tabulate plan.masks Wmask ++ (tabulate (addr_bits plan) Addr ++ (tabulate (inputs_of plan) Din ++ tabulate plan.word_size Dout))) i ≡ Some x → IsPortAt plan (behind_web plan + i) x
+mask_port plan i x at = elim (split_at (tabulate plan.masks Wmask) (tabulate (addr_bits plan) Addr ++ (tabulate (inputs_of plan) Din ++ tabulate plan.word_size Dout)) i x at) [
+  | inl here ↦ port_as plan (behind_web plan + i) x (Wmask i) (in_table plan.masks Wmask i x here).0 refl refl
   | inr b ↦
       let long = count_tabulated plan.masks Wmask in
       let sum = b.sum in
-      let e : 3 + plan.masks + b.index ≡ 3 + i = omega (arith, long, sum) in
+      let e : behind_web plan + plan.masks + b.index ≡ behind_web plan + i = omega (arith, long, sum) in
       subst (λ (n : ℕ). IsPortAt plan n x) e (address_port plan b.index x b.at)
 ]
+
+-- web0 stands where something is written
+web_is : (w i : ℕ) (x : Net) → slice_get (web_nets w) i ≡ Some x → (x ≡ Control Web0) × (i ≡ 0)
+web_is zero i x at = absurd cc
+web_is (suc w) zero x at = let e : Control Web0 ≡ x = cc in (sym e, refl)
+web_is (suc w) (suc i) x at = absurd cc
+
+pub web_counted : (w : ℕ) → length (web_nets w) ≡ written_bits w 1
+web_counted zero = refl
+web_counted (suc w) = refl
+
+web_port : (plan : Organization) (i : ℕ) (x : Net)
+    → slice_get (web_nets plan.write_size ++ (tabulate plan.masks Wmask ++ (tabulate (addr_bits plan) Addr ++ (tabulate (inputs_of plan) Din ++ tabulate plan.word_size Dout)))) i ≡ Some x → IsPortAt plan (2 + i) x
+web_port plan i x at =
+    elim (split_at (web_nets plan.write_size) (tabulate plan.masks Wmask ++ (tabulate (addr_bits plan) Addr ++ (tabulate (inputs_of plan) Din ++ tabulate plan.word_size Dout))) i x at) [
+      | inl here ↦ let web = web_is plan.write_size i x here in let first = web.1 in port_as plan (2 + i) x (Control Web0) web.0 (omega (arith, first)) refl
+      | inr b ↦
+          let long = web_counted plan.write_size in
+          let sum = b.sum in
+          let e : behind_web plan + b.index ≡ 2 + i = omega (arith, long, sum) in
+          subst (λ (n : ℕ). IsPortAt plan n x) e (mask_port plan b.index x b.at)
+    ]
 
 port_at : (plan : Organization) (i : ℕ) (x : Net) → slice_get (port_nets plan) i ≡ Some x → IsPortAt plan i x
 port_at plan zero x at = let e : Control Clk0 ≡ x = cc in port_as plan 0 x (Control Clk0) (sym e) refl refl
 port_at plan (suc zero) x at = let e : Control Csb0 ≡ x = cc in port_as plan 1 x (Control Csb0) (sym e) refl refl
-port_at plan (suc (suc zero)) x at = let e : Control Web0 ≡ x = cc in port_as plan 2 x (Control Web0) (sym e) refl refl
-port_at plan (suc (suc (suc i))) x at =
-    let e : 3 + i ≡ suc (suc (suc i)) = omega arith in
-    subst (λ (n : ℕ). IsPortAt plan n x) e (mask_port plan i x at)
+port_at plan (suc (suc i)) x at =
+    let e : 2 + i ≡ suc (suc i) = omega arith in
+    subst (λ (n : ℕ). IsPortAt plan n x) e (web_port plan i x at)
 
 -- Each output is a cell's.
 pub record IsOutputAt (plan : Organization) (i : ℕ) (x : Net) : Type 0 where
@@ -216,7 +242,7 @@ module _ (plan : Organization) (p : IsBuildable plan) where
   pub one_cell : (i j : ℕ) (c : LogicCell) → slice_get (logic_cells plan) i ≡ Some c → slice_get (logic_cells plan) j ≡ Some c → i ≡ j
   one_cell i j c ati atj =
       let cell : Role → List ℕ = λ r. [] in
-      differ_once name_of_instance (logic_instances plan cell) i j (logic_cell plan cell c) (logic_cell plan cell c) (logic_instances_differ plan p cell [])
+      differ_once name_of_instance (logic_instances plan cell) i j (logic_cell plan cell c) (logic_cell plan cell c) (logic_instances_differ plan p cell (Alike []) [])
       (slice_get-map (logic_cell plan cell) (logic_cells plan) i ∙ ap (option_map (logic_cell plan cell)) ati)
       (slice_get-map (logic_cell plan cell) (logic_cells plan) j ∙ ap (option_map (logic_cell plan cell)) atj) refl
 
@@ -255,17 +281,20 @@ before_good plan (n ∷ m ∷ []) all = all.0
 before_good plan (n ∷ vdd ∷ gnd ∷ []) all = all.0
 before_good plan (n ∷ m ∷ k ∷ l ∷ ns) all = before_good plan (m ∷ k ∷ l ∷ ns) all.1
 
+web_told : (plan : Organization) (w : ℕ) → plan.write_size ≡ w → AllByRecursion (IsChannelNet plan) (web_nets w)
+web_told plan zero e = tt
+web_told plan (suc w) e = (inl (tt, omega (arith, e)), tt)
+
 ports_told : (plan : Organization) → AllByRecursion (IsChannelNet plan) (port_nets plan)
 ports_told plan = (
   inl (tt, tt),
   (
     inl (tt, tt),
-    (
-      inl (tt, tt),
-      all_append (IsChannelNet plan) (tabulate plan.masks Wmask) (tabulate (addr_bits plan) Addr ++ (tabulate plan.word_size Din ++ tabulate plan.word_size Dout)) (all_tabulate (IsChannelNet plan) plan.masks Wmask (λ j lt. inl (lt, tt)))
-          (all_append (IsChannelNet plan) (tabulate (addr_bits plan) Addr) (tabulate plan.word_size Din ++ tabulate plan.word_size Dout) (all_tabulate (IsChannelNet plan) (addr_bits plan) Addr (λ j lt. inl (lt, tt)))
-          (all_append (IsChannelNet plan) (tabulate plan.word_size Din) (tabulate plan.word_size Dout) (all_tabulate (IsChannelNet plan) plan.word_size Din (λ j lt. inl (lt, tt))) (all_tabulate (IsChannelNet plan) plan.word_size Dout (λ j lt. inr (j, lt, refl))))),
-    ),
+    all_append (IsChannelNet plan) (web_nets plan.write_size) (tabulate plan.masks Wmask ++ (tabulate (addr_bits plan) Addr ++ (tabulate (inputs_of plan) Din ++ tabulate plan.word_size Dout))) (web_told plan plan.write_size refl)
+        (all_append (IsChannelNet plan) (tabulate plan.masks Wmask) (tabulate (addr_bits plan) Addr ++ (tabulate (inputs_of plan) Din ++ tabulate plan.word_size Dout)) (all_tabulate (IsChannelNet plan) plan.masks Wmask (λ j lt. inl (lt, tt)))
+        (all_append (IsChannelNet plan) (tabulate (addr_bits plan) Addr) (tabulate (inputs_of plan) Din ++ tabulate plan.word_size Dout) (all_tabulate (IsChannelNet plan) (addr_bits plan) Addr (λ j lt. inl (lt, tt)))
+        (all_append (IsChannelNet plan) (tabulate (inputs_of plan) Din) (tabulate plan.word_size Dout) (all_tabulate (IsChannelNet plan) (inputs_of plan) Din (λ j lt. inl (written_fits plan.write_size plan.word_size j lt, lt)))
+        (all_tabulate (IsChannelNet plan) plan.word_size Dout (λ j lt. inr (j, lt, refl)))))),
   ),
 )
 

@@ -9,7 +9,7 @@ use Rattle.leaf_shapes.specs.declared.demand.Metal.TheVariants.{M2, M4}
 use Rattle.sram_netlist.specs.Organization.{Organization}
 use Rattle.sram_netlist.specs.Nets.{Net, Clk0, Csb0, Web0, Clkb, Csq, Weq, Cs, We, Wlb, Wlen, Wrb, Wen, Rdb, Rd, Dly, Seb, Sen, Vdd, Gnd, Control, Addr, Din, Wmask, A, Na, D, M, LineB, Line, WlenB, WlenAt, SenB, SenAt, WenB, WenAt}
 use Rattle.sram_netlist.specs.Instances.{LogicCell, Clki, Csd, Wed, Csi, Wei, Wln, Wli, Wrn, Wri, Rdn, Rdi, Dlay, Senn, Seni, Ad, Ai, Dd, Dm, Pn, Pi, Ln, Li, Kn, Ki, Gn, Gi}
-use Rattle.sram_netlist.specs.Netlist.{gate_of, logic_role, picks, enable_inputs, bank_line, supply_nets, logic_cell_ports}
+use Rattle.sram_netlist.specs.Netlist.{gate_of, sense_start, logic_role, picks, enable_inputs, bank_line, supply_nets, logic_cell_ports}
 use Rattle.macro_cells.specs.Demanded.{IsDemandOf}
 use Rattle.main_channel.proofs.ListLaws.{split_at}
 
@@ -36,7 +36,7 @@ front_of plan Wri = record { front = Control Wrb ∷ Control Wen ∷ []; is = re
 front_of plan Rdn = record { front = Control Cs ∷ Control Weq ∷ Control Clkb ∷ Control Rdb ∷ []; is = refl }
 front_of plan Rdi = record { front = Control Rdb ∷ Control Rd ∷ []; is = refl }
 front_of plan Dlay = record { front = Control Clkb ∷ Control Dly ∷ []; is = refl }
-front_of plan Senn = record { front = Control Rd ∷ Control Dly ∷ Control Seb ∷ []; is = refl }
+front_of plan Senn = record { front = sense_start plan.write_size ∷ Control Dly ∷ Control Seb ∷ []; is = refl }
 front_of plan Seni = record { front = Control Seb ∷ Control Sen ∷ []; is = refl }
 front_of plan (Ad i) = record { front = Addr i ∷ Control Clk0 ∷ A i ∷ []; is = refl }
 front_of plan (Ai i) = record { front = A i ∷ Na i ∷ []; is = refl }

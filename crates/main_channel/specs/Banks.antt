@@ -1,5 +1,5 @@
 -- The pins of the banks, one by one: those of their rails, and of their write and sense cells.
-use Rattle.std.specs.Prelude.{ℕ, ◌+◌, ◌*◌, ℤ, pos, ◌+ℤ◌, ◌*ℤ◌, List, [], ◌++◌, map, length, get_or, Option}
+use Rattle.std.specs.Prelude.{ℕ, zero, suc, ◌+◌, ◌*◌, ℤ, pos, ◌+ℤ◌, ◌*ℤ◌, List, [], ◌++◌, map, length, get_or, Option}
 use Rattle.cell_roles.specs.declared.role.Role.{Role}
 use Rattle.cell_roles.specs.declared.role.Role.TheVariants.{Bitcell, Sense, Write, Driver}
 use Rattle.channel_router.specs.declared.channel.ChannelPin.{ChannelPin}
@@ -31,10 +31,15 @@ write_pins begin look plan bank bit from =
 abbrev pub bit_begin : (Role → ℕ) → Organization → ℤ → ℕ → ℤ
 bit_begin width plan from bit = from +ℤ pos ((bit * words_per_row plan) * width Bitcell)
 
+-- those of a write cell, which stands there where a write has bits
+abbrev pub written_pins : ℕ → List ChannelPin → List ChannelPin
+written_pins zero pins = []
+written_pins (suc write_size) pins = pins
+
 -- those of its write cell, and dout of its sense cell
 abbrev pub bit_channel_pins : (Role → ℕ → ℤ) → (Role → ℕ) → (List ℕ → Option ℕ) → Organization → ℕ → ℤ → ℕ → List ChannelPin
 bit_channel_pins begin width look plan bank from bit =
-    write_pins begin look plan bank bit (bit_begin width plan from bit) ++ numbered_net look (net_name plan (Dout bit)) (bit_begin width plan from bit +ℤ begin Sense 2)
+    written_pins plan.write_size (write_pins begin look plan bank bit (bit_begin width plan from bit)) ++ numbered_net look (net_name plan (Dout bit)) (bit_begin width plan from bit +ℤ begin Sense 2)
 
 -- those of the bits of the word, if the bank's columns begin here
 abbrev pub slice_pins : (Role → ℕ → ℤ) → (Role → ℕ) → (List ℕ → Option ℕ) → Organization → ℕ → ℤ → List ChannelPin

@@ -1,4 +1,5 @@
 ghost use Rattle.std.specs.Prelude.{◌≡◌, ◌++◌, ◌≤◌, map, length, IfOk, OnOk};
+ghost use Rattle.sram_netlist.specs.Organization.{written_bits};
 ghost use Rattle.sram_netlist.specs.Numbers.{ArePlanNumbers};
 ghost use Rattle.sram_plan.specs.PlanNumbers.{numbers_of, organization};
 ghost use Rattle.sram_deck.specs.Deck.{logic_instances};
@@ -9,7 +10,7 @@ use leaf_tables::Kit;
 use netlist::Instance;
 use or_geom::{Items, Memory, Name};
 use port_lists::NameList;
-use sram_plan::Plan;
+use sram_plan::{Plan, inputs_of};
 use sram_subckts::logic_subckt;
 use std::alloc::Global;
 
@@ -30,7 +31,14 @@ pub fn port_count(plan: &Plan) -> u32
     ensures is { result ≡ port_count (organization plan.now) }
     ensures few { result ≤ 800 }
 {
-    3 + plan.masks + plan.addr_bits + plan.word_size + plan.word_size
+    2 + web_count(plan) + plan.masks + plan.addr_bits + inputs_of(plan) + plan.word_size
+}
+
+/// How many of them tell reads from writes: one, or none where nothing is written.
+fn web_count(plan: &Plan) -> u32
+    ensures { result ≡ written_bits plan.now.write_size 1 }
+{
+    if plan.write_size == 0 { 0 } else { 1 }
 }
 
 /// The names of the channel's nets: the macro's signal ports, and then the outputs of the logic row.

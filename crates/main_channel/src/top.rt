@@ -10,7 +10,7 @@ ghost use Rattle.sram_plan.specs.PlanNumbers.{numbers_of, organization};
 ghost use Rattle.port_lists.specs.Spelled.{spelled};
 ghost use Rattle.macro_cells.specs.LeafSides.{leaf_width};
 ghost use Rattle.macro_wires.specs.FloorplanNumbers.{IsUpTo, IsNearFloorplan};
-ghost use Rattle.main_channel.specs.Banks.{bank_rail_pins, write_pins, slice_pins, bank_pins, columns_begin};
+ghost use Rattle.main_channel.specs.Banks.{bank_rail_pins, write_pins, written_pins, slice_pins, bank_pins, columns_begin};
 ghost use Rattle.leaf_tables.specs.NearLeaf.{IsLeafLength};
 ghost use Rattle.main_channel.specs.Leaves.{pin_begin};
 ghost use Rattle.main_channel.specs.Names.{rail_names, enable_name};
@@ -180,7 +180,7 @@ fn columns_width(columns: u32, width: i64) -> i64
     i64::from(columns) * width
 }
 
-/// Adds the pins of a write cell that begins at x: its data and its enable.
+/// Adds the pins of a write cell that begins at x, its data and its enable; where nothing is written there is none.
 fn add_write_pins(
     alloc: Global,
     kit: &Kit,
@@ -194,9 +194,12 @@ fn add_write_pins(
     requires kit { IsKit kit.now }
     requires plan { ArePlanNumbers (numbers_of plan.now) }
     requires x { IsUpTo (2 ^ 28 - 65536) x }
-    ensures is { OnOk result (pins.new.items ≡ pins.old.items ++ write_pins (pin_begin kit.now) (found_number numbers.now) (organization plan.now) bank bit x) }
+    ensures is { OnOk result (pins.new.items ≡ pins.old.items ++ written_pins plan.now.write_size (write_pins (pin_begin kit.now) (found_number numbers.now) (organization plan.now) bank bit x)) }
     ensures main { OnOk result ((nets : ℕ) → IsNetNumbering nets (found_number numbers.now) → AreMainPins nets pins.old.items → AreMainPins nets pins.new.items) }
 {
+    if plan.write_size == 0 {
+        return Ok(());
+    }
     let data = spell(alloc, Spelling::Numbered(b"d", bit))?;
     add_leaf_pin(kit, numbers, data.as_bytes(), Role::Write, 0, x, pins)?;
     let enable = spell(alloc, write_enable(plan, bank, bit))?;

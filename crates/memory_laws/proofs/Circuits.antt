@@ -3,6 +3,7 @@ use Rattle.std.proofs.Common.{◌≡◌, Bool, true, false, List, [], ◌∷◌,
 use Rattle.sram_netlist.specs.Nets.{Net}
 use Rattle.sram_netlist.specs.Instances.{LeafInstance}
 use Rattle.cell_roles.specs.declared.role.Role.TheVariants.{Dff}
+use Rattle.cell_roles.specs.declared.leaf_role.LeafRole.TheVariants.{Common}
 use Rattle.cell_roles.specs.Acts.{Drive, Act}
 use Rattle.memory_laws.specs.Phase.{Circuit, State, PortInputs, Gives, DrivesNet, JoinsNets, InGroup, AreLinked, HasNone, IsDriven, IsPair, IsPhase, act_at, bits}
 use Rattle.memory_laws.specs.Run.{MemoryCommand, IsCycle, IsStartState, IsCommandRun, port_values}
@@ -16,8 +17,8 @@ pub record SameCircuit (c d : Circuit) : Type 0 where
   pub joins : (leaf : LeafInstance) → c.has leaf → c.joins leaf ≡ d.joins leaf
   pub acts : (s : State) (v : Net → Bool) (leaf : LeafInstance) → c.has leaf → act_at c s v leaf ≡ act_at d s v leaf
   pub bits : (s : State) (leaf : LeafInstance) → c.has leaf → bits (c.role leaf) s leaf ≡ bits (d.role leaf) s leaf
-  pub flops : (leaf : LeafInstance) → c.has leaf → d.role leaf ≡ Dff → c.role leaf ≡ Dff
-  pub flops_back : (leaf : LeafInstance) → c.has leaf → c.role leaf ≡ Dff → d.role leaf ≡ Dff
+  pub flops : (leaf : LeafInstance) → c.has leaf → d.role leaf ≡ Common Dff → c.role leaf ≡ Common Dff
+  pub flops_back : (leaf : LeafInstance) → c.has leaf → c.role leaf ≡ Common Dff → d.role leaf ≡ Common Dff
 
 pub flipped : (c d : Circuit) → SameCircuit c d → SameCircuit d c
 flipped c d h = record {

@@ -270,7 +270,7 @@ module _ (p : Organization) (masks : MasksFit p) (s : State) (c : MemoryCommand)
 pub fetched : (p : Organization) (masks : MasksFit p) (s : State) (c : MemoryCommand) (v : Net → Bool) (next : State) → IsStartState (direct p) s → IsPhase (direct p) s (port_values true c) v next → Latched p next c
 fetched p masks s c v next start ph = record {
   csd = (csd_next p masks s (port_values true c) v next ph).0 ∙ caught_open _ _ _ (start (LogicAt Csd) tt refl);
-  wed = (wed_next p masks s (port_values true c) v next ph).0 ∙ caught_open _ _ _ (start (LogicAt Wed) tt refl);
+  wed = (wed_next p masks s (port_values true c) v next ph).0 ∙ caught_open _ _ _ (start (LogicAt Wed) (omega arith) refl);
   ad = λ j h. (ad_next p masks s (port_values true c) v next ph j h).0 ∙ caught_open _ _ _ (start (LogicAt (Ad j)) h refl);
   dd = λ j h. (dd_next p masks s (port_values true c) v next ph j h).0 ∙ caught_open _ _ _ (start (LogicAt (Dd j)) h refl);
   dm = λ j h. (dm_next p masks s (port_values true c) v next ph j h).0 ∙ caught_open _ _ _ (start (LogicAt (Dm j)) h refl);

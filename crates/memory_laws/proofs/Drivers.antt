@@ -10,7 +10,7 @@ use Rattle.sram_netlist.specs.Membership.{HasLeafInstance, HasLogicCell, HasLeaf
 use Rattle.memory_laws.specs.Phase.{State, PortInputs, Gives, InGroup, HasNone, IsDriven, given, act_at}
 use Rattle.memory_laws.proofs.Values.{gate1, gate2, gate3}
 use Rattle.memory_laws.proofs.Decode.{twice_some}
-use Rattle.memory_laws.proofs.Direct.{cell_drives, drives, enable, direct}
+use Rattle.memory_laws.proofs.Direct.{cell_drives, drives, enable, direct, writable}
 use Rattle.memory_laws.proofs.Groups.{IsChosen, follow, to_lo, to_ro, some_choice, lo_some, ro_some, lo_none, ro_none}
 use Rattle.memory_laws.proofs.Exists.{low_not_strong, low_is_weak, high_is_strong, high_not_weak, strong_is, strong_not_weak}
 
@@ -77,7 +77,7 @@ WeakEnds p s v y = ((bank : ℕ) × (c : ℕ) × (bank < power_of_two p.bank_bit
 some : PortInputs
 some = record { clk = true; csb = true; web = true; addr = λ j. true; din = λ j. true; wmask = λ j. true }
 
-weak_place : (p : Organization) (s : State) (v : Net → Bool) (y : Net) (b : Bool) (leaf : LeafInstance) → HasLeafInstance p leaf
+weak_place : (p : Organization) (s : State) (v : Net → Bool) (y : Net) (b : Bool) (leaf : LeafInstance) → HasLeafInstance (writable p) leaf
     → IsDriven y (Weak b) (drives p leaf) (act_at (direct p) s v leaf).drives → (b ≡ false) × WeakEnds p s v y
 weak_place p s v y b (BitAt bank r c) there (inl h) = let e = low_is_weak _ b h.1 in (e.1, inl (bank, c, there.0, there.1.1, h.0, (r, there.1.0, e.0)))
 weak_place p s v y b (BitAt bank r c) there (inr (inl h)) = let e = low_is_weak _ b h.1 in (e.1, inr (bank, c, there.0, there.1.1, h.0, (r, there.1.0, e.0)))
@@ -148,7 +148,7 @@ gate_tight : (p : Organization) (v : Net → Bool) (cell : LogicCell) → Strong
 gate_tight p v Clki = tt
 gate_tight p v cell = tt
 
-strong_place : (p : Organization) (s : State) (v : Net → Bool) (y : Net) (b : Bool) (leaf : LeafInstance) → HasLeafInstance p leaf
+strong_place : (p : Organization) (s : State) (v : Net → Bool) (y : Net) (b : Bool) (leaf : LeafInstance) → HasLeafInstance (writable p) leaf
     → IsDriven y (Strong b) (drives p leaf) (act_at (direct p) s v leaf).drives → StrongEnds p v y
 strong_place p s v y b (BitAt bank r c) there (inl h) = absurd (low_not_strong _ b h.1)
 strong_place p s v y b (BitAt bank r c) there (inr (inl h)) = absurd (low_not_strong _ b h.1)
@@ -181,11 +181,11 @@ pub strong_from : (p : Organization) (s : State) (i : PortInputs) (v : Net → B
 strong_from p s i v y b (inl e) = given_tight p i v y b e
 strong_from p s i v y b (inr d) = strong_place p s v y b d.leaf d.there d.driven
 
-cell_gives : (p : Organization) (s : State) (i : PortInputs) (v : Net → Bool) (cell : LogicCell) → HasLogicCell p cell
+cell_gives : (p : Organization) (s : State) (i : PortInputs) (v : Net → Bool) (cell : LogicCell) → HasLogicCell (writable p) cell
     → Gives (direct p) s i v (cell_drives cell) (Strong (local p s i v (cell_drives cell)))
 cell_gives p s i v cell there = inr (record { leaf = LogicAt cell; there = there; driven = subst (IsDriven (cell_drives cell) (Strong (local p s i v (cell_drives cell))) (cell_drives cell ∷ [])) (sym (cell_says p s i v cell)) (inl (refl, refl)) })
 
-pub has_driver : (p : Organization) (s : State) (i : PortInputs) (v : Net → Bool) (y : Net) → HasLeafNet p y → is_loose y ≡ false
+pub has_driver : (p : Organization) (s : State) (i : PortInputs) (v : Net → Bool) (y : Net) → HasLeafNet (writable p) y → is_loose y ≡ false
     → Gives (direct p) s i v y (Strong (local p s i v y))
 has_driver p s i v (Control Clkb) h t = cell_gives p s i v Clki h
 has_driver p s i v (Control Csq) h t = cell_gives p s i v Csd h

@@ -19,9 +19,9 @@ examples_answer = record {
   masked_stands = masked_stands;
   banked_stands = banked_stands;
   plain_answers = λ s vs end start five thirty run.
-      (runs_answer_numbers plain_memory s (get 5 ∷ put 1 31 0 ∷ get 31 ∷ get 30 ∷ []) vs end plain_stands start (omega arith, (omega arith, (omega arith, (omega arith, tt)))) run).0
+      (runs_answer_numbers plain_memory s (get 5 ∷ put 1 31 0 ∷ get 31 ∷ get 30 ∷ []) vs end plain_stands (omega arith) start (omega arith, (omega arith, (omega arith, (omega arith, tt)))) run).0
       ∙ (λ k. five k ∷ (1 ∷ (thirty k ∷ [])));
-  masked_answers = λ s vs end start run. (runs_answer_numbers masked_memory s (put 15 3 3 ∷ put 0 3 1 ∷ get 3 ∷ []) vs end masked_stands start (omega arith, (omega arith, (omega arith, tt))) run).0;
-  unmasked_answers = λ s vs end start run. (runs_answer_numbers masked_memory s (put 15 3 3 ∷ put 0 3 0 ∷ get 3 ∷ []) vs end masked_stands start (omega arith, (omega arith, (omega arith, tt))) run).0;
-  banked_answers = λ s vs end start run. (runs_answer_numbers banked_memory s (put 1 3 0 ∷ put 2 19 0 ∷ get 3 ∷ get 19 ∷ []) vs end banked_stands start (omega arith, (omega arith, (omega arith, (omega arith, tt)))) run).0;
+  masked_answers = λ s vs end start run. (runs_answer_numbers masked_memory s (put 15 3 3 ∷ put 0 3 1 ∷ get 3 ∷ []) vs end masked_stands (omega arith) start (omega arith, (omega arith, (omega arith, tt))) run).0;
+  unmasked_answers = λ s vs end start run. (runs_answer_numbers masked_memory s (put 15 3 3 ∷ put 0 3 0 ∷ get 3 ∷ []) vs end masked_stands (omega arith) start (omega arith, (omega arith, (omega arith, tt))) run).0;
+  banked_answers = λ s vs end start run. (runs_answer_numbers banked_memory s (put 1 3 0 ∷ put 2 19 0 ∷ get 3 ∷ get 19 ∷ []) vs end banked_stands (omega arith) start (omega arith, (omega arith, (omega arith, (omega arith, tt)))) run).0;
 }

@@ -10,7 +10,7 @@ use Rattle.cell_roles.specs.Acts.{Drive, Strong, Weak, all_high, differ, low_if,
 use Rattle.memory_laws.specs.Phase.{State, PortInputs, InGroup, IsDriven, given, act_at}
 use Rattle.memory_laws.proofs.Values.{index, choice, here, column, gate1, gate2, gate3, signal, address, datum, mask, line, picked, all_picked, all_lines, bank_on, mask_on, enabled, wlen, sen, wen, bit_line, left, right, sensed, value}
 use Rattle.memory_laws.proofs.Decode.{line_is, index_fits}
-use Rattle.memory_laws.proofs.Direct.{cell_drives, drives, enable, direct}
+use Rattle.memory_laws.proofs.Direct.{cell_drives, drives, enable, direct, writable}
 use Rattle.memory_laws.proofs.Groups.{IsChosen, Ends, carried, column_is, some_choice, lo_some, ro_some, lo_none, ro_none}
 
 -- the values choose one column of a slice
@@ -124,7 +124,7 @@ drv_out p s i bank r = ap (λ (t : Bool). Strong (t && not (value p s i (Zb bank
 pub close : (f : Net → Bool) (x y : Net) (a b : Bool) → x ≡ y → Strong a ≡ Strong b → f x ≡ a → f y ≡ b
 close f x y a b e d h = cc
 
-alone_driven : (f : Net → Bool) (x y : Net) (b : Bool) (ds : List Drive) → ds ≡ Strong (f x) ∷ [] → IsDriven y (Strong b) (x ∷ []) ds → f y ≡ b
+pub alone_driven : (f : Net → Bool) (x y : Net) (b : Bool) (ds : List Drive) → ds ≡ Strong (f x) ∷ [] → IsDriven y (Strong b) (x ∷ []) ds → f y ≡ b
 alone_driven f x y b [] e h = absurd cc
 alone_driven f x y b (d ∷ ds) e (inl h) = let first : d ≡ Strong (f x) = cc in close f x y (f x) b h.0 (sym first ∙ h.1) refl
 alone_driven f x y b (d ∷ ds) e (inr h) = absurd h
@@ -205,7 +205,7 @@ place_strong_sense p s i b bank c fits e f =
     ap (λ (n : ℕ). cond (sensed p s i n c) (left p s i n (column p s i c)) (s.charge (Dout c))) (sym same)
     ∙ sense_at _ _ _ _ _ _ (s.charge (Dout c)) b (sen_value p s i bank) (lo_value p s i bank c) (ro_value p s i bank c) e f
 
-pub place_strong : (p : Organization) (s : State) (i : PortInputs) (y : Net) (b : Bool) (leaf : LeafInstance) → HasLeafInstance p leaf
+pub place_strong : (p : Organization) (s : State) (i : PortInputs) (y : Net) (b : Bool) (leaf : LeafInstance) → HasLeafInstance (writable p) leaf
     → IsDriven y (Strong b) (drives p leaf) (act_at (direct p) s (value p s i) leaf).drives → value p s i y ≡ b
 place_strong p s i y b (BitAt bank r c) there (inl h) = absurd (low_not_strong _ b h.1)
 place_strong p s i y b (BitAt bank r c) there (inr (inl h)) = absurd (low_not_strong _ b h.1)

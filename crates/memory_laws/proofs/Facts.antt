@@ -105,28 +105,30 @@ pub facts : (p : Organization) (masks : MasksFit p) (onto : MasksReached p) (s :
 facts p masks onto s c v end start range run = (
   start_after p masks run.s2 c v end run.finish,
   record {
-    choice = λ k k_fits some. (
-      choice_line p masks s c run.first run.s1 (port_values true c) k run.fetch k_fits some (index_low (address s (port_values true c)) c.addr p.col_bits 0 (λ j h. caught_open _ _ _ (start (LogicAt (Ad j)) (omega arith) refl))),
-      (
-        low_line p masks run.s1 c run.second run.s2 l1 range run.select k k_fits some,
-        low_line p masks run.s2 c v end l2 range run.finish k k_fits some,
-      ),
-    );
-    charged = λ bank k fits k_fits. (left_is p masks s (port_values true c) run.first run.s1 run.fetch bank k fits k_fits, right_is p masks s (port_values true c) run.first run.s1 run.fetch bank k fits k_fits);
-    rows = λ bank r fits r_fits. (row_dark bank r fits r_fits, (row1 bank r fits r_fits, row2 bank r fits r_fits));
+    select = record {
+      choice = λ k k_fits some. (
+        choice_line p masks s c run.first run.s1 (port_values true c) k run.fetch k_fits some (index_low (address s (port_values true c)) c.addr p.col_bits 0 (λ j h. caught_open _ _ _ (start (LogicAt (Ad j)) (omega arith) refl))),
+        (
+          low_line p masks run.s1 c run.second run.s2 l1 range run.select k k_fits some,
+          low_line p masks run.s2 c v end l2 range run.finish k k_fits some,
+        ),
+      );
+      charged = λ bank k fits k_fits. (left_is p masks s (port_values true c) run.first run.s1 run.fetch bank k fits k_fits, right_is p masks s (port_values true c) run.first run.s1 run.fetch bank k fits k_fits);
+      rows = λ bank r fits r_fits. (row_dark bank r fits r_fits, (row1 bank r fits r_fits, row2 bank r fits r_fits));
+      sen = (
+        sen_is p masks s (port_values true c) run.first run.s1 run.fetch ∙ shut_sen (signal s (port_values true c) Cs) (signal s (port_values true c) Weq) (s.q (LogicAt Dlay)),
+        (
+          low_sen p masks run.s1 c run.second run.s2 l1 range run.select ∙ early _ _ dly1,
+          low_sen p masks run.s2 c v end l2 range run.finish ∙ late_on (not c.csb && c.web) _ dly2,
+        ),
+      );
+      sens = λ bank fits. (sen_dark bank fits, (sen1 bank fits, sen2 bank fits));
+    };
     wen = (
       wen_is p masks s (port_values true c) run.first run.s1 run.fetch ∙ shut3 (signal s (port_values true c) Cs) (signal s (port_values true c) We),
       (low_wen p masks run.s1 c run.second run.s2 l1 range run.select, low_wen p masks run.s2 c v end l2 range run.finish),
     );
-    sen = (
-      sen_is p masks s (port_values true c) run.first run.s1 run.fetch ∙ shut_sen (signal s (port_values true c) Cs) (signal s (port_values true c) Weq) (s.q (LogicAt Dlay)),
-      (
-        low_sen p masks run.s1 c run.second run.s2 l1 range run.select ∙ early _ _ dly1,
-        low_sen p masks run.s2 c v end l2 range run.finish ∙ late_on (not c.csb && c.web) _ dly2,
-      ),
-    );
     wens = λ bank i fits i_fits. (wen_dark bank i fits i_fits, (wen1 bank i fits i_fits, wen2 bank i fits i_fits));
-    sens = λ bank fits. (sen_dark bank fits, (sen1 bank fits, sen2 bank fits));
     idle = λ bank fits other. (
       λ r r_fits. (row_dark bank r fits r_fits, (row1 bank r fits r_fits ∙ not_addressed (not c.csb) _ _ (apart bank other), row2 bank r fits r_fits ∙ not_addressed (not c.csb) _ _ (apart bank other))),
       (

@@ -9,7 +9,7 @@ use Rattle.sram_netlist.specs.Netlist.{lo_net, ro_net}
 use Rattle.sram_netlist.specs.Membership.{HasLeafInstance, HasLeafNet}
 use Rattle.memory_laws.specs.Phase.{State, JoinsNets, InGroup, AreLinked, IsPair, act_at}
 use Rattle.memory_laws.proofs.Decode.{twice_some}
-use Rattle.memory_laws.proofs.Direct.{joins, direct}
+use Rattle.memory_laws.proofs.Direct.{joins, direct, writable}
 
 -- the column's number is made of its slice and its choice
 pub column_is : (m c k : ℕ) → c % power_of_two m ≡ k → c / power_of_two m * power_of_two m + k ≡ c
@@ -60,7 +60,7 @@ pub record Ends (p : Organization) (k : ℕ) (x y : Net) : Type 0 where
 mod_below : (m c : ℕ) → c % power_of_two m < power_of_two m
 mod_below m c = let h = twice_some m in omega arith
 
-joins_ends : (p : Organization) (s : State) (v : Net → Bool) (k : ℕ) (x y : Net) → IsChosen p.col_bits v k → (leaf : LeafInstance) → HasLeafInstance p leaf
+joins_ends : (p : Organization) (s : State) (v : Net → Bool) (k : ℕ) (x y : Net) → IsChosen p.col_bits v k → (leaf : LeafInstance) → HasLeafInstance (writable p) leaf
     → IsPair x y (joins p leaf) (act_at (direct p) s v leaf).joins → Ends p k x y
 joins_ends p s v k x y is (MuxAt bank c) there (inl h) = record {
   bank = bank;
@@ -198,14 +198,14 @@ alone_step p k x y z t h g = absurd (by_ends h.ends)
     by_ends (inr (inr e)) = off_line (Ro h.bank (h.c / power_of_two p.col_bits)) refl e.1
 
 -- the nets of a group are the plan's
-pub net_step : (p : Organization) (k : ℕ) (x y : Net) → Ends p k x y → HasLeafNet p x → HasLeafNet p y
+pub net_step : (p : Organization) (k : ℕ) (x y : Net) → Ends p k x y → HasLeafNet (writable p) x → HasLeafNet (writable p) y
 net_step p k x y h g = by_ends h.ends
   where
     slice : h.c / power_of_two p.col_bits < p.word_size
     slice = div_below h.c (power_of_two p.col_bits) p.word_size (twice_some p.col_bits) h.fits
 
-    by_ends : (((Bl h.bank h.c ≡ x) × (Lo h.bank (h.c / power_of_two p.col_bits) ≡ y)) ⊎ ((Bl h.bank h.c ≡ y) × (Lo h.bank (h.c / power_of_two p.col_bits) ≡ x))) ⊎ (((Br h.bank h.c ≡ x) × (Ro h.bank (h.c / power_of_two p.col_bits) ≡ y)) ⊎ ((Br h.bank h.c ≡ y) × (Ro h.bank (h.c / power_of_two p.col_bits) ≡ x))) → HasLeafNet p y
-    by_ends (inl (inl e)) = subst (HasLeafNet p) e.1 (h.bank_fits, (slice, h.some))
-    by_ends (inl (inr e)) = subst (HasLeafNet p) e.0 (h.bank_fits, h.fits)
-    by_ends (inr (inl e)) = subst (HasLeafNet p) e.1 (h.bank_fits, (slice, h.some))
-    by_ends (inr (inr e)) = subst (HasLeafNet p) e.0 (h.bank_fits, h.fits)
+    by_ends : (((Bl h.bank h.c ≡ x) × (Lo h.bank (h.c / power_of_two p.col_bits) ≡ y)) ⊎ ((Bl h.bank h.c ≡ y) × (Lo h.bank (h.c / power_of_two p.col_bits) ≡ x))) ⊎ (((Br h.bank h.c ≡ x) × (Ro h.bank (h.c / power_of_two p.col_bits) ≡ y)) ⊎ ((Br h.bank h.c ≡ y) × (Ro h.bank (h.c / power_of_two p.col_bits) ≡ x))) → HasLeafNet (writable p) y
+    by_ends (inl (inl e)) = subst (HasLeafNet (writable p)) e.1 (h.bank_fits, (slice, h.some))
+    by_ends (inl (inr e)) = subst (HasLeafNet (writable p)) e.0 (h.bank_fits, h.fits)
+    by_ends (inr (inl e)) = subst (HasLeafNet (writable p)) e.1 (h.bank_fits, (slice, h.some))
+    by_ends (inr (inr e)) = subst (HasLeafNet (writable p)) e.0 (h.bank_fits, h.fits)

@@ -11,7 +11,7 @@ use Rattle.memory_laws.proofs.Decode.{built_odd, built_half, low_all}
 use Rattle.memory_laws.proofs.Plans.{runs_answer}
 
 -- numbers of equal bits are equal
-number_same : (f g : ℕ → Bool) (n : ℕ) → ((i : ℕ) → i < n → f i ≡ g i) → number f n ≡ number g n
+pub number_same : (f g : ℕ → Bool) (n : ℕ) → ((i : ℕ) → i < n → f i ≡ g i) → number f n ≡ number g n
 number_same f g zero h = refl
 number_same f g (suc n) h = let low = h 0 (omega arith) in λ k. cond (low k) 1 0 + 2 * number_same (λ j. f (suc j)) (λ j. g (suc j)) n (λ i lt. h (suc i) (omega arith)) k
 
@@ -34,7 +34,7 @@ number_low : (x n : ℕ) → number (bit_of x) n ≡ low_bits n x
 number_low x zero = refl
 number_low x (suc n) = ap (λ (m : ℕ). cond (lowest_bit x) 1 0 + 2 * m) (number_low (x / 2) n)
 
-number_of_bits : (x n : ℕ) → x < power_of_two n → number (bit_of x) n ≡ x
+pub number_of_bits : (x n : ℕ) → x < power_of_two n → number (bit_of x) n ≡ x
 number_of_bits x n h = number_low x n ∙ low_all n x h
 
 -- words by bits and words as numbers are the same
@@ -99,8 +99,8 @@ module _ (plan : Organization) where
   }
 
 pub runs_answer_numbers : RunsAnswerNumbers
-runs_answer_numbers plan s cs vs end ok start range run =
-    let r = runs_answer plan s (map command_bits cs) vs end ok start (in_range plan cs range) run in
+runs_answer_numbers plan s cs vs end ok some start range run =
+    let r = runs_answer plan s (map command_bits cs) vs end ok some start (in_range plan cs range) run in
     let last = hold_all plan cs (contents plan s) (word_at plan s) (start_holds plan s) in (
       answers_are plan cs s (contents plan s) (word_at plan s) vs end (start_holds plan s) range run r.0,
       λ a lt. number_same (contents plan end a) (bit_of (numbers_after_all plan cs (word_at plan s) a)) plan.word_size (λ i few. r.1 a i lt few ∙ last.same a i lt few)

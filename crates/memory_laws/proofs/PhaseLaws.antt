@@ -10,7 +10,8 @@ use Rattle.sram_netlist.specs.Netlist.{lo_net, ro_net, sen_at}
 use Rattle.memory_laws.specs.Phase.{State, PortInputs, IsPhase, Gives, InGroup, HasNone, act_at, bits}
 use Rattle.memory_laws.proofs.Values.{choice, here, column, gate1, signal, address, any_below, bit_line, word_line, opened, left, right, sensed, value}
 use Rattle.memory_laws.proofs.Decode.{index_fits}
-use Rattle.memory_laws.proofs.Direct.{role, direct}
+use Rattle.cell_roles.specs.declared.leaf_role.LeafRole.TheVariants.{Common}
+use Rattle.memory_laws.proofs.Direct.{role, direct, writable}
 use Rattle.memory_laws.proofs.Groups.{IsChosen, carried, follow, to_lo, to_ro, net_step, column_fits, lo_some, ro_some}
 use Rattle.memory_laws.proofs.Exists.{group_value, chosen_value, lo_value, ro_value, sen_value, wen_value, place_strong, given_strong}
 use Rattle.memory_laws.proofs.Drivers.{Pulled, PulledRight, WeakEnds, weak_from, has_driver, off_left, off_right}
@@ -118,7 +119,7 @@ ro_column p s v k bank j is k_fits bank_fits fits some =
     subst (λ (u : Net). InGroup (direct p) s v u (Br bank (j * power_of_two p.col_bits + k))) (ro_some p.col_bits bank ((j * power_of_two p.col_bits + k) / power_of_two p.col_bits) some ∙ ap (Ro bank) (div-mul-add j (power_of_two p.col_bits) k k_fits))
     (to_ro p s v k bank (j * power_of_two p.col_bits + k) is bank_fits (column_fits p.col_bits p.word_size j k fits k_fits) (mod-mul-add j (power_of_two p.col_bits) k k_fits)).1
 
-exists_charge : (p : Organization) (s : State) (i : PortInputs) → (gate1 i.clk ≡ true → Agree p s (choice p s i)) → (x y : Net) → HasLeafNet p y
+exists_charge : (p : Organization) (s : State) (i : PortInputs) → (gate1 i.clk ≡ true → Agree p s (choice p s i)) → (x y : Net) → HasLeafNet (writable p) y
     → InGroup (direct p) s (value p s i) x y → HasNone (direct p) s i (value p s i) Strong x
     → HasNone (direct p) s i (value p s i) Weak x → value p s i y ≡ s.charge y
 exists_charge p s i agree x (Bl bank c) there g none weak = (left_kept p s i bank c x there.0 there.1 g none weak).1
@@ -158,7 +159,7 @@ next_state p s i = record {
   charge = value p s i;
 }
 
-stored_after : (p : Organization) (s : State) (i : PortInputs) (leaf : LeafInstance) → bits (role leaf) (next_state p s i) leaf ≡ (act_at (direct p) s (value p s i) leaf).next
+stored_after : (p : Organization) (s : State) (i : PortInputs) (leaf : LeafInstance) → bits (Common (role leaf)) (next_state p s i) leaf ≡ (act_at (direct p) s (value p s i) leaf).next
 stored_after p s i (LogicAt Clki) = refl
 stored_after p s i leaf = refl
 
@@ -169,7 +170,7 @@ phase_exists p s i agree = record {
       let e = weak_from p s i (value p s i) y b h in
       group_value p s i x y g ∙ exists_weak p s i x y g none e.1 ∙ sym e.0;
   charge = λ x y there g none weak.
-      let here = carried p s (value p s i) (choice p s i) (HasLeafNet p) (chosen_value p s i) (net_step p (choice p s i)) x y g there in
+      let here = carried p s (value p s i) (choice p s i) (HasLeafNet (writable p)) (chosen_value p s i) (net_step p (choice p s i)) x y g there in
       group_value p s i x y g ∙ exists_charge p s i agree x y here g none weak;
   stored = λ leaf there. stored_after p s i leaf;
   charges = λ x there. refl;

@@ -10,7 +10,7 @@ use Rattle.cell_roles.specs.Acts.{Strong, differ, cell_bit}
 use Rattle.memory_laws.specs.Phase.{State, PortInputs, IsPhase, Gives, InGroup}
 use Rattle.memory_laws.proofs.Values.{choice, here, column, gate1, flop, signal, address, datum, mask, line, all_lines, enabled, wlen_b, sen_b, wen_on, wlen, sen, wen, any_below, bit_line, word_line, opened, left, right, value}
 use Rattle.memory_laws.proofs.Decode.{line_is, index_fits, twice_some}
-use Rattle.memory_laws.proofs.Direct.{direct, enable}
+use Rattle.memory_laws.proofs.Direct.{direct, enable, writable}
 use Rattle.memory_laws.proofs.Groups.{IsChosen, carried, self, follow, to_lo, to_ro, InLeft, InRight, left_step, right_step, alone_step, column_fits, some_choice, lo_some, ro_some, lo_none, ro_none, slice_none}
 use Rattle.memory_laws.proofs.Exists.{column_choice, picks_are, lines_are, inputs_are, one_column_is, by_banks, by_masks, sen_here}
 use Rattle.memory_laws.proofs.Drivers.{Pulled, PulledRight, WeakEnds, weak_from, StrongEnds, strong_from, local, has_driver, is_loose, is_open, precharges, driven_ports}
@@ -53,7 +53,7 @@ module _ (p : Organization) (masks : MasksFit p) (s : State) (i : PortInputs) (v
   strong_at : (x : Net) (b : Bool) → Gives (direct p) s i v x (Strong b) → v x ≡ b
   strong_at x b g = ph.strong x x b (self p s v x) g
 
-  tight : (x : Net) → HasLeafNet p x → is_loose x ≡ false → v x ≡ local p s i v x
+  tight : (x : Net) → HasLeafNet (writable p) x → is_loose x ≡ false → v x ≡ local p s i v x
   tight x h t = strong_at x _ (has_driver p s i v x h t)
 
   pub clk0_is : v (Control Clk0) ≡ i.clk
@@ -66,13 +66,13 @@ module _ (p : Organization) (masks : MasksFit p) (s : State) (i : PortInputs) (v
   csq_is = let a = tight (Control Csq) tt refl in let b = clk0_is in let c = tight (Control Csb0) tt refl in cc
 
   pub weq_is : v (Control Weq) ≡ signal s i Weq
-  weq_is = let a = tight (Control Weq) tt refl in let b = clk0_is in let c = tight (Control Web0) tt refl in cc
+  weq_is = let a = tight (Control Weq) (omega arith) refl in let b = clk0_is in let c = tight (Control Web0) (omega arith) refl in cc
 
   pub cs_is : v (Control Cs) ≡ signal s i Cs
   cs_is = let a = tight (Control Cs) tt refl in let b = csq_is in cc
 
   pub we_is : v (Control We) ≡ signal s i We
-  we_is = let a = tight (Control We) tt refl in let b = weq_is in cc
+  we_is = let a = tight (Control We) (omega arith) refl in let b = weq_is in cc
 
   pub wlb_is : v (Control Wlb) ≡ signal s i Wlb
   wlb_is = let a = tight (Control Wlb) tt refl in let b = cs_is in let c = clkb_is in cc
@@ -81,16 +81,16 @@ module _ (p : Organization) (masks : MasksFit p) (s : State) (i : PortInputs) (v
   wlen_is = let a = tight (Control Wlen) tt refl in let b = wlb_is in cc
 
   pub wrb_is : v (Control Wrb) ≡ signal s i Wrb
-  wrb_is = let a = tight (Control Wrb) tt refl in let b = cs_is in let c = clkb_is in let d = we_is in cc
+  wrb_is = let a = tight (Control Wrb) (omega arith) refl in let b = cs_is in let c = clkb_is in let d = we_is in cc
 
   pub wen_is : v (Control Wen) ≡ signal s i Wen
-  wen_is = let a = tight (Control Wen) tt refl in let b = wrb_is in cc
+  wen_is = let a = tight (Control Wen) (omega arith) refl in let b = wrb_is in cc
 
   pub rdb_is : v (Control Rdb) ≡ signal s i Rdb
-  rdb_is = let a = tight (Control Rdb) tt refl in let b = cs_is in let c = clkb_is in let d = weq_is in cc
+  rdb_is = let a = tight (Control Rdb) (omega arith) refl in let b = cs_is in let c = clkb_is in let d = weq_is in cc
 
   pub rd_is : v (Control Rd) ≡ signal s i Rd
-  rd_is = let a = tight (Control Rd) tt refl in let b = rdb_is in cc
+  rd_is = let a = tight (Control Rd) (omega arith) refl in let b = rdb_is in cc
 
   pub seb_is : v (Control Seb) ≡ signal s i Seb
   seb_is = let a = tight (Control Seb) tt refl in let b = rd_is in let c = tight (Control Dly) tt refl in cc
@@ -110,7 +110,7 @@ module _ (p : Organization) (masks : MasksFit p) (s : State) (i : PortInputs) (v
   pub m_is : (j : ℕ) → j < p.masks → v (M j) ≡ mask s i j
   m_is j h = let a = tight (M j) h refl in let b = clk0_is in let c = tight (Wmask j) h refl in cc
 
-  pub line_at : (o b k : ℕ) → HasLeafNet p (Line o b k) → v (Line o b k) ≡ line s i o b k
+  pub line_at : (o b k : ℕ) → HasLeafNet (writable p) (Line o b k) → v (Line o b k) ≡ line s i o b k
   line_at o b k h =
       let a = tight (Line o b k) h refl in
       let c = tight (LineB o b k) h refl in
@@ -220,7 +220,7 @@ module _ (p : Organization) (masks : MasksFit p) (s : State) (i : PortInputs) (v
   and_true false y e = absurd cc
 
   -- the value of a group of bit lines
-  pub bl_is : (x : Net) (bank c : ℕ) → bank < power_of_two p.bank_bits → c < p.word_size * power_of_two p.col_bits → HasLeafNet p x → InGroup (direct p) s v x (Bl bank c) → InLeft p.col_bits (choice p s i) bank c x → (k e t : Bool)
+  pub bl_is : (x : Net) (bank c : ℕ) → bank < power_of_two p.bank_bits → c < p.word_size * power_of_two p.col_bits → HasLeafNet (writable p) x → InGroup (direct p) s v x (Bl bank c) → InLeft p.col_bits (choice p s i) bank c x → (k e t : Bool)
       → v (Control Clkb) ≡ k → is_open p v (choice p s i) bank c ≡ e → any_below (bank_rows p) (λ r. v (Wl bank r) && not (s.q (BitAt bank r c))) ≡ t
       → v x ≡ bit_line k e (v (D (c / power_of_two p.col_bits))) t (s.charge (Bl bank c))
   bl_is x bank c bank_fits fits net g back false e t a b h = ph.strong x (Bl bank c) true g (precharges p s i v bank c bank_fits fits a).0
@@ -233,7 +233,7 @@ module _ (p : Organization) (masks : MasksFit p) (s : State) (i : PortInputs) (v
   bl_is x bank c bank_fits fits net g back true false false a b h = ph.charge x (Bl bank c) net g (λ y t u k. quiet_left bank c y a b (in_left bank c x y u back) (strong_from p s i v y t k))
       (λ y t u k. no_pull bank c y h (in_left bank c x y u back) (weak_from p s i v y t k).1)
 
-  pub br_is : (x : Net) (bank c : ℕ) → bank < power_of_two p.bank_bits → c < p.word_size * power_of_two p.col_bits → HasLeafNet p x → InGroup (direct p) s v x (Br bank c) → InRight p.col_bits (choice p s i) bank c x → (k e t : Bool)
+  pub br_is : (x : Net) (bank c : ℕ) → bank < power_of_two p.bank_bits → c < p.word_size * power_of_two p.col_bits → HasLeafNet (writable p) x → InGroup (direct p) s v x (Br bank c) → InRight p.col_bits (choice p s i) bank c x → (k e t : Bool)
       → v (Control Clkb) ≡ k → is_open p v (choice p s i) bank c ≡ e → any_below (bank_rows p) (λ r. v (Wl bank r) && s.q (BitAt bank r c)) ≡ t
       → v x ≡ bit_line k e (not (v (D (c / power_of_two p.col_bits)))) t (s.charge (Br bank c))
   br_is x bank c bank_fits fits net g back false e t a b h = ph.strong x (Br bank c) true g (precharges p s i v bank c bank_fits fits a).1
@@ -249,14 +249,14 @@ module _ (p : Organization) (masks : MasksFit p) (s : State) (i : PortInputs) (v
   open_is : (bank c : ℕ) → bank < power_of_two p.bank_bits → c < p.word_size * power_of_two p.col_bits → is_open p v (choice p s i) bank c ≡ opened p s i bank c
   open_is bank c bank_fits fits = ap (λ (t : Bool). t && eqb (c % power_of_two p.col_bits) (choice p s i)) (wen_there bank (c / power_of_two p.col_bits) bank_fits (div_below c (power_of_two p.col_bits) p.word_size (twice_some p.col_bits) fits))
 
-  group_left : (x : Net) (bank c : ℕ) → bank < power_of_two p.bank_bits → c < p.word_size * power_of_two p.col_bits → HasLeafNet p x → InGroup (direct p) s v x (Bl bank c) → InLeft p.col_bits (choice p s i) bank c x → v x ≡ left p s i bank c
+  group_left : (x : Net) (bank c : ℕ) → bank < power_of_two p.bank_bits → c < p.word_size * power_of_two p.col_bits → HasLeafNet (writable p) x → InGroup (direct p) s v x (Bl bank c) → InLeft p.col_bits (choice p s i) bank c x → v x ≡ left p s i bank c
   group_left x bank c bank_fits fits net g back =
       bl_is x bank c bank_fits fits net g back (signal s i Clkb) (opened p s i bank c) (any_below (bank_rows p) (λ r. word_line p s i bank r && not (s.q (BitAt bank r c)))) clkb_is (open_is bank c bank_fits fits)
       (any_same (bank_rows p) (λ r. v (Wl bank r) && not (s.q (BitAt bank r c))) (λ r. word_line p s i bank r && not (s.q (BitAt bank r c))) (λ r h. ap (λ (t : Bool). t && not (s.q (BitAt bank r c))) (wl_is bank r bank_fits h)))
       ∙ ap (λ (t : Bool). bit_line (signal s i Clkb) (opened p s i bank c) t (any_below (bank_rows p) (λ r. word_line p s i bank r && not (s.q (BitAt bank r c)))) (s.charge (Bl bank c)))
       (d_is (c / power_of_two p.col_bits) (div_below c (power_of_two p.col_bits) p.word_size (twice_some p.col_bits) fits))
 
-  group_right : (x : Net) (bank c : ℕ) → bank < power_of_two p.bank_bits → c < p.word_size * power_of_two p.col_bits → HasLeafNet p x → InGroup (direct p) s v x (Br bank c) → InRight p.col_bits (choice p s i) bank c x → v x ≡ right p s i bank c
+  group_right : (x : Net) (bank c : ℕ) → bank < power_of_two p.bank_bits → c < p.word_size * power_of_two p.col_bits → HasLeafNet (writable p) x → InGroup (direct p) s v x (Br bank c) → InRight p.col_bits (choice p s i) bank c x → v x ≡ right p s i bank c
   group_right x bank c bank_fits fits net g back =
       br_is x bank c bank_fits fits net g back (signal s i Clkb) (opened p s i bank c) (any_below (bank_rows p) (λ r. word_line p s i bank r && s.q (BitAt bank r c))) clkb_is (open_is bank c bank_fits fits)
       (any_same (bank_rows p) (λ r. v (Wl bank r) && s.q (BitAt bank r c)) (λ r. word_line p s i bank r && s.q (BitAt bank r c)) (λ r h. ap (λ (t : Bool). t && s.q (BitAt bank r c)) (wl_is bank r bank_fits h)))
@@ -315,7 +315,7 @@ module _ (p : Organization) (masks : MasksFit p) (s : State) (i : PortInputs) (v
       let z = ro_by (here p s i) c h fits (some_choice p.col_bits) in
       dout_by c fits _ refl ∙ (λ j. cond (x j && differ (y j) (z j)) (y j) (s.charge (Dout c)))
 
-  pub is_value : (x : Net) → HasLeafNet p x → v x ≡ value p s i x
+  pub is_value : (x : Net) → HasLeafNet (writable p) x → v x ≡ value p s i x
   is_value Vdd h = tight Vdd h refl
   is_value Gnd h = tight Gnd h refl
   is_value (Control Clk0) h = clk0_is
@@ -365,7 +365,7 @@ module _ (p : Organization) (masks : MasksFit p) (s : State) (i : PortInputs) (v
   csd_next = let a = ph.stored (LogicAt Csd) tt in let b = clk0_is in let c = tight (Control Csb0) tt refl in (cc, cc)
 
   pub wed_next : (next.q (LogicAt Wed) ≡ flop s i Wed i.web) × (next.p (LogicAt Wed) ≡ i.clk)
-  wed_next = let a = ph.stored (LogicAt Wed) tt in let b = clk0_is in let c = tight (Control Web0) tt refl in (cc, cc)
+  wed_next = let a = ph.stored (LogicAt Wed) (omega arith) in let b = clk0_is in let c = tight (Control Web0) (omega arith) refl in (cc, cc)
 
   pub ad_next : (j : ℕ) → j < bank_bit p + p.bank_bits → (next.q (LogicAt (Ad j)) ≡ address s i j) × (next.p (LogicAt (Ad j)) ≡ i.clk)
   ad_next j h = let a = ph.stored (LogicAt (Ad j)) h in let b = clk0_is in let c = tight (Addr j) h refl in (cc, cc)

@@ -1,6 +1,6 @@
 -- The array of words as numbers: what a memory is to its user.
 use Rattle.std.specs.Prelude.{◌≡◌, ℕ, zero, suc, ◌+◌, ◌*◌, ◌<◌, List, [], ◌∷◌, map, Bool, ◌&&◌, not, nat_eq, if◌then◌else◌}
-use Rattle.sram_netlist.specs.Organization.{Organization, IsBuildable}
+use Rattle.sram_netlist.specs.Organization.{Organization, IsBuildable, IsWritten}
 use Rattle.sram_netlist.specs.Nets.{Net, Dout}
 use Rattle.memory_laws.specs.NetlistCircuit.{circuit}
 use Rattle.memory_laws.specs.Phase.{State}
@@ -57,8 +57,8 @@ abbrev pub HaveAddresses : Organization → List NumberCommand → Type 0
 HaveAddresses plan [] = Unit {0}
 HaveAddresses plan (c ∷ cs) = (c.addr < num_words plan) × HaveAddresses plan cs
 
--- every run from a start gives the answers of the array that begins with the start's words, and ends with the array's words
+-- every run of a written memory from a start gives the answers of the array that begins with the start's words, and ends with the array's words
 abbrev pub RunsAnswerNumbers : Type 0
-RunsAnswerNumbers = (plan : Organization) (s : State) (cs : List NumberCommand) (vs : List (Net → Bool)) (end : State) → IsBuildable plan
+RunsAnswerNumbers = (plan : Organization) (s : State) (cs : List NumberCommand) (vs : List (Net → Bool)) (end : State) → IsBuildable plan → IsWritten plan
     → IsStartState (circuit plan) s → HaveAddresses plan cs → IsCommandRun (circuit plan) s (map command_bits cs) vs end
     → (run_answers plan cs vs ≡ array_answers plan cs (word_at plan s)) × ((a : ℕ) → a < num_words plan → word_at plan end a ≡ numbers_after_all plan cs (word_at plan s) a)

@@ -2,15 +2,17 @@
 use Rattle.std.specs.Prelude.{◌≡◌, ℕ, List, [], ◌∷◌, map, Bool, true, false, ◌⊎◌}
 use Rattle.sram_netlist.specs.Nets.{Net, Clk0, Csb0, Web0, Vdd, Gnd, Control, Addr, Din, Wmask}
 use Rattle.sram_netlist.specs.Instances.{LeafInstance}
-use Rattle.cell_roles.specs.declared.role.Role.{Role}
+use Rattle.cell_roles.specs.declared.leaf_role.LeafRole.{LeafRole}
+use Rattle.cell_roles.specs.declared.leaf_role.LeafRole.TheVariants.{Common}
 use Rattle.cell_roles.specs.declared.role.Role.TheVariants.{Bitcell, Dff, Delay}
-use Rattle.cell_roles.specs.Acts.{Drive, Off, Strong, Weak, Act, act}
+use Rattle.cell_roles.specs.Acts.{Drive, Off, Strong, Weak, Act}
+use Rattle.cell_roles.specs.LeafRoles.{leaf_act}
 
 -- which instances and nets there are; each instance's role, the nets that it looks at, those that it may drive, and the pairs that it may join
 pub record Circuit : Type 1 where
   pub has : LeafInstance → Type 0
   pub knows : Net → Type 0
-  pub role : LeafInstance → Role
+  pub role : LeafInstance → LeafRole
   pub looks : LeafInstance → List Net
   pub drives : LeafInstance → List Net
   pub joins : LeafInstance → List (Net × Net)
@@ -30,10 +32,10 @@ pub record PortInputs : Type 0 where
   pub wmask : ℕ → Bool
 
 -- an instance's stored bits
-abbrev pub bits : Role → State → LeafInstance → List Bool
-bits Bitcell s leaf = s.q leaf ∷ []
-bits Dff s leaf = s.q leaf ∷ s.p leaf ∷ []
-bits Delay s leaf = s.q leaf ∷ []
+abbrev pub bits : LeafRole → State → LeafInstance → List Bool
+bits (Common Bitcell) s leaf = s.q leaf ∷ []
+bits (Common Dff) s leaf = s.q leaf ∷ s.p leaf ∷ []
+bits (Common Delay) s leaf = s.q leaf ∷ []
 bits role s leaf = []
 
 -- what is put on a net from outside
@@ -64,7 +66,7 @@ IsPair x y (pair ∷ pairs) [] = ⊥
 IsPair x y (pair ∷ pairs) (b ∷ bs) = (AreJoinEnds x y pair × (b ≡ true)) ⊎ IsPair x y pairs bs
 
 abbrev pub act_at : Circuit → State → (Net → Bool) → LeafInstance → Act
-act_at c s v leaf = act (c.role leaf) (map v (c.looks leaf)) (bits (c.role leaf) s leaf)
+act_at c s v leaf = leaf_act (c.role leaf) (map v (c.looks leaf)) (bits (c.role leaf) s leaf)
 
 -- an instance drives the net
 pub record DrivesNet (c : Circuit) (s : State) (v : Net → Bool) (x : Net) (d : Drive) : Type 0 where

@@ -16,7 +16,7 @@ use Rattle.openram_cli.specs.Answer.{IsAnswer}
 abbrev pub IsOnly : (Reply → Type 0) → Type 0
 IsOnly P = (a b : Reply) → P a → P b → a ≡ b
 
--- words that are no build and no demonstration have at most one answer, over these files
+-- words that build no memory have at most one answer, over these files
 abbrev pub HaveOneAnswer : List (List ℕ) → Files → Type 0
 HaveOneAnswer words files = AreNoMaking words → HoldBytes files → IsOnly (IsAnswer words files)
 
@@ -28,11 +28,11 @@ pub record EndsAsReply (reply : Reply) (status : ℕ) (before now : Outside) : T
   pub cut : status ≡ 4 → ¬ Rose before.store.faults now.store.faults → Grows (IsCut reply.lines) before.sink.text now.sink.text
   pub stopped : status ≡ 5 → ¬ Rose before.store.faults now.store.faults → Grows (IsStopped reply.lines) before.sink.text now.sink.text
 
--- Words that are no build and no demonstration, over told files of bytes: whatever reply is their answer, the run ends as it says.
+-- Words that build no memory, over told files of bytes: whatever reply is their answer, the run ends as it says.
 abbrev pub EndsAsAnswer : List (List ℕ) → ℕ → Outside → Outside → Type 0
 EndsAsAnswer words status before now = AreNoMaking words
     → IfTold before.store.files (λ files. HoldBytes files → (reply : Reply) → IsAnswer words files reply → EndsAsReply reply status before now)
 
--- words that are a build or a demonstration end as the work on the files does
+-- words that build a memory end as the work on the files does
 abbrev pub EndAsAsked : List (List ℕ) → ℕ → Outside → Outside → Type 0
 EndAsAsked words status before now = AreNoMaking words ⊎ ((m : Making) × IsMakingForm words m × EndsAsWork m status before now)

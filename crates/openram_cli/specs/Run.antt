@@ -72,7 +72,7 @@ pub record IsRunEnd (words : List (List ℕ)) (files : Files) (status : ℕ) (be
   pub cut : status ≡ 4 → IsFaultEnd words files before now
   pub memory : status ≡ 5 → IsMemoryEnd words files before now
 
--- What a run on words that are no build and no demonstration does.
+-- What a run on words that build no memory does.
 pub record IsAnswerRun (words : List (List ℕ)) (status : ℕ) (before now : Outside) : Type 0 where
   pub range : status < 6
   -- where the store tells its files, status and text are those of the answer over them
@@ -94,7 +94,7 @@ pub record IsAnswerRun (words : List (List ℕ)) (status : ℕ) (before now : Ou
   -- the files stay as they were
   pub files : now.store.files ≡ before.store.files
 
--- What a run does: the words are a build or a demonstration, or they are neither.
+-- What a run does: the words build a memory, a read-only one or one of a demonstration too, or they build none.
 abbrev pub IsProgramRun : List (List ℕ) → ℕ → Outside → Outside → Type 0
 IsProgramRun words status before now =
     ((m : Making) × IsMakingForm words m × IsMakingRun m status before now) ⊎ (AreNoMaking words × IsAnswerRun words status before now)

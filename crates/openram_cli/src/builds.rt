@@ -29,7 +29,7 @@ pub const FILES: [&str; 8] = [
 pub type Change = (&'static str, &'static [u8], &'static [u8], &'static [u8]);
 
 /// What stands before the first such part, and what behind it.
-fn parted<'a>(bytes: &'a [u8], part: &[u8]) -> Option<(&'a [u8], &'a [u8])> {
+pub fn parted<'a>(bytes: &'a [u8], part: &[u8]) -> Option<(&'a [u8], &'a [u8])> {
     for i in 0..=bytes.len() {
         let (before, rest) = bytes.split_at(i);
         if let Some(behind) = rest.strip_prefix(part) {
@@ -40,7 +40,12 @@ fn parted<'a>(bytes: &'a [u8], part: &[u8]) -> Option<(&'a [u8], &'a [u8])> {
 }
 
 /// The file with the changes that are its own.
-fn changed(alloc: Global, name: &str, bytes: &[u8], changes: &[Change]) -> Result<MemFile, Fail> {
+pub fn changed(
+    alloc: Global,
+    name: &str,
+    bytes: &[u8],
+    changes: &[Change],
+) -> Result<MemFile, Fail> {
     let mut bytes = Vec::from_slice(alloc, bytes)?;
     for (changed, after, old, new) in changes {
         if *changed == name {
@@ -72,7 +77,7 @@ pub fn built<R: Threads + Sync>(rt: &R, alloc: Global, changes: &[Change]) -> Re
     run_on(rt, alloc, &BUILD, inputs_with(alloc, changes)?, NONE)
 }
 
-fn has(bytes: &[u8], part: &[u8]) -> bool {
+pub fn has(bytes: &[u8], part: &[u8]) -> bool {
     parted(bytes, part).is_some()
 }
 

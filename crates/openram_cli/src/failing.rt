@@ -1,6 +1,7 @@
-//! Each call of the store and of the sink that a build or a demonstration makes fails in turn.
+//! Each call of the store and of the sink that a build, a read-only memory or a demonstration makes fails in turn.
 
 use crate::builds::{BUILD, DEMO, DEMO_LINE, FILES, inputs_with};
+use crate::roms::{ROM, ROM_FILES, ROM_LINE, WORDS, rom_files};
 use crate::run::run;
 use crate::tests::{Failing, NONE, file, list_of, run_on};
 use or_host::{MemFile, MemSink, MemStore};
@@ -9,36 +10,68 @@ use std::process::Abort;
 use std::test::Fail;
 use std::thread::Threads;
 
-/// The first of `FILES` are read, so many, and then the others are written: one call of the store for each.
+/// What is built.
 #[derive(Clone, Copy)]
-struct Command {
-    words: [&'static str; 3],
-    reads: u64,
+enum Built {
+    Memory,
+    ReadOnly,
+    Demonstration,
 }
 
-const COMMANDS: [Command; 2] = [
+/// The first of `files` are read, so many, and then the others are written: one call of the store for each. The line is the one
+/// that is printed where no call fails.
+#[derive(Clone, Copy)]
+struct Command {
+    built: Built,
+    words: &'static [&'static str],
+    files: &'static [&'static str],
+    reads: u64,
+    line: &'static str,
+}
+
+const COMMANDS: [Command; 3] = [
     Command {
-        words: BUILD,
+        built: Built::Memory,
+        words: &BUILD,
+        files: &FILES,
         reads: 4,
+        line: DEMO_LINE,
     },
     Command {
-        words: DEMO,
+        built: Built::ReadOnly,
+        words: &ROM,
+        files: &ROM_FILES,
+        reads: 5,
+        line: ROM_LINE,
+    },
+    Command {
+        built: Built::Demonstration,
+        words: &DEMO,
+        files: &FILES,
         reads: 0,
+        line: DEMO_LINE,
     },
 ];
+
+/// The files that it reads.
+fn inputs_of(alloc: Global, command: Command) -> Result<Vec<MemFile>, Fail> {
+    match command.built {
+        Built::Memory => inputs_with(alloc, &[]),
+        Built::ReadOnly => rom_files(alloc, &[], &WORDS),
+        Built::Demonstration => Ok(Vec::new(alloc)),
+    }
+}
 
 /// The files that are read, and old ones under the names of those that are written.
 fn files_before(alloc: Global, command: Command) -> Result<Vec<MemFile>, Fail> {
     let mut files = Vec::new(alloc);
-    for (name, number) in FILES.iter().zip(1..=8) {
+    for (name, number) in command.files.iter().zip(1..=9) {
         if number > command.reads {
             files.push(file(alloc, name.as_bytes(), b"old".to_vec(alloc)?)?)?;
         }
     }
-    if command.reads > 0 {
-        for input in inputs_with(alloc, &[])? {
-            files.push(input)?;
-        }
+    for input in inputs_of(alloc, command)? {
+        files.push(input)?;
     }
     Ok(files)
 }
@@ -49,7 +82,7 @@ fn half(bytes: &[u8]) -> &[u8] {
 
 /// The line of a command whose call of the store with this number fails, if there is one.
 fn line_of(alloc: Global, command: Command, failing: u64) -> Result<String, Fail> {
-    for (name, number) in FILES.iter().zip(1..=8) {
+    for (name, number) in command.files.iter().zip(1..=9) {
         if number == failing && number <= command.reads {
             return Ok(format!(in alloc; "openram: 91 ReadFailed {name}\n")?);
         }
@@ -57,7 +90,7 @@ fn line_of(alloc: Global, command: Command, failing: u64) -> Result<String, Fail
             return Ok(format!(in alloc; "openram: 92 WriteFailed {name}\n")?);
         }
     }
-    Ok(String::from_str(alloc, DEMO_LINE)?)
+    Ok(String::from_str(alloc, command.line)?)
 }
 
 /// What the file of a call holds after the call with the number `failing`, from what it held before and when all is done.
@@ -80,7 +113,7 @@ fn expect_files(
     done: &MemStore,
     now: &MemStore,
 ) -> Result<(), Fail> {
-    for (name, number) in FILES.iter().zip(1..=8) {
+    for (name, number) in command.files.iter().zip(1..=9) {
         let before = before.contents(name).ok_or("no file before")?;
         let done = done.contents(name).ok_or("no file when done")?;
         let state = if number <= command.reads {
@@ -103,8 +136,8 @@ fn expect_failing<R: Threads + Sync + Abort>(
     done: &MemStore,
 ) -> Result<(), Fail> {
     let files = files_before(alloc, command)?;
-    let ended = run_on(rt, alloc, &command.words, files, failing)?;
-    let fails = failing.store <= 8 || failing.sink == 1;
+    let ended = run_on(rt, alloc, command.words, files, failing)?;
+    let fails = failing.store <= command.files.len() as u64 || failing.sink == 1;
     assert_eq!(rt; ended.status, if fails { 4 } else { 0 });
     let line = line_of(alloc, command, failing.store)?;
     let text = line.as_bytes();
@@ -120,8 +153,8 @@ fn each_call_fails(rt: HostRuntime) -> Result<(), Fail> {
     for command in COMMANDS {
         let before = MemStore::with(alloc, files_before(alloc, command)?, Vec::new(alloc));
         let files = files_before(alloc, command)?;
-        let done = run_on(&rt, alloc, &command.words, files, NONE)?.store;
-        for store in 1..=9 {
+        let done = run_on(&rt, alloc, command.words, files, NONE)?.store;
+        for store in 1..=10 {
             for sink in 0..=1 {
                 let failing = Failing { store, sink };
                 expect_failing(&rt, alloc, command, failing, &before, &done)?;

@@ -20,6 +20,8 @@ mod layouts;
 mod meeting;
 #[cfg(test)]
 mod refused_builds;
+#[cfg(test)]
+mod roms;
 mod run;
 #[cfg(test)]
 mod tests;

@@ -15,7 +15,7 @@ pub const RECTANGLE: &[u8] = &[
 ];
 
 /// The end of UNITS, behind which structures begin.
-const UNITS_END: &[u8] = &[184, 47, 160, 155, 90, 84];
+pub const UNITS_END: &[u8] = &[184, 47, 160, 155, 90, 84];
 
 /// An empty structure `demo_row`.
 const STRUCTURE: &[u8] =

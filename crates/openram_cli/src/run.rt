@@ -38,7 +38,7 @@ fn reply_to<R: Threads + Sync, G: Gate + Sync, S: Store>(
     answer(rt, alloc, gate, inputs, command.workers)
 }
 
-/// Answers the words, which are no build and no demonstration.
+/// Answers the words, which build no memory.
 fn answer_words<R: Threads + Sync, G: Gate + Sync, S: Store, K: Sink>(
     rt: &R,
     alloc: Global,
@@ -66,10 +66,10 @@ pub fn run_gated<R: Threads + Sync, G: Gate + Sync, S: Store, K: Sink>(
     out: &mut K,
 ) -> u8
     ensures run { IsProgramRun (map string_bytes words.now) result (outside_at (store_state (S.files store.old) (S.faults store.old) (S.failed store.old)) (sink_state (K.written out.old) (K.faults out.old) (K.puts out.old))) (outside_at (store_state (S.files store.new) (S.faults store.new) (S.failed store.new)) (sink_state (K.written out.new) (K.faults out.new) (K.puts out.new))) }
-    // Over files of bytes words that are no build and no demonstration have one answer at most, and the run ends as it says:
-    // status and text are a function of words and files.
+    // Over files of bytes words that build no memory have one answer at most, and the run ends as it says: status and text are a
+    // function of words and files.
     ensures one { EndsAsAnswer (map string_bytes words.now) result (outside_at (store_state (S.files store.old) (S.faults store.old) (S.failed store.old)) (sink_state (K.written out.old) (K.faults out.old) (K.puts out.old))) (outside_at (store_state (S.files store.new) (S.faults store.new) (S.failed store.new)) (sink_state (K.written out.new) (K.faults out.new) (K.puts out.new))) }
-    // So they are of a build and a demonstration, with the files at the end.
+    // So they are of words that build one, with the files at the end.
     ensures work { EndAsAsked (map string_bytes words.now) result (outside_at (store_state (S.files store.old) (S.faults store.old) (S.failed store.old)) (sink_state (K.written out.old) (K.faults out.old) (K.puts out.old))) (outside_at (store_state (S.files store.new) (S.faults store.new) (S.failed store.new)) (sink_state (K.written out.new) (K.faults out.new) (K.puts out.new))) }
 {
     match making_in(words) {
@@ -79,10 +79,9 @@ pub fn run_gated<R: Threads + Sync, G: Gate + Sync, S: Store, K: Sink>(
 }
 
 /// All that the program does: it reads the files that the words name, writes the views of a build, prints each line by one call
-/// of `put`, and answers the exit status. 0: done. 1: a check found violations, a comparison a difference, a kit is weak, or leaf cells differ
-/// from their subcircuits in a transistor. 2: the words are no
-/// form. 3: an input is refused, or the memory that it asks for can't be built soundly. 4: the store or the sink failed, and its
-/// count of faults rose. 5: out of memory.
+/// of `put`, and answers the exit status. 0: done. 1: a check found violations, a comparison a difference, a kit is weak, or leaf
+/// cells differ from their subcircuits in a transistor. 2: the words are no form. 3: an input is refused, or the memory that it
+/// asks for can't be built soundly. 4: the store or the sink failed, and its count of faults rose. 5: out of memory.
 pub fn run<R: Threads + Sync, S: Store, K: Sink>(
     rt: &R,
     alloc: Global,
@@ -91,10 +90,10 @@ pub fn run<R: Threads + Sync, S: Store, K: Sink>(
     out: &mut K,
 ) -> u8
     ensures run { IsProgramRun (map string_bytes words.now) result (outside_at (store_state (S.files store.old) (S.faults store.old) (S.failed store.old)) (sink_state (K.written out.old) (K.faults out.old) (K.puts out.old))) (outside_at (store_state (S.files store.new) (S.faults store.new) (S.failed store.new)) (sink_state (K.written out.new) (K.faults out.new) (K.puts out.new))) }
-    // Over files of bytes words that are no build and no demonstration have one answer at most, and the run ends as it says:
-    // status and text are a function of words and files.
+    // Over files of bytes words that build no memory have one answer at most, and the run ends as it says: status and text are a
+    // function of words and files.
     ensures one { EndsAsAnswer (map string_bytes words.now) result (outside_at (store_state (S.files store.old) (S.faults store.old) (S.failed store.old)) (sink_state (K.written out.old) (K.faults out.old) (K.puts out.old))) (outside_at (store_state (S.files store.new) (S.faults store.new) (S.failed store.new)) (sink_state (K.written out.new) (K.faults out.new) (K.puts out.new))) }
-    // So they are of a build and a demonstration, with the files at the end.
+    // So they are of words that build one, with the files at the end.
     ensures work { EndAsAsked (map string_bytes words.now) result (outside_at (store_state (S.files store.old) (S.faults store.old) (S.failed store.old)) (sink_state (K.written out.old) (K.faults out.old) (K.puts out.old))) (outside_at (store_state (S.files store.new) (S.faults store.new) (S.failed store.new)) (sink_state (K.written out.new) (K.faults out.new) (K.puts out.new))) }
 {
     run_gated(rt, alloc, &OpenGate, words, store, out)

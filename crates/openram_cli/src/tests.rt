@@ -223,7 +223,7 @@ fn an_empty_structure(rt: HostRuntime) -> Result<(), Fail> {
 /// Words, the status, and what is printed.
 type Words = (&'static [&'static str], u8, &'static [u8]);
 
-const WORDS: [Words; 14] = [
+const WORDS: [Words; 16] = [
     (
         &["check", "t.toml", "a.gds", "z", "1"],
         3,
@@ -264,6 +264,8 @@ const WORDS: [Words; 14] = [
     (&["build", "t.toml", "65"], 2, b"openram: 90 Usage\n"),
     (&["build", "t.toml", "08"], 2, b"openram: 90 Usage\n"),
     (&["build", "t.toml"], 2, b"openram: 90 Usage\n"),
+    (&["rom", "t.toml", "a.bin", "0"], 2, b"openram: 90 Usage\n"),
+    (&["rom", "t.toml", "1"], 2, b"openram: 90 Usage\n"),
     (&["demo", "65536", "1"], 2, b"openram: 90 Usage\n"),
     (&["demo", "00", "1"], 2, b"openram: 90 Usage\n"),
 ];

@@ -12,10 +12,10 @@ use Rattle.channel_router.specs.declared.channel.Channel.{Channel}
 use Rattle.channel_router.specs.declared.channel.ChannelPin.{ChannelPin}
 use Rattle.channel_router.specs.Channel.{IsPinOf, places, AreInChannel, IsChannel}
 use Rattle.sram_netlist.specs.Organization.{Organization, IsBuildable, power_of_two, words_per_row}
-use Rattle.cell_roles.specs.declared.role.Role.TheVariants.{Bitcell, Mux, Sense, Write}
+use Rattle.cell_roles.specs.declared.role.Role.TheVariants.{Bitcell, Mux, Sense}
 use Rattle.macro_layout.specs.LayoutKit.{LayoutKit}
 use Rattle.macro_layout.specs.Places.{drive_width}
-use Rattle.macro_layout.specs.Floorplan.{choice_count}
+use Rattle.macro_layout.specs.Floorplan.{choice_count, write_height}
 use Rattle.port_lists.proofs.TabulateLaws.{some_lines}
 use Rattle.port_data.specs.declared.lines.LineEnds.{LineEnds}
 use Rattle.port_data.specs.Column.{IsChannelLength, AreNearPins, IsNearColumnChannel}
@@ -30,7 +30,7 @@ use Rattle.port_data.proofs.MeetLaws.{IsOfLines, top_of, bottom_of, bottom_there
 pub record AreNear (plan : Organization) (kit : LayoutKit) (wire : Wire) : Type 0 where
   pub buildable : IsBuildable plan
   pub bit : kit.width Bitcell ≤ 65536
-  pub write : kit.height Write ≤ 65536
+  pub write : write_height plan kit ≤ 65536
   pub sense : kit.height Sense ≤ 65536
   pub drive : drive_width plan kit ≤ 131072
   pub column_ends : AreNearEnds (column_ends plan.col_bits kit)

@@ -4,14 +4,14 @@ use Rattle.std.proofs.lemmas.Int.{ints}
 use Rattle.or_geom.proofs.ListLaws.{contains_map}
 use Rattle.tech_rules.specs.declared.tech.Wire.{Wire}
 use Rattle.tech_rules.specs.Drawing.{pitch}
-use Rattle.cell_roles.specs.declared.role.Role.TheVariants.{Write, Sense}
+use Rattle.cell_roles.specs.declared.role.Role.TheVariants.{Sense}
 use Rattle.sram_netlist.specs.Organization.{Organization}
 use Rattle.channel_router.specs.declared.channel.Channel.{Channel}
 use Rattle.channel_router.specs.declared.channel.ChannelPin.{ChannelPin}
 use Rattle.channel_router.specs.Channel.{IsPinOf}
 use Rattle.macro_layout.specs.LayoutKit.{LayoutKit}
 use Rattle.macro_layout.specs.Places.{Floorplan, columns_x, drive_width}
-use Rattle.macro_layout.specs.Floorplan.{choice_count, rail_count, rail_x, column_channel_y}
+use Rattle.macro_layout.specs.Floorplan.{choice_count, rail_count, rail_x, write_height, column_channel_y}
 use Rattle.macro_layout.specs.Channels.{ArePins, Numbered, IsColumnChannel, MeetsColumnTop, MeetsColumnBottom}
 use Rattle.macro_layout.specs.Moved.{ArePinsMoved, IsChannelMoved}
 use Rattle.macro_layout.specs.Pins.{IsRailOf, column_nets}
@@ -96,7 +96,7 @@ is_moved plan kit wire floorplan bank =
     let dx = columns_x plan kit floorplan in
     let ch = column_channel plan kit wire in
     record {
-      low = low_back (kit.height Write) (kit.height Sense) floorplan.write_y floorplan.sense_y bank.sense_y;
+      low = low_back (write_height plan kit) (kit.height Sense) floorplan.write_y floorplan.sense_y bank.sense_y;
       nets = refl;
       top = moved_back dx ch.top;
       bottom = moved_back dx ch.bottom;
@@ -105,7 +105,7 @@ is_moved plan kit wire floorplan bank =
 
 -- some bank has such a floorplan
 abbrev some_floorplan : Organization → LayoutKit → Wire → Floorplan
-some_floorplan plan kit wire = record { logic_x = pos 0; row_x = rail_x wire (rail_count plan); write_y = pos 0; sense_y = pos 0 +ℤ pos (kit.height Write); column_y = pos 0; array_y = pos 0; precharge_y = pos 0; bank_width = pos 0 }
+some_floorplan plan kit wire = record { logic_x = pos 0; row_x = rail_x wire (rail_count plan); write_y = pos 0; sense_y = pos 0 +ℤ pos (write_height plan kit); column_y = pos 0; array_y = pos 0; precharge_y = pos 0; bank_width = pos 0 }
 
 pub is_data_channel : (plan : Organization) (kit : LayoutKit) (wire : Wire) → IsDataChannel plan kit wire (column_channel plan kit wire)
 is_data_channel plan kit wire =

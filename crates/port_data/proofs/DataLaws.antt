@@ -8,11 +8,12 @@ use Rattle.or_geom.specs.Distance.{IsNear}
 use Rattle.or_geom.specs.Place.{IsNearPoint}
 use Rattle.cell_builder.specs.declared.cell.PlacedInstance.{PlacedInstance}
 use Rattle.tech_rules.specs.declared.tech.Wire.{Wire}
-use Rattle.sram_netlist.specs.Organization.{Organization, columns_of, words_per_row}
+use Rattle.sram_netlist.specs.Organization.{Organization, inputs_of, columns_of, words_per_row}
 use Rattle.sram_netlist.specs.InstanceList.{numbers_from, tabulate}
+use Rattle.sram_netlist.proofs.Bounds.{written_fits}
 use Rattle.macro_layout.specs.LayoutKit.{LayoutKit}
 use Rattle.macro_layout.specs.Places.{Floorplan, bit_width}
-use Rattle.macro_layout.specs.Floorplan.{Tracks, IsFloorplan}
+use Rattle.macro_layout.specs.Floorplan.{IsFloorplan}
 use Rattle.macro_layout.specs.Cells.{data_cell, slice_x, write_at, sense_at, column_at}
 
 all_numbers : (P : ℕ → Type 0) (k n : ℕ) → ((j : ℕ) → j < k + n → P j) → AllByRecursion P (numbers_from k n)
@@ -47,8 +48,8 @@ pub data_near : (plan : Organization) (kit : LayoutKit) (fl : Floorplan) (n : Li
     → AllByRecursion (λ (i : PlacedInstance). IsNearPoint i.place.at) (data_cell plan kit fl n).instances
 data_near plan kit fl n few narrow sense column =
     let P : PlacedInstance → Type 0 = λ i. IsNearPoint i.place.at in
-    all_of_both P (tabulate plan.word_size (write_at plan kit)) _
-    (all_made P plan.word_size (write_at plan kit) (λ i lt. record { x = near_x (slice_x plan kit i) (few_wide _ _ (slice_few plan i lt few) narrow); y = near_x 0 (omega arith) }))
+    all_of_both P (tabulate (inputs_of plan) (write_at plan kit)) _
+    (all_made P (inputs_of plan) (write_at plan kit) (λ i lt. record { x = near_x (slice_x plan kit i) (few_wide _ _ (slice_few plan i (written_fits plan.write_size plan.word_size i lt) few) narrow); y = near_x 0 (omega arith) }))
     (all_of_both P (tabulate plan.word_size (sense_at plan kit fl)) _
     (all_made P plan.word_size (sense_at plan kit fl) (λ i lt. record { x = near_x (slice_x plan kit i) (few_wide _ _ (slice_few plan i lt few) narrow); y = sense }))
     (all_made P (columns_of plan) (column_at plan kit fl) (λ c lt. record { x = near_x (c * bit_width kit) (few_wide _ _ (omega (arith, lt, few)) narrow); y = column })))

@@ -13,6 +13,7 @@ use Rattle.leaf_tables.specs.declared.kit.Leaf.{Leaf}
 use Rattle.leaf_tables.specs.Alignment.{role_number, leaf_in}
 use Rattle.leaf_tables.specs.Kits.{IsKit}
 use Rattle.sram_netlist.specs.Netlist.{row_gate}
+use Rattle.sram_netlist.proofs.Bounds.{written_most}
 use Rattle.sram_netlist.specs.Numbers.{ArePlanNumbers}
 use Rattle.sram_plan.specs.declared.numbers.Plan.{Plan}
 use Rattle.sram_plan.specs.PlanNumbers.{numbers_of, organization}
@@ -56,7 +57,7 @@ pub near_kit : (kit : Kit) (plan : Plan) (wire : Wire) → IsKit kit → ArePlan
 near_kit kit plan wire is numbers sizes = record {
   buildable = numbers.plan;
   bit = few_wide kit is Bitcell;
-  write = few_high kit is Write;
+  write = let high = few_high kit is Write in let most = written_most plan.write_size (leaf_height kit Write) in omega (arith, high, most);
   sense = few_high kit is Sense;
   drive = let gate = few_wide kit is (row_gate (organization plan).groups) in let driver = few_wide kit is Driver in omega (arith, gate, driver);
   column_ends = near_ends kit is plan.col_bits;

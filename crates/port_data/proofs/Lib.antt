@@ -4,7 +4,7 @@ mod FormulaLaws
 mod PinLaws
 mod MeetLaws
 mod ChannelLaws
-mod KitLaws
+pub mod KitLaws
 mod TrackCountLaws
 mod NetLaws
 mod SenseLaws

@@ -1,10 +1,9 @@
 -- What is built is refused for want of memory alone.
-use Rattle.std.proofs.Common.{◌≡◌, ℕ, ℤ, List, refl, inl, inr, arith}
+use Rattle.std.proofs.Common.{◌≡◌, ℕ, ℤ, refl, inl, inr, arith}
 use Rattle.tech_rules.specs.declared.tech.Wire.{Wire}
 use Rattle.channel_router.specs.declared.channel.Channel.{Channel}
 use Rattle.channel_router.specs.Routed.{HasClosePins, AreFirstClosePins}
 use Rattle.sram_netlist.specs.Organization.{Organization}
-use Rattle.leaf_tables.specs.declared.kit.Kit.{Kit}
 use Rattle.leaf_tables.specs.declared.part.PartFault.{PartFault}
 use Rattle.leaf_tables.specs.declared.part.PartFault.TheVariants as part_fault
 use Rattle.macro_layout.specs.LayoutKit.{LayoutKit}
@@ -20,7 +19,7 @@ first_are_close ch wire side first second (inr (bottom, none, is)) = inr (first,
 
 wide_is_not_narrow : (plan : Organization) (kit : LayoutKit) (fault : PartFault) → AreWideSlices plan kit → IsNarrowFault plan kit fault → fault ≡ part_fault.Memory
 wide_is_not_narrow plan kit (part_fault.SliceTooNarrow role) wide (inl (named, narrow)) = let fits = wide.sense in absurd (omega (arith, fits, narrow))
-wide_is_not_narrow plan kit (part_fault.SliceTooNarrow role) wide (inr (named, sense, narrow)) = let fits = wide.write in absurd (omega (arith, fits, narrow))
+wide_is_not_narrow plan kit (part_fault.SliceTooNarrow role) wide (inr (named, written, sense, narrow)) = let fits = wide.write written in absurd (omega (arith, fits, narrow))
 wide_is_not_narrow plan kit part_fault.Memory wide narrow = refl
 wide_is_not_narrow plan kit (part_fault.Close side first second) wide narrow = absurd narrow
 wide_is_not_narrow plan kit (part_fault.TapsClose first second) wide narrow = absurd narrow

@@ -1,4 +1,4 @@
--- The column channel of a bank, routed from the left end of its columns and the lower edge of its write cells.
+-- The column channel of a bank, routed from the left end of its columns and the lower edge of its data.
 use Rattle.std.specs.Prelude.{◌≡◌, ◌⊎◌, ◌↔◌, ℕ, ◌≤◌, ◌<◌, ◌+◌, ◌*◌, ◌^◌, ℤ, pos, ◌+ℤ◌, ◌-ℤ◌, ◌≤ℤ◌, List, All, Contains, Some, length, slice_get}
 use Rattle.or_geom.specs.declared.shape.Shape.{Shape}
 use Rattle.cell_roles.specs.Roles.{role_name}
@@ -10,26 +10,26 @@ use Rattle.channel_router.specs.declared.channel.ChannelPin.{ChannelPin}
 use Rattle.channel_router.specs.declared.channel.Interval.{Interval}
 use Rattle.channel_router.specs.Routed.{HasClosePins, AreFirstClosePins, IsRouted}
 use Rattle.channel_router.specs.Wires.{channel_height}
-use Rattle.sram_netlist.specs.Organization.{Organization, words_per_row}
+use Rattle.sram_netlist.specs.Organization.{Organization, IsWritten, words_per_row}
 use Rattle.leaf_tables.specs.declared.kit.Kit.{Kit}
 use Rattle.leaf_tables.specs.declared.part.PartFault.{PartFault}
 use Rattle.leaf_tables.specs.declared.part.PartFault.TheVariants as part_fault
 use Rattle.macro_layout.specs.LayoutKit.{LayoutKit}
 use Rattle.macro_layout.specs.Places.{Floorplan, columns_x}
-use Rattle.macro_layout.specs.Floorplan.{rail_x, rail_count, choice_count, column_channel_y}
+use Rattle.macro_layout.specs.Floorplan.{rail_x, rail_count, choice_count, write_height, column_channel_y}
 use Rattle.macro_layout.specs.Channels.{IsColumnChannel, IsChannelWire, IsTrunkAt}
 use Rattle.macro_layout.specs.Moved.{IsChannelMoved}
 use Rattle.macro_layout.specs.Stated.{IsShifted}
 use Rattle.macro_cells.specs.LayoutOfKit.{layout_kit}
 use Rattle.port_data.specs.Pins.{column_channel}
 
--- the rows begin behind the rails, and the sense cells stand on the write cells
+-- the rows begin behind the rails, and the sense cells stand on the write cells, if there are any
 pub record IsBankFloorplan (plan : Organization) (kit : LayoutKit) (wire : Wire) (floorplan : Floorplan) : Type 0 where
   pub row_x : floorplan.row_x ≡ rail_x wire (rail_count plan)
-  pub sense_y : floorplan.sense_y ≡ floorplan.write_y +ℤ pos (kit.height Write)
+  pub sense_y : floorplan.sense_y ≡ floorplan.write_y +ℤ pos (write_height plan kit)
 
 -- The routed channel has the wires and the trunks of the column channel, as much further left as the columns begin, and as much
--- further down as the write cells stand.
+-- further down as the data stand.
 pub record IsColumnRouted (plan : Organization) (kit : LayoutKit) (wire : Wire) (floorplan : Floorplan) (routed : Routed) : Type 0 where
   pub wires : (s t : Shape) → IsShifted (pos 0 -ℤ columns_x plan kit floorplan) (pos 0 -ℤ floorplan.write_y) s t
       → IsChannelWire (IsColumnChannel plan kit wire floorplan) wire routed.tracks s ↔ Contains routed.shapes t
@@ -48,14 +48,14 @@ pub record IsDataChannel (plan : Organization) (kit : LayoutKit) (wire : Wire) (
 abbrev pub IsTooWide : Organization → LayoutKit → ℕ → Type 0
 IsTooWide plan kit width = words_per_row plan * kit.width Bitcell < width
 
--- neither the sense cell nor the write cell is
+-- the sense cell isn't, and where something is written the write cell isn't
 pub record AreWideSlices (plan : Organization) (kit : LayoutKit) : Type 0 where
   pub sense : kit.width Sense ≤ words_per_row plan * kit.width Bitcell
-  pub write : kit.width Write ≤ words_per_row plan * kit.width Bitcell
+  pub write : IsWritten plan → kit.width Write ≤ words_per_row plan * kit.width Bitcell
 
--- the sense cell is too wide, or else the write cell, or memory ran out
+-- the sense cell is too wide, or else the write cell of a memory that is written, or memory ran out
 abbrev pub IsNarrowFault : Organization → LayoutKit → PartFault → Type 0
-IsNarrowFault plan kit (part_fault.SliceTooNarrow role) = ((role ≡ role_name Sense) × IsTooWide plan kit (kit.width Sense)) ⊎ ((role ≡ role_name Write) × (kit.width Sense ≤ words_per_row plan * kit.width Bitcell) × IsTooWide plan kit (kit.width Write))
+IsNarrowFault plan kit (part_fault.SliceTooNarrow role) = ((role ≡ role_name Sense) × IsTooWide plan kit (kit.width Sense)) ⊎ ((role ≡ role_name Write) × IsWritten plan × (kit.width Sense ≤ words_per_row plan * kit.width Bitcell) × IsTooWide plan kit (kit.width Write))
 IsNarrowFault plan kit part_fault.Memory = Unit {0}
 IsNarrowFault plan kit fault = ⊥
 

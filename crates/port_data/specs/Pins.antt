@@ -1,6 +1,6 @@
--- The column channel by formula, from the left end of the columns and the lower edge of the write cells.
+-- The column channel by formula, from the left end of the columns and the lower edge of the data.
 use Rattle.std.specs.Prelude.{◌≡◌, ◌<◌, ◌≤◌, ℕ, zero, suc, ◌+◌, ◌*◌, ◌/◌, ◌%◌, ℤ, pos, ◌+ℤ◌, ◌-ℤ◌, ◌*ℤ◌, List, [], ◌∷◌, ◌++◌}
-use Rattle.cell_roles.specs.declared.role.Role.TheVariants.{Mux, Tie, Sense, Write}
+use Rattle.cell_roles.specs.declared.role.Role.TheVariants.{Mux, Tie, Sense}
 use Rattle.tech_rules.specs.declared.tech.Wire.{Wire}
 use Rattle.tech_rules.specs.Drawing.{pitch}
 use Rattle.channel_router.specs.declared.channel.Channel.{Channel}
@@ -9,7 +9,7 @@ use Rattle.sram_netlist.specs.Organization.{Organization, words_per_row, columns
 use Rattle.sram_netlist.specs.InstanceList.{tabulate, tabulate_lists}
 use Rattle.macro_layout.specs.LayoutKit.{LayoutKit}
 use Rattle.macro_layout.specs.Places.{bit_width, drive_width}
-use Rattle.macro_layout.specs.Floorplan.{choice_count}
+use Rattle.macro_layout.specs.Floorplan.{choice_count, write_height}
 use Rattle.leaf_tables.specs.NearLeaf.{IsLeafLength}
 use Rattle.port_data.specs.declared.columns.Columns.{Columns}
 use Rattle.port_data.specs.declared.lines.LineEnds.{LineEnds}
@@ -85,7 +85,7 @@ pub record IsDriveWidth (plan : Organization) (kit : LayoutKit) (width : ℕ) : 
 
 abbrev pub column_channel : Organization → LayoutKit → Wire → Channel
 column_channel plan kit wire = record {
-  low = pos (kit.height Write + kit.height Sense);
+  low = pos (write_height plan kit + kit.height Sense);
   top = top_pins plan.col_bits kit (columns_in plan kit);
   bottom = bottom_pins kit (columns_in plan kit);
   exits = tabulate (choice_count plan.col_bits) (exit_at (choice_count plan.col_bits) (drive_width plan kit) (pitch wire));

@@ -26,13 +26,14 @@ use macro_wires::floorplan;
 use netlist::{Deck, Subckt};
 use or_geom::{Memory, Name};
 use part_edges::{add_part, edges_of};
-use sram_plan::Plan;
+use sram_plan::{Plan, inputs_of};
 use sram_subckts::data_subckt;
 use std::alloc::Global;
 
 /// Adds the cell and the subcircuit of a bank's data. Answers where nets come to its edges, in nanometres from the lower left
-/// corner of the write cells. `name` is the macro's. `SliceTooNarrow`: the sense cell, or else the write cell, is wider than the
-/// columns of a bit; or else `Close`: pins of the column channel are nearer to each other than the pitch, x as `channel` has it.
+/// corner of its cells. `name` is the macro's. `SliceTooNarrow`: the sense cell, or else the write cell where something is written,
+/// is wider than the columns of a bit; or else `Close`: pins of the column channel are nearer to each other than the pitch, x as
+/// `channel` has it.
 /// After a refusal nothing is added.
 pub fn build(
     alloc: Global,
@@ -129,7 +130,7 @@ fn data_roles(alloc: Global, plan: &Plan) -> Result<Vec<Role>, Memory>
     ensures { IfOk result (λ roles. roles.items ≡ data_roles (organization plan.now)) }
 {
     let mut roles = Vec::new(alloc);
-    add_roles(Role::Write, plan.word_size, &mut roles)?;
+    add_roles(Role::Write, inputs_of(plan), &mut roles)?;
     add_roles(Role::Sense, plan.word_size, &mut roles)?;
     add_roles(end_role(plan), plan.columns, &mut roles)?;
     Ok(roles)

@@ -15,13 +15,13 @@ use crate::top::top_pins;
 use cell_roles::Role;
 use channel_router::{Channel, Routed, route};
 use leaf_tables::{Kit, PartFault, wire_of};
-use macro_cells::leaf_height;
+use macro_cells::{leaf_height, write_height};
 use or_geom::{Items, Memory};
 use sram_plan::Plan;
 use std::alloc::Global;
 use tech_rules::Wire;
 
-/// The column channel, from the left end of the columns and the lower edge of the write cells.
+/// The column channel, from the left end of the columns and the lower edge of the data.
 fn column_channel(alloc: Global, kit: &Kit, plan: &Plan, wire: &Wire) -> Result<Channel, Memory>
     requires kit { IsKit kit.now }
     requires plan { ArePlanNumbers (numbers_of plan.now) }
@@ -33,7 +33,7 @@ fn column_channel(alloc: Global, kit: &Kit, plan: &Plan, wire: &Wire) -> Result<
     let top = top_pins(alloc, kit, plan.col_bits, &columns)?;
     let bottom = bottom_pins(alloc, kit, &columns)?;
     let exits = exit_pins(alloc, columns.choices, drive, wire)?;
-    let low = leaf_height(kit, Role::Write) + leaf_height(kit, Role::Sense);
+    let low = write_height(kit, plan) + leaf_height(kit, Role::Sense);
     Ok(Channel {
         low: i64::from(low),
         top: Items::from_vec(top),
@@ -45,7 +45,7 @@ fn column_channel(alloc: Global, kit: &Kit, plan: &Plan, wire: &Wire) -> Result<
 
 /// Routes the channel between the sense cells and the multiplexers, or ties where a row has one word. The lines of each bit
 /// lead from its columns down to its sense cell, and the column choices from the multiplexers to their rails. x counts from
-/// the left end of the columns and y from the lower edge of the write cells, in nanometres. `Close`: two pins of one side are
+/// the left end of the columns and y from the lower edge of the data, in nanometres. `Close`: two pins of one side are
 /// nearer to each other than the pitch; `Memory`. Nothing else is refused.
 pub fn channel(alloc: Global, kit: &Kit, plan: &Plan) -> Result<Routed, PartFault>
     requires kit { IsKit kit.now }

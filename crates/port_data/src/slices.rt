@@ -31,7 +31,8 @@ fn name_of(alloc: Global, role: Role) -> Result<Name, Memory>
     Ok(Name::from_bytes(alloc, role.name().as_bytes())?)
 }
 
-/// Refuses a sense cell that is wider than the columns of a bit, or else such a write cell, by the role's name.
+/// Refuses a sense cell that is wider than the columns of a bit, or else, where something is written, such a write cell, by the
+/// role's name.
 pub fn refuse_narrow_slices(alloc: Global, kit: &Kit, plan: &Plan) -> Result<(), PartFault>
     requires kit { IsKit kit.now }
     requires plan { ArePlanNumbers (numbers_of plan.now) }
@@ -43,7 +44,7 @@ pub fn refuse_narrow_slices(alloc: Global, kit: &Kit, plan: &Plan) -> Result<(),
         let role = name_of(alloc, Role::Sense)?;
         return Err(PartFault::SliceTooNarrow { role });
     }
-    if leaf_width(kit, Role::Write) > width {
+    if plan.write_size > 0 && leaf_width(kit, Role::Write) > width {
         let role = name_of(alloc, Role::Write)?;
         return Err(PartFault::SliceTooNarrow { role });
     }

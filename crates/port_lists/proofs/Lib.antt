@@ -1,3 +1,4 @@
 pub mod TabulateLaws
 pub mod NumberLaws
 pub mod PortLaws
+pub mod BitLaws

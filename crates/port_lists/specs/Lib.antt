@@ -1,2 +1,4 @@
 pub mod Spelled
 pub mod Cells
+pub mod Held
+pub mod Contents

@@ -1,7 +1,7 @@
 ghost use Rattle.std.specs.Prelude.{◌≡◌, ◌<◌, ◌≤◌, IfOk};
 ghost use Rattle.sram_netlist.specs.Organization.{power_of_two};
-ghost use Rattle.sram_netlist.specs.Netlist.{enable_count};
-ghost use Rattle.sram_plan.specs.PlanNumbers.{used_groups};
+ghost use Rattle.sram_netlist.specs.Netlist.{enables_of};
+ghost use Rattle.sram_plan.specs.PlanNumbers.{organization, used_groups};
 
 use sram_plan::Plan;
 use std::alloc::{AllocError, Global};
@@ -30,9 +30,15 @@ pub fn lines_of(bits: u32) -> u32
     lines
 }
 
-/// How many write enables a bank has: one for each mask, or one.
+/// How many write enables a bank has: one for each mask, or one, but none where nothing is written.
 pub fn enables_of(plan: &Plan) -> u32
-    ensures { result ≡ enable_count plan.now.masks }
+    ensures { result ≡ enables_of (organization plan.now) }
 {
-    if plan.masks == 0 { 1 } else { plan.masks }
+    if plan.write_size == 0 {
+        0
+    } else if plan.masks == 0 {
+        1
+    } else {
+        plan.masks
+    }
 }

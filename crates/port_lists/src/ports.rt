@@ -1,7 +1,7 @@
 ghost use Rattle.std.specs.Prelude.{◌≡◌, ◌++◌, ◌≤◌, ◌+◌, ◌⊎◌, List, ℕ, length, OnOk};
 ghost use Rattle.std.specs.List.{AllByRecursion};
-ghost use Rattle.sram_netlist.specs.Organization.{IsGroupSize, banks_of};
-ghost use Rattle.sram_netlist.specs.InstanceList.{tabulate_lists};
+ghost use Rattle.sram_netlist.specs.Organization.{IsGroupSize, banks_of, written_bits};
+ghost use Rattle.sram_netlist.specs.InstanceList.{tabulate, tabulate_lists};
 ghost use Rattle.sram_netlist.specs.Numbers.{ArePlanNumbers};
 ghost use Rattle.port_lists.specs.Spelled.{spelled};
 ghost use Rattle.sram_plan.specs.PlanNumbers.{numbers_of, organization};
@@ -10,7 +10,7 @@ ghost use Rattle.sram_deck.specs.Deck.{row_inputs, predecode_lines_from, row_lin
 use crate::names::{NameList, Spelling};
 use crate::numbers::{enables_of, lines_of};
 use or_geom::Memory;
-use sram_plan::Plan;
+use sram_plan::{Plan, inputs_of};
 
 impl NameList {
     /// The pair of bit lines of each column of a bank.
@@ -93,14 +93,24 @@ impl NameList {
         self.add_numbered(b"sel", plan.wpr)
     }
 
-    /// A bank's write enables, as it names them: one for each mask, or one.
+    /// A bank's write enables, as it names them: one for each mask, or one, but none where nothing is written.
     pub fn add_write_enables(&mut self, plan: &Plan) -> Result<(), Memory>
         ensures { OnOk result (self.new ≡ self.old ++ write_enables (organization plan.now)) }
     {
         if plan.masks == 0 {
-            return self.add(Spelling::Word(b"wen"));
+            return self.add_where_written(plan, b"wen");
         }
-        self.add_numbered(b"en", plan.masks)
+        self.add_numbered(b"en", enables_of(plan))
+    }
+
+    /// A name where something is written.
+    fn add_where_written(&mut self, plan: &Plan, word: &'static [u8]) -> Result<(), Memory>
+        ensures { OnOk result (self.new ≡ self.old ++ tabulate (written_bits plan.now.write_size 1) (λ number. word.now)) }
+    {
+        if plan.write_size == 0 {
+            return Ok(());
+        }
+        self.add(Spelling::Word(word))
     }
 
     /// The signals that go into the macro: clock, select, write, the mask bits, the address and the data.
@@ -108,14 +118,11 @@ impl NameList {
         requires { ArePlanNumbers (numbers_of plan.now) }
         ensures { OnOk result ((more : List (List ℕ)) → self.new ++ more ≡ self.old ++ macro_inputs (organization plan.now) more) }
     {
-        self.add_all(&[
-            Spelling::Word(b"clk0"),
-            Spelling::Word(b"csb0"),
-            Spelling::Word(b"web0"),
-        ])?;
+        self.add_all(&[Spelling::Word(b"clk0"), Spelling::Word(b"csb0")])?;
+        self.add_where_written(plan, b"web0")?;
         self.add_indexed(b"wmask0", plan.masks)?;
         self.add_indexed(b"addr0", plan.addr_bits)?;
-        self.add_indexed(b"din0", plan.word_size)?;
+        self.add_indexed(b"din0", inputs_of(plan))?;
         Ok(())
     }
 
@@ -124,7 +131,7 @@ impl NameList {
         ensures { OnOk result (self.new ≡ self.old ++ bank_enables (organization plan.now) bank) }
     {
         if plan.bank_bits == 0 && plan.masks == 0 {
-            return self.add(Spelling::Word(b"wen"));
+            return self.add_where_written(plan, b"wen");
         }
         self.add_numbered_twice(b"we", bank, enables_of(plan))?;
         Ok(())

@@ -19,10 +19,12 @@ use Rattle.leaf_tables.specs.declared.fault.KitFault.{KitFault}
 use Rattle.leaf_tables.specs.declared.fault.KitFault.TheVariants as kit
 use Rattle.leaf_tables.specs.declared.part.PartFault.{PartFault}
 use Rattle.leaf_tables.specs.declared.part.PartFault.TheVariants as part
+use Rattle.rom_data.specs.declared.fault.RomFault.{RomFault}
+use Rattle.rom_data.specs.declared.fault.RomFault.TheVariants as rom
 use Rattle.reply_lines.specs.Pins.{kind_and_pins}
 use Rattle.reply_lines.specs.Shapes.{violation_words}
 use Rattle.reply_lines.specs.declared.refusal.Refusal.{Refusal}
-use Rattle.reply_lines.specs.declared.refusal.Refusal.TheVariants.{Usage, NoFile, TooLong, ReadFailed, Tech, Gds, Spice, Flatten, Rows, Config, Plan, Kit, Part, RuleBroken, NetsDiffer, NoDevices, Nested, BadDevice, Memory}
+use Rattle.reply_lines.specs.declared.refusal.Refusal.TheVariants.{Usage, NoFile, TooLong, ReadFailed, Tech, Gds, Spice, Flatten, Rows, Config, Plan, Kit, Part, RuleBroken, NetsDiffer, NotRom, Rom, NoDevices, Nested, BadDevice, Memory}
 
 abbrev pub headed : ℕ → List ℕ → List (List ℕ) → List (List ℕ)
 headed number name fields = codes "openram:" ∷ (decimal number ∷ (name ∷ fields))
@@ -110,6 +112,11 @@ part_words (part.SliceTooNarrow role) = headed 73 (codes "SliceTooNarrow") (role
 part_words (part.NameTaken name) = headed 74 (codes "NameTaken") (name ∷ [])
 part_words part.Memory = headed 94 (codes "Memory") []
 
+abbrev pub rom_words : RomFault → List (List ℕ)
+rom_words (rom.DataLength length) = headed 111 (codes "DataLength") (decimal length ∷ [])
+rom_words (rom.DataBits word) = headed 112 (codes "DataBits") (decimal word ∷ [])
+rom_words rom.Memory = headed 94 (codes "Memory") []
+
 -- of a file that couldn't be written
 abbrev pub unwritten_words : List ℕ → List (List ℕ)
 unwritten_words name = headed 92 (codes "WriteFailed") (name ∷ [])
@@ -130,6 +137,8 @@ refusal_words (Kit fault) = kit_words fault
 refusal_words (Part fault) = part_words fault
 refusal_words (RuleBroken layers violation) = headed 81 (codes "RuleBroken") (violation_words layers violation)
 refusal_words (NetsDiffer difference) = headed 82 (codes "NetsDiffer") (kind_and_pins difference)
+refusal_words (NotRom key) = headed 113 (codes "NotRom") (key ∷ [])
+refusal_words (Rom fault) = rom_words fault
 refusal_words NoDevices = headed 103 (codes "NoDevices") []
 refusal_words (Nested role) = headed 102 (codes "Nested") (role ∷ [])
 refusal_words (BadDevice role line) = headed 101 (codes "BadDevice") (role ∷ decimal line ∷ [])

@@ -9,8 +9,9 @@ use Rattle.sram_plan.specs.declared.fault.ConfigFault.TheVariants as config
 use Rattle.role_tables.specs.declared.fault.TableFault.TheVariants as table
 use Rattle.leaf_tables.specs.declared.fault.KitFault.TheVariants as kit
 use Rattle.leaf_tables.specs.declared.part.PartFault.TheVariants as part
+use Rattle.rom_data.specs.declared.fault.RomFault.TheVariants as rom
 use Rattle.reply_lines.specs.declared.refusal.Refusal.{Refusal}
-use Rattle.reply_lines.specs.declared.refusal.Refusal.TheVariants.{Usage, ReadFailed, Tech, Gds, Spice, Flatten, Rows, Config, Kit, Part, Memory}
+use Rattle.reply_lines.specs.declared.refusal.Refusal.TheVariants.{Usage, ReadFailed, Tech, Gds, Spice, Flatten, Rows, Config, Kit, Part, Rom, Memory}
 
 -- out of memory, here or in a layer below
 abbrev pub is_memory : Refusal → Bool
@@ -27,6 +28,7 @@ is_memory (Kit (kit.Table table.Memory)) = true
 is_memory (Kit (kit.Flatten flatten.Memory)) = true
 is_memory (Kit kit.Memory) = true
 is_memory (Part part.Memory) = true
+is_memory (Rom rom.Memory) = true
 is_memory other = false
 
 -- a file couldn't be read

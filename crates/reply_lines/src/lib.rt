@@ -11,6 +11,7 @@ mod lines;
 mod net_lines;
 mod refusal;
 mod reply;
+mod rom_refusal;
 
 pub use difference::comparison_reply;
 pub use finding::{report_of, violation_line};

@@ -7,11 +7,13 @@ use crate::build_refusal::{broken_line, config_line, differs_line, kit_line, par
 use crate::device_refusal::bad_device_line;
 use crate::heading::{counted, named, placed, plain, pointed};
 use crate::line::ReplyLine;
+use crate::rom_refusal::rom_line;
 use cell_hierarchy::FlattenFault;
 use gds_library::GdsFault;
 use leaf_tables::{KitFault, PartFault, TableFault};
 use net_extractor::NetDiff;
 use or_geom::{Items, Memory, Name, Point};
+use rom_data::RomFault;
 use spice_netlist::FlatFault;
 use spice_text::SpiceFault;
 use sram_plan::{ConfigFault, PlanFault};
@@ -61,6 +63,12 @@ pub enum Refusal {
     },
     /// The nets of the layout that was built differ from its netlist: the first difference.
     NetsDiffer(NetDiff),
+    /// The configuration has a value that no read-only memory has: the key.
+    NotRom {
+        key: Name,
+    },
+    /// The data file's bytes aren't the words of a read-only memory.
+    Rom(RomFault),
     /// The technology has no kind of transistors.
     NoDevices,
     /// The subcircuit of the role's cell has an instance, where it is to have transistors alone.
@@ -240,6 +248,16 @@ impl From<KitFault> for Refusal {
     }
 }
 
+impl From<RomFault> for Refusal {
+    ghost use Rattle.reply_lines.specs.declared.refusal.Refusal.TheVariants as refusal_of;
+
+    ghost from_gives = { λ fault r. r ≡ refusal_of.Rom fault };
+
+    fn from(fault: RomFault) -> Self {
+        Refusal::Rom(fault)
+    }
+}
+
 impl Refusal {
     /// Whether memory ran out, here or in a layer below.
     pub fn is_memory(&self) -> bool
@@ -260,6 +278,7 @@ impl Refusal {
                 | Refusal::Kit(KitFault::Flatten(FlattenFault::Memory))
                 | Refusal::Kit(KitFault::Memory)
                 | Refusal::Part(PartFault::Memory)
+                | Refusal::Rom(RomFault::Memory)
         )
     }
 
@@ -306,6 +325,8 @@ impl Refusal {
                 broken_line(alloc, layers.as_slice(), *violation)
             }
             Refusal::NetsDiffer(difference) => differs_line(alloc, difference),
+            Refusal::NotRom { key } => named(alloc, 113, b"NotRom", key),
+            Refusal::Rom(fault) => rom_line(alloc, *fault),
             Refusal::NoDevices => plain(alloc, 103, b"NoDevices"),
             Refusal::Nested { role } => named(alloc, 102, b"Nested", role),
             Refusal::BadDevice { role, line } => bad_device_line(alloc, role, *line),

@@ -4,12 +4,12 @@ use Rattle.std.specs.Prelude.{◌==◌}
 use Rattle.std.proofs.Math.Seq.{take-append_seam, drop-append_seam}
 use Rattle.std.proofs.lemmas.Bool.{eqb-true}
 use Rattle.std.proofs.lemmas.List.{append-nil, length-map, append_cancel_left, take-append-drop}
-use Rattle.cell_roles.specs.declared.role.Role.{Role}
-use Rattle.cell_roles.specs.Roles.{input_pins, stored_bits, driven_pins, joined_pins}
+use Rattle.cell_roles.specs.declared.leaf_role.LeafRole.{LeafRole}
+use Rattle.cell_roles.specs.LeafRoles.{leaf_inputs, leaf_stored, leaf_driven, leaf_joined}
 use Rattle.cell_roles.specs.RowTexts.{wanted_char, drive_char, join_char, next_char}
 use Rattle.cell_roles.specs.Tables.{TableRow}
 use Rattle.role_tables.specs.Columns.{are_of, wanted_of, drive_of, join_of, next_of, BeginsWithColumn}
-use Rattle.role_tables.specs.Table.{HasWidths, IsWritten}
+use Rattle.role_tables.specs.Table.{HasWidths, IsWrittenAs}
 use Rattle.role_tables.proofs.CodeLaws.{IsCode, wanted_code, drive_code, join_code, next_code, column_back, column_forth, column_allowed}
 
 -- lists of one length before a rest are told from it
@@ -46,43 +46,43 @@ same_rest : (alphabet : List ℕ) (count : ℕ) (separator text column rest othe
 same_rest alphabet count separator text column rest other others a b =
     append_cancel_left separator rest others (same_front column other (separator ++ rest) (separator ++ others) (a.long ∙ sym b.long) (sym a.is ∙ b.is)).1
 
-pub looks_cut : (role : Role) (text : List ℕ) (row : TableRow) (count : ℕ) → count ≡ length (input_pins role) → IsWritten role text row → BeginsWithColumn (codes "01x") count (codes "/") text (map wanted_char row.looks) (behind_looks row)
+pub looks_cut : (role : LeafRole) (text : List ℕ) (row : TableRow) (count : ℕ) → count ≡ length (leaf_inputs role) → IsWrittenAs role text row → BeginsWithColumn (codes "01x") count (codes "/") text (map wanted_char row.looks) (behind_looks row)
 looks_cut role text row count is w =
     column_cut wanted_of wanted_char (codes "01x") wanted_code count (codes "/") text (behind_looks row) row.looks (w.widths.looks ∙ sym is) w.is
 
-pub after_looks : (role : Role) (text column rest : List ℕ) (row : TableRow) (count : ℕ) → count ≡ length (input_pins role) → BeginsWithColumn (codes "01x") count (codes "/") text column rest → IsWritten role text row → rest ≡ behind_looks row
+pub after_looks : (role : LeafRole) (text column rest : List ℕ) (row : TableRow) (count : ℕ) → count ≡ length (leaf_inputs role) → BeginsWithColumn (codes "01x") count (codes "/") text column rest → IsWrittenAs role text row → rest ≡ behind_looks row
 after_looks role text column rest row count is cut w =
     same_rest (codes "01x") count (codes "/") text column rest (map wanted_char row.looks) (behind_looks row) cut (looks_cut role text row count is w)
 
-pub stored_cut : (role : Role) (text : List ℕ) (row : TableRow) (count : ℕ) → count ≡ length (stored_bits role) → HasWidths role row → text ≡ behind_looks row → BeginsWithColumn (codes "01x") count (codes " = ") text (map wanted_char row.stored) (behind_stored row)
+pub stored_cut : (role : LeafRole) (text : List ℕ) (row : TableRow) (count : ℕ) → count ≡ length (leaf_stored role) → HasWidths role row → text ≡ behind_looks row → BeginsWithColumn (codes "01x") count (codes " = ") text (map wanted_char row.stored) (behind_stored row)
 stored_cut role text row count is w at =
     column_cut wanted_of wanted_char (codes "01x") wanted_code count (codes " = ") text (behind_stored row) row.stored (w.stored ∙ sym is) at
 
-pub after_stored : (role : Role) (text column rest : List ℕ) (row : TableRow) (count : ℕ) → count ≡ length (stored_bits role) → BeginsWithColumn (codes "01x") count (codes " = ") text column rest → HasWidths role row → text ≡ behind_looks row → rest ≡ behind_stored row
+pub after_stored : (role : LeafRole) (text column rest : List ℕ) (row : TableRow) (count : ℕ) → count ≡ length (leaf_stored role) → BeginsWithColumn (codes "01x") count (codes " = ") text column rest → HasWidths role row → text ≡ behind_looks row → rest ≡ behind_stored row
 after_stored role text column rest row count is cut w at =
     same_rest (codes "01x") count (codes " = ") text column rest (map wanted_char row.stored) (behind_stored row) cut (stored_cut role text row count is w at)
 
-pub drives_cut : (role : Role) (text : List ℕ) (row : TableRow) (count : ℕ) → count ≡ length (driven_pins role) → HasWidths role row → text ≡ behind_stored row → BeginsWithColumn (codes "01lhz") count (codes "/") text (map drive_char row.drives) (behind_drives row)
+pub drives_cut : (role : LeafRole) (text : List ℕ) (row : TableRow) (count : ℕ) → count ≡ length (leaf_driven role) → HasWidths role row → text ≡ behind_stored row → BeginsWithColumn (codes "01lhz") count (codes "/") text (map drive_char row.drives) (behind_drives row)
 drives_cut role text row count is w at =
     column_cut drive_of drive_char (codes "01lhz") drive_code count (codes "/") text (behind_drives row) row.drives (w.drives ∙ sym is) at
 
-pub after_drives : (role : Role) (text column rest : List ℕ) (row : TableRow) (count : ℕ) → count ≡ length (driven_pins role) → BeginsWithColumn (codes "01lhz") count (codes "/") text column rest → HasWidths role row → text ≡ behind_stored row → rest ≡ behind_drives row
+pub after_drives : (role : LeafRole) (text column rest : List ℕ) (row : TableRow) (count : ℕ) → count ≡ length (leaf_driven role) → BeginsWithColumn (codes "01lhz") count (codes "/") text column rest → HasWidths role row → text ≡ behind_stored row → rest ≡ behind_drives row
 after_drives role text column rest row count is cut w at =
     same_rest (codes "01lhz") count (codes "/") text column rest (map drive_char row.drives) (behind_drives row) cut (drives_cut role text row count is w at)
 
-pub joins_cut : (role : Role) (text : List ℕ) (row : TableRow) (count : ℕ) → count ≡ length (joined_pins role) → HasWidths role row → text ≡ behind_drives row → BeginsWithColumn (codes "j-") count (codes "/") text (map join_char row.joins) (behind_joins row)
+pub joins_cut : (role : LeafRole) (text : List ℕ) (row : TableRow) (count : ℕ) → count ≡ length (leaf_joined role) → HasWidths role row → text ≡ behind_drives row → BeginsWithColumn (codes "j-") count (codes "/") text (map join_char row.joins) (behind_joins row)
 joins_cut role text row count is w at =
     column_cut join_of join_char (codes "j-") join_code count (codes "/") text (behind_joins row) row.joins (w.joins ∙ sym is) at
 
-pub after_joins : (role : Role) (text column rest : List ℕ) (row : TableRow) (count : ℕ) → count ≡ length (joined_pins role) → BeginsWithColumn (codes "j-") count (codes "/") text column rest → HasWidths role row → text ≡ behind_drives row → rest ≡ behind_joins row
+pub after_joins : (role : LeafRole) (text column rest : List ℕ) (row : TableRow) (count : ℕ) → count ≡ length (leaf_joined role) → BeginsWithColumn (codes "j-") count (codes "/") text column rest → HasWidths role row → text ≡ behind_drives row → rest ≡ behind_joins row
 after_joins role text column rest row count is cut w at =
     same_rest (codes "j-") count (codes "/") text column rest (map join_char row.joins) (behind_joins row) cut (joins_cut role text row count is w at)
 
-pub next_cut : (role : Role) (text : List ℕ) (row : TableRow) (count : ℕ) → count ≡ length (stored_bits role) → HasWidths role row → text ≡ behind_joins row → BeginsWithColumn (codes "01=") count [] text (map next_char row.next) []
+pub next_cut : (role : LeafRole) (text : List ℕ) (row : TableRow) (count : ℕ) → count ≡ length (leaf_stored role) → HasWidths role row → text ≡ behind_joins row → BeginsWithColumn (codes "01=") count [] text (map next_char row.next) []
 next_cut role text row count is w at =
     column_cut next_of next_char (codes "01=") next_code count [] text [] row.next (w.next ∙ sym is) (at ∙ sym (append-nil (map next_char row.next)))
 
-pub after_next : (role : Role) (text column rest : List ℕ) (row : TableRow) (count : ℕ) → count ≡ length (stored_bits role) → BeginsWithColumn (codes "01=") count [] text column rest → HasWidths role row → text ≡ behind_joins row → rest ≡ []
+pub after_next : (role : LeafRole) (text column rest : List ℕ) (row : TableRow) (count : ℕ) → count ≡ length (leaf_stored role) → BeginsWithColumn (codes "01=") count [] text column rest → HasWidths role row → text ≡ behind_joins row → rest ≡ []
 after_next role text column rest row count is cut w at =
     same_rest (codes "01=") count [] text column rest (map next_char row.next) [] cut (next_cut role text row count is w at)
 
@@ -94,11 +94,11 @@ column_long : {X : Type 0} (of : ℕ → X) (column : List ℕ) (count width : �
 column_long of column count width long is = length-map column of ∙ long ∙ is
 
 -- a text that is cut to the end is the row of its columns
-pub cut_written : (role : Role) (text looks behind1 stored behind2 drives behind3 joins behind4 next behind5 : List ℕ) (inputs bits driven joined more : ℕ)
-    → inputs ≡ length (input_pins role) → bits ≡ length (stored_bits role) → driven ≡ length (driven_pins role) → joined ≡ length (joined_pins role) → more ≡ length (stored_bits role)
+pub cut_written : (role : LeafRole) (text looks behind1 stored behind2 drives behind3 joins behind4 next behind5 : List ℕ) (inputs bits driven joined more : ℕ)
+    → inputs ≡ length (leaf_inputs role) → bits ≡ length (leaf_stored role) → driven ≡ length (leaf_driven role) → joined ≡ length (leaf_joined role) → more ≡ length (leaf_stored role)
     → BeginsWithColumn (codes "01x") inputs (codes "/") text looks behind1 → BeginsWithColumn (codes "01x") bits (codes " = ") behind1 stored behind2 → BeginsWithColumn (codes "01lhz") driven (codes "/") behind2 drives behind3
     → BeginsWithColumn (codes "j-") joined (codes "/") behind3 joins behind4 → BeginsWithColumn (codes "01=") more [] behind4 next behind5 → behind5 ≡ []
-    → IsWritten role text (record { looks = map wanted_of looks; stored = map wanted_of stored; drives = map drive_of drives; joins = map join_of joins; next = map next_of next })
+    → IsWrittenAs role text (record { looks = map wanted_of looks; stored = map wanted_of stored; drives = map drive_of drives; joins = map join_of joins; next = map next_of next })
 cut_written role text looks behind1 stored behind2 drives behind3 joins behind4 next behind5 inputs bits driven joined more is_inputs is_bits is_driven is_joined is_more cut1 cut2 cut3 cut4 cut5 ends =
     let at5 = column_written next_of next_char (codes "01=") next_code more [] behind4 next behind5 cut5 in
     let at4 = column_written join_of join_char (codes "j-") join_code joined (codes "/") behind3 joins behind4 cut4 in
@@ -108,11 +108,11 @@ cut_written role text looks behind1 stored behind2 drives behind3 joins behind4 
     let last : behind4 ≡ map next_char (map next_of next) = at5 ∙ ap (λ (r : List ℕ). map next_char (map next_of next) ++ r) ends ∙ append-nil (map next_char (map next_of next)) in
     record {
       widths = record {
-        looks = column_long wanted_of looks inputs (length (input_pins role)) cut1.long is_inputs;
-        stored = column_long wanted_of stored bits (length (stored_bits role)) cut2.long is_bits;
-        drives = column_long drive_of drives driven (length (driven_pins role)) cut3.long is_driven;
-        joins = column_long join_of joins joined (length (joined_pins role)) cut4.long is_joined;
-        next = column_long next_of next more (length (stored_bits role)) cut5.long is_more;
+        looks = column_long wanted_of looks inputs (length (leaf_inputs role)) cut1.long is_inputs;
+        stored = column_long wanted_of stored bits (length (leaf_stored role)) cut2.long is_bits;
+        drives = column_long drive_of drives driven (length (leaf_driven role)) cut3.long is_driven;
+        joins = column_long join_of joins joined (length (leaf_joined role)) cut4.long is_joined;
+        next = column_long next_of next more (length (leaf_stored role)) cut5.long is_more;
       };
       is = at1
           ∙ ap (λ (r : List ℕ). map wanted_char (map wanted_of looks) ++ (codes "/" ++ r)) (at2
@@ -122,25 +122,25 @@ cut_written role text looks behind1 stored behind2 drives behind3 joins behind4 
     }
 
 -- one column after another: what stands behind the second, the third, the fourth and the last
-pub at_drives : (role : Role) (text looks behind1 stored behind2 : List ℕ) (row : TableRow) (inputs bits : ℕ)
-    → inputs ≡ length (input_pins role) → bits ≡ length (stored_bits role)
+pub at_drives : (role : LeafRole) (text looks behind1 stored behind2 : List ℕ) (row : TableRow) (inputs bits : ℕ)
+    → inputs ≡ length (leaf_inputs role) → bits ≡ length (leaf_stored role)
     → BeginsWithColumn (codes "01x") inputs (codes "/") text looks behind1 → BeginsWithColumn (codes "01x") bits (codes " = ") behind1 stored behind2
-    → IsWritten role text row → behind2 ≡ behind_stored row
+    → IsWrittenAs role text row → behind2 ≡ behind_stored row
 at_drives role text looks behind1 stored behind2 row inputs bits is_inputs is_bits cut1 cut2 w =
     after_stored role behind1 stored behind2 row bits is_bits cut2 w.widths (after_looks role text looks behind1 row inputs is_inputs cut1 w)
 
-pub at_joins : (role : Role) (text looks behind1 stored behind2 drives behind3 : List ℕ) (row : TableRow) (inputs bits driven : ℕ)
-    → inputs ≡ length (input_pins role) → bits ≡ length (stored_bits role) → driven ≡ length (driven_pins role)
+pub at_joins : (role : LeafRole) (text looks behind1 stored behind2 drives behind3 : List ℕ) (row : TableRow) (inputs bits driven : ℕ)
+    → inputs ≡ length (leaf_inputs role) → bits ≡ length (leaf_stored role) → driven ≡ length (leaf_driven role)
     → BeginsWithColumn (codes "01x") inputs (codes "/") text looks behind1 → BeginsWithColumn (codes "01x") bits (codes " = ") behind1 stored behind2
-    → BeginsWithColumn (codes "01lhz") driven (codes "/") behind2 drives behind3 → IsWritten role text row → behind3 ≡ behind_drives row
+    → BeginsWithColumn (codes "01lhz") driven (codes "/") behind2 drives behind3 → IsWrittenAs role text row → behind3 ≡ behind_drives row
 at_joins role text looks behind1 stored behind2 drives behind3 row inputs bits driven is_inputs is_bits is_driven cut1 cut2 cut3 w =
     after_drives role behind2 drives behind3 row driven is_driven cut3 w.widths (at_drives role text looks behind1 stored behind2 row inputs bits is_inputs is_bits cut1 cut2 w)
 
-pub at_next : (role : Role) (text looks behind1 stored behind2 drives behind3 joins behind4 : List ℕ) (row : TableRow) (inputs bits driven joined : ℕ)
-    → inputs ≡ length (input_pins role) → bits ≡ length (stored_bits role) → driven ≡ length (driven_pins role) → joined ≡ length (joined_pins role)
+pub at_next : (role : LeafRole) (text looks behind1 stored behind2 drives behind3 joins behind4 : List ℕ) (row : TableRow) (inputs bits driven joined : ℕ)
+    → inputs ≡ length (leaf_inputs role) → bits ≡ length (leaf_stored role) → driven ≡ length (leaf_driven role) → joined ≡ length (leaf_joined role)
     → BeginsWithColumn (codes "01x") inputs (codes "/") text looks behind1 → BeginsWithColumn (codes "01x") bits (codes " = ") behind1 stored behind2
     → BeginsWithColumn (codes "01lhz") driven (codes "/") behind2 drives behind3 → BeginsWithColumn (codes "j-") joined (codes "/") behind3 joins behind4
-    → IsWritten role text row → behind4 ≡ behind_joins row
+    → IsWrittenAs role text row → behind4 ≡ behind_joins row
 at_next role text looks behind1 stored behind2 drives behind3 joins behind4 row inputs bits driven joined is_inputs is_bits is_driven is_joined cut1 cut2 cut3 cut4 w =
     after_joins role behind3 joins behind4 row joined is_joined cut4 w.widths
     (at_joins role text looks behind1 stored behind2 drives behind3 row inputs bits driven is_inputs is_bits is_driven cut1 cut2 cut3 w)
@@ -179,13 +179,13 @@ same_things of char alphabet code count separator text xs ys rest other a b = (
 )
 
 -- a text is one row of a role at most
-pub one_row : (role : Role) (text : List ℕ) (a b : TableRow) → IsWritten role text a → IsWritten role text b → a ≡ b
+pub one_row : (role : LeafRole) (text : List ℕ) (a b : TableRow) → IsWrittenAs role text a → IsWrittenAs role text b → a ≡ b
 one_row role text a b by_a by_b =
-    let n = length (input_pins role) in
-    let m = length (stored_bits role) in
+    let n = length (leaf_inputs role) in
+    let m = length (leaf_stored role) in
     let looks = same_things wanted_of wanted_char (codes "01x") wanted_code n (codes "/") text a.looks b.looks (behind_looks a) (behind_looks b) (looks_cut role text a n refl by_a) (looks_cut role text b n refl by_b) in
     let stored = same_things wanted_of wanted_char (codes "01x") wanted_code m (codes " = ") (behind_looks a) a.stored b.stored (behind_stored a) (behind_stored b) (stored_cut role (behind_looks a) a m refl by_a.widths refl) (stored_cut role (behind_looks a) b m refl by_b.widths looks.1) in
-    let drives = same_things drive_of drive_char (codes "01lhz") drive_code (length (driven_pins role)) (codes "/") (behind_stored a) a.drives b.drives (behind_drives a) (behind_drives b) (drives_cut role (behind_stored a) a _ refl by_a.widths refl) (drives_cut role (behind_stored a) b _ refl by_b.widths stored.1) in
-    let joins = same_things join_of join_char (codes "j-") join_code (length (joined_pins role)) (codes "/") (behind_drives a) a.joins b.joins (behind_joins a) (behind_joins b) (joins_cut role (behind_drives a) a _ refl by_a.widths refl) (joins_cut role (behind_drives a) b _ refl by_b.widths drives.1) in
+    let drives = same_things drive_of drive_char (codes "01lhz") drive_code (length (leaf_driven role)) (codes "/") (behind_stored a) a.drives b.drives (behind_drives a) (behind_drives b) (drives_cut role (behind_stored a) a _ refl by_a.widths refl) (drives_cut role (behind_stored a) b _ refl by_b.widths stored.1) in
+    let joins = same_things join_of join_char (codes "j-") join_code (length (leaf_joined role)) (codes "/") (behind_drives a) a.joins b.joins (behind_joins a) (behind_joins b) (joins_cut role (behind_drives a) a _ refl by_a.widths refl) (joins_cut role (behind_drives a) b _ refl by_b.widths drives.1) in
     let next = same_things next_of next_char (codes "01=") next_code m [] (behind_joins a) a.next b.next [] [] (next_cut role (behind_joins a) a m refl by_a.widths refl) (next_cut role (behind_joins a) b m refl by_b.widths joins.1) in
     λ i. record { looks = looks.0 i; stored = stored.0 i; drives = drives.0 i; joins = joins.0 i; next = next.0 i }

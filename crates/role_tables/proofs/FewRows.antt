@@ -5,10 +5,11 @@ use Rattle.std.specs.List.{filter, flat_map}
 use Rattle.std.proofs.lemmas.Bool.{and_from}
 use Rattle.std.proofs.lemmas.List.Elements.{All-head, All-tail, All-weaker}
 use Rattle.or_geom.specs.Gathering.{SomeHas}
-use Rattle.cell_roles.specs.declared.role.Role.{Role}
+use Rattle.cell_roles.specs.declared.leaf_role.LeafRole.{LeafRole}
+use Rattle.cell_roles.specs.declared.leaf_role.LeafRole.TheVariants.{Common, Fixed}
 use Rattle.cell_roles.specs.declared.role.Role.TheVariants.{Bitcell, Precharge, Mux, Tie, Sense, Write, RowNand2, RowNand3, Driver, Nand2, Nand3, Inv, Dff, Delay}
-use Rattle.cell_roles.specs.Roles.{input_pins, stored_bits}
-use Rattle.cell_roles.specs.Tables.{Wanted, Either, Only, TableRow, TablePoint, fits, all_values, table_points}
+use Rattle.cell_roles.specs.LeafRoles.{leaf_inputs, leaf_stored, leaf_points}
+use Rattle.cell_roles.specs.Tables.{Wanted, Either, Only, TableRow, TablePoint, fits, all_values}
 use Rattle.role_tables.specs.Point.{matches, MatchOnePoint}
 use Rattle.role_tables.specs.Table.{HasWidths, AreApartRows}
 
@@ -53,15 +54,15 @@ some_fit (Only true ∷ ws) (suc n) long =
     (some_map (λ vs. IsTrue (fits (Only true ∷ ws) vs)) (λ vs. true ∷ vs) (all_values n) (some_fit ws n (omega arith)))
 
 -- a row of a role matches one of its points
-some_match : (role : Role) (row : TableRow) → HasWidths role row → SomeHas (λ p. IsTrue (matches row p)) (table_points role)
+some_match : (role : LeafRole) (row : TableRow) → HasWidths role row → SomeHas (λ p. IsTrue (matches row p)) (leaf_points role)
 some_match role row w =
-    some_flat (λ p. IsTrue (matches row p)) (λ inputs. map (λ stored. record { inputs = inputs; stored = stored }) (all_values (length (stored_bits role)))) (all_values (length (input_pins role)))
-    (some_weaker (λ inputs. IsTrue (fits row.looks inputs)) (λ inputs. SomeHas (λ p. IsTrue (matches row p)) (map (λ stored. record { inputs = inputs; stored = stored }) (all_values (length (stored_bits role)))))
-    (λ inputs fit. some_map (λ p. IsTrue (matches row p)) (λ stored. record { inputs = inputs; stored = stored }) (all_values (length (stored_bits role)))
+    some_flat (λ p. IsTrue (matches row p)) (λ inputs. map (λ stored. record { inputs = inputs; stored = stored }) (all_values (length (leaf_stored role)))) (all_values (length (leaf_inputs role)))
+    (some_weaker (λ inputs. IsTrue (fits row.looks inputs)) (λ inputs. SomeHas (λ p. IsTrue (matches row p)) (map (λ stored. record { inputs = inputs; stored = stored }) (all_values (length (leaf_stored role)))))
+    (λ inputs fit. some_map (λ p. IsTrue (matches row p)) (λ stored. record { inputs = inputs; stored = stored }) (all_values (length (leaf_stored role)))
     (some_weaker (λ stored. IsTrue (fits row.stored stored)) (λ stored. IsTrue (fits row.looks inputs && fits row.stored stored))
-    (λ stored also. and_from (fits row.looks inputs) (fits row.stored stored) fit also) (all_values (length (stored_bits role)))
-    (some_fit row.stored (length (stored_bits role)) w.stored)))
-    (all_values (length (input_pins role))) (some_fit row.looks (length (input_pins role)) w.looks))
+    (λ stored also. and_from (fits row.looks inputs) (fits row.stored stored) fit also) (all_values (length (leaf_stored role)))
+    (some_fit row.stored (length (leaf_stored role)) w.stored)))
+    (all_values (length (leaf_inputs role))) (some_fit row.looks (length (leaf_inputs role)) w.looks))
 
 few_kept : {X : Type 0} (test : X → Bool) (xs : List X) → length (filter test xs) ≤ length xs
 few_kept test [] = omega arith
@@ -115,25 +116,27 @@ few (row ∷ rows) points some apart =
     (some_weaker (λ p. IsTrue (matches row p)) (λ p. not (matches row p) ≡ false) (λ p is. ap not is) points (All-head (λ r. SomeHas (λ p. IsTrue (matches r p)) points) row rows some)) in
     omega arith
 
-few_points : (role : Role) → length (table_points role) ≤ 16
-few_points Bitcell = lit≤ tt
-few_points Precharge = lit≤ tt
-few_points Mux = lit≤ tt
-few_points Tie = lit≤ tt
-few_points Sense = lit≤ tt
-few_points Write = lit≤ tt
-few_points RowNand2 = lit≤ tt
-few_points RowNand3 = lit≤ tt
-few_points Driver = lit≤ tt
-few_points Nand2 = lit≤ tt
-few_points Nand3 = lit≤ tt
-few_points Inv = lit≤ tt
-few_points Dff = lit≤ tt
-few_points Delay = lit≤ tt
+few_points : (role : LeafRole) → length (leaf_points role) ≤ 16
+few_points (Common Bitcell) = lit≤ tt
+few_points (Common Precharge) = lit≤ tt
+few_points (Common Mux) = lit≤ tt
+few_points (Common Tie) = lit≤ tt
+few_points (Common Sense) = lit≤ tt
+few_points (Common Write) = lit≤ tt
+few_points (Common RowNand2) = lit≤ tt
+few_points (Common RowNand3) = lit≤ tt
+few_points (Common Driver) = lit≤ tt
+few_points (Common Nand2) = lit≤ tt
+few_points (Common Nand3) = lit≤ tt
+few_points (Common Inv) = lit≤ tt
+few_points (Common Dff) = lit≤ tt
+few_points (Common Delay) = lit≤ tt
+few_points (Fixed false) = lit≤ tt
+few_points (Fixed true) = lit≤ tt
 
 -- rows of a role that match no point twice are at most 16
-pub few_rows : (role : Role) (rows : List TableRow) → AreApartRows role rows → length rows ≤ 16
+pub few_rows : (role : LeafRole) (rows : List TableRow) → AreApartRows role rows → length rows ≤ 16
 few_rows role rows are =
     let bound = few_points role in
-    let within = few rows (table_points role) (All-weaker (HasWidths role) (λ row. SomeHas (λ p. IsTrue (matches row p)) (table_points role)) (some_match role) rows are.widths) are.apart in
+    let within = few rows (leaf_points role) (All-weaker (HasWidths role) (λ row. SomeHas (λ p. IsTrue (matches row p)) (leaf_points role)) (some_match role) rows are.widths) are.apart in
     omega arith

@@ -6,19 +6,19 @@ use Rattle.std.proofs.lemmas.List.Quantifiers.{all_pairs_push}
 use Rattle.or_geom.specs.Gathering.{SomeHas}
 use Rattle.or_geom.proofs.GatheringLaws.{some_has}
 use Rattle.or_geom.proofs.ListLaws.{rest_at}
-use Rattle.cell_roles.specs.declared.role.Role.{Role}
+use Rattle.cell_roles.specs.declared.leaf_role.LeafRole.{LeafRole}
 use Rattle.cell_roles.specs.RowTexts.{row_text}
 use Rattle.cell_roles.specs.Tables.{TableRow}
 use Rattle.role_tables.specs.Fault.{IsBadText, IsFirstBadText}
 use Rattle.role_tables.specs.Point.{MatchOnePoint}
-use Rattle.role_tables.specs.Table.{HasWidths, IsWritten, AreRoleRows}
+use Rattle.role_tables.specs.Table.{HasWidths, IsWrittenAs, AreRoleRows}
 use Rattle.role_tables.proofs.FewRows.{few_rows}
 
 pub turned_round : (a b : TableRow) → MatchOnePoint a b → MatchOnePoint b a
 turned_round a b both = record { point = both.point; first = both.second; second = both.first }
 
 -- no rows yet
-pub no_rows : (role : Role) → AreRoleRows role [] []
+pub no_rows : (role : LeafRole) → AreRoleRows role [] []
 no_rows role = record {
   are = refl;
   apart = record {
@@ -28,8 +28,8 @@ no_rows role = record {
 }
 
 -- one row more, which shares no point with those before it
-pub row_more : (role : Role) (texts : List (List ℕ)) (i : ℕ) (text : List ℕ) (rows : List TableRow) (row : TableRow)
-    → i < length texts → text ≡ get_or texts i text → AreRoleRows role (take i texts) rows → IsWritten role text row → (SomeHas (MatchOnePoint row) rows → ⊥)
+pub row_more : (role : LeafRole) (texts : List (List ℕ)) (i : ℕ) (text : List ℕ) (rows : List TableRow) (row : TableRow)
+    → i < length texts → text ≡ get_or texts i text → AreRoleRows role (take i texts) rows → IsWrittenAs role text row → (SomeHas (MatchOnePoint row) rows → ⊥)
     → AreRoleRows role (take (i + 1) texts) (rows ++ row ∷ [])
 row_more role texts i text rows row lt at are written apart = record {
   are = take_more texts i text lt ∙ ap (λ (t : List ℕ). take i texts ++ t ∷ []) (sym at ∙ written.is)
@@ -42,17 +42,17 @@ row_more role texts i text rows row lt at are written apart = record {
 }
 
 -- the rows so far are as many as the texts
-pub as_many : (role : Role) (texts : List (List ℕ)) (i : ℕ) (rows : List TableRow) → i ≤ length texts → AreRoleRows role (take i texts) rows → i ≡ length rows
+pub as_many : (role : LeafRole) (texts : List (List ℕ)) (i : ℕ) (rows : List TableRow) → i ≤ length texts → AreRoleRows role (take i texts) rows → i ≡ length rows
 as_many role texts i rows within are = sym (length-take-le i texts within) ∙ ap length are.are ∙ length-map rows row_text
 
-pub index_fits : (role : Role) (texts : List (List ℕ)) (i : ℕ) (rows : List TableRow) → i ≤ length texts → AreRoleRows role (take i texts) rows → i < 2 ^ 32
+pub index_fits : (role : LeafRole) (texts : List (List ℕ)) (i : ℕ) (rows : List TableRow) → i ≤ length texts → AreRoleRows role (take i texts) rows → i < 2 ^ 32
 index_fits role texts i rows within are =
     let bound = few_rows role rows are.apart in
     let many = as_many role texts i rows within are in
     omega arith
 
 -- after the rows so far this text is bad
-pub first_bad : (role : Role) (texts : List (List ℕ)) (i : ℕ) (text : List ℕ) (rows : List TableRow)
+pub first_bad : (role : LeafRole) (texts : List (List ℕ)) (i : ℕ) (text : List ℕ) (rows : List TableRow)
     → i < length texts → text ≡ get_or texts i text → AreRoleRows role (take i texts) rows → IsBadText role rows text → IsFirstBadText role texts i
 first_bad role texts i text rows lt at are bad = record {
   before = rows;

@@ -1,8 +1,9 @@
 -- What the rows of a table say at a point.
 use Rattle.std.specs.Prelude.{◌≡◌, ℕ, List, [], ◌∷◌, ◌++◌, map, codes, Bool, true, false, ◌&&◌, IsTrue, if◌then◌else◌}
 use Rattle.std.specs.Prelude.{Option, None, Some, find}
-use Rattle.cell_roles.specs.declared.role.Role.{Role}
-use Rattle.cell_roles.specs.Acts.{Act, act}
+use Rattle.cell_roles.specs.declared.leaf_role.LeafRole.{LeafRole}
+use Rattle.cell_roles.specs.Acts.{Act}
+use Rattle.cell_roles.specs.LeafRoles.{leaf_act}
 use Rattle.cell_roles.specs.Tables.{TableRow, TablePoint, fits, next_bits}
 
 abbrev pub point_with : List Bool → List Bool → TablePoint
@@ -32,8 +33,8 @@ said_at [] point = None
 said_at (row ∷ rows) point = if matches row point then Some (row_act row point.stored) else said_at rows point
 
 -- that is what a cell of the role does there
-abbrev pub SaysAct : Role → List TableRow → TablePoint → Type 0
-SaysAct role rows point = said_at rows point ≡ Some (act role point.inputs point.stored)
+abbrev pub SaysAct : LeafRole → List TableRow → TablePoint → Type 0
+SaysAct role rows point = said_at rows point ≡ Some (leaf_act role point.inputs point.stored)
 
 -- both tables say something at the point, and the same
 pub record SaySame (rows others : List TableRow) (point : TablePoint) : Type 0 where

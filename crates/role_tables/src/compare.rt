@@ -1,22 +1,21 @@
 ghost use Rattle.std.specs.Prelude.{◌≡◌, ◌↔◌, All, option_copied, IfOk, IsTrue, length};
-ghost use Rattle.cell_roles.specs.Roles.{stored_bits};
-ghost use Rattle.cell_roles.specs.Tables.{table_of};
+ghost use Rattle.cell_roles.specs.LeafRoles.{leaf_stored, leaf_table};
 ghost use Rattle.role_tables.specs.Fault.{FindsPoint};
 ghost use Rattle.role_tables.specs.Point.{first_match, point_with, SaySame};
 ghost use Rattle.role_tables.specs.Table.{HasWidths};
 
 use crate::points::{all_values, point_text};
 use crate::row::RowText;
-use cell_roles::{Role, table_rows};
+use cell_roles::{LeafRole, leaf_table_rows};
 use or_geom::{Memory, Name};
 use std::alloc::Global;
 
 /// The rows of the role's own table.
-fn rows_of(alloc: Global, role: Role) -> Result<Vec<RowText<'static>>, Memory>
-    ensures { IfOk result (λ rows. rows.items ≡ table_of role) }
+fn rows_of(alloc: Global, role: LeafRole) -> Result<Vec<RowText<'static>>, Memory>
+    ensures { IfOk result (λ rows. rows.items ≡ leaf_table role) }
 {
     let mut rows = Vec::new(alloc);
-    for text in table_rows(role) {
+    for text in leaf_table_rows(role) {
         if let Some(row) = RowText::cut(role, text.as_bytes()) {
             rows.push(row)?;
         }
@@ -36,10 +35,16 @@ fn first_match<'b, 'a>(
 }
 
 /// Whether both tables say something at the point, and the same.
-fn agree(role: Role, rows: &[RowText], others: &[RowText], inputs: &[bool], stored: &[bool]) -> bool
+fn agree(
+    role: LeafRole,
+    rows: &[RowText],
+    others: &[RowText],
+    inputs: &[bool],
+    stored: &[bool],
+) -> bool
     requires rows { All (HasWidths role) rows.now }
     requires others { All (HasWidths role) others.now }
-    requires bits { length stored.now ≡ length (stored_bits role) }
+    requires bits { length stored.now ≡ length (leaf_stored role) }
     ensures { IsTrue result ↔ SaySame rows.now others.now (point_with inputs.now stored.now) }
 {
     let Some(row) = first_match(rows, inputs, stored) else {
@@ -52,7 +57,11 @@ fn agree(role: Role, rows: &[RowText], others: &[RowText], inputs: &[bool], stor
 }
 
 /// The first point, in counting order, at which the rows don't say what a cell of the role does.
-pub fn first_differing(alloc: Global, role: Role, rows: &[RowText]) -> Result<Option<Name>, Memory>
+pub fn first_differing(
+    alloc: Global,
+    role: LeafRole,
+    rows: &[RowText],
+) -> Result<Option<Name>, Memory>
     requires { All (HasWidths role) rows.now }
     ensures { IfOk result (FindsPoint role rows.now) }
 {

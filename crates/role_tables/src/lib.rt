@@ -11,4 +11,4 @@ mod rows;
 
 pub use fault::TableFault;
 pub use laws::{table_faults_are_unique, table_faults_exclude_tables};
-pub use read::read_tables;
+pub use read::{read_table, read_tables};

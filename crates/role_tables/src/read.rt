@@ -1,20 +1,20 @@
 ghost use Rattle.std.specs.Prelude.{◌≡◌, ◌↔◌, IsTrue, OnOk, IfErr};
 ghost use Rattle.or_geom.specs.Gathering.{SomeHas};
-ghost use Rattle.cell_roles.specs.Roles.{role_name};
+ghost use Rattle.cell_roles.specs.LeafRoles.{leaf_role_name};
 ghost use Rattle.role_tables.specs.Fault.{IsRoleFault, IsTableFault};
 ghost use Rattle.role_tables.specs.Table.{texts_of, HasTable, HasTables};
 
 use crate::compare::first_differing;
 use crate::fault::TableFault;
 use crate::rows::{name_of, read_rows};
-use cell_roles::Role;
+use cell_roles::{LeafRole, Role};
 use or_geom::Name;
 use std::alloc::Global;
 use tech_rules::{RoleName, RoleRows, Tech};
 
 /// Whether the technology names a cell for the role.
-fn names_cell(entries: &[RoleName], role: Role) -> bool
-    ensures { IsTrue result ↔ SomeHas (λ entry. entry.role ≡ role_name role) entries.now }
+fn names_cell(entries: &[RoleName], role: LeafRole) -> bool
+    ensures { IsTrue result ↔ SomeHas (λ entry. entry.role ≡ leaf_role_name role) entries.now }
 {
     for entry in entries {
         if entry.role.is(role.name().as_bytes()) {
@@ -25,7 +25,7 @@ fn names_cell(entries: &[RoleName], role: Role) -> bool
 }
 
 /// The rows of the role's table, as they are written; none where there is no table.
-fn texts_of(tables: &[RoleRows], role: Role) -> &[Name]
+fn texts_of(tables: &[RoleRows], role: LeafRole) -> &[Name]
     ensures { result.now ≡ texts_of tables.now role }
 {
     for table in tables {
@@ -36,8 +36,9 @@ fn texts_of(tables: &[RoleRows], role: Role) -> &[Name]
     &[]
 }
 
-/// Looks at one role.
-fn read_table(alloc: Global, tech: &Tech, role: Role) -> Result<(), TableFault>
+/// Whether the technology names a cell for the role, and has a table that says at each point what such a cell does: first whether
+/// it is there, then all rows, then all points.
+pub fn read_table(alloc: Global, tech: &Tech, role: LeafRole) -> Result<(), TableFault>
     ensures ok { OnOk result (HasTable tech.now role) }
     ensures err { IfErr result (IsRoleFault tech.now role) }
 {
@@ -64,7 +65,7 @@ pub fn read_tables(alloc: Global, tech: &Tech) -> Result<(), TableFault>
     ensures err { IfErr result (IsTableFault tech.now) }
 {
     for role in Role::all() {
-        read_table(alloc, tech, role)?;
+        read_table(alloc, tech, LeafRole::Common(role))?;
     }
     Ok(())
 }

@@ -5,9 +5,9 @@ ghost use Rattle.cell_roles.specs.Tables.{TableRow, fits, next_bits};
 ghost use Rattle.role_tables.specs.Columns.{BeginsWithColumn, HasNoColumn, FitOne, are_of, wanted_of, next_of};
 ghost use Rattle.role_tables.specs.Columns.{allows, allow_one, next_bit};
 ghost use Rattle.role_tables.specs.Point.{matches, point_with, MatchOnePoint, row_act};
-ghost use Rattle.role_tables.specs.Table.{IsWritten};
+ghost use Rattle.role_tables.specs.Table.{IsWrittenAs};
 
-use cell_roles::Role;
+use cell_roles::LeafRole;
 use std::marker::Model;
 
 /// What an input or a stored bit may be asked for: 0, 1 or either.
@@ -142,9 +142,9 @@ fn becomes_same(a: &[u8], b: &[u8], stored: &[bool]) -> bool
 
 impl<'a> RowText<'a> {
     /// The row of the role that the text is, if it is one.
-    pub fn cut(role: Role, text: &'a [u8]) -> Option<RowText<'a>>
-        ensures some { IfSome result (IsWritten role text.now) }
-        ensures none { IsNone result → (row : TableRow) → IsWritten role text.now row → ⊥ }
+    pub fn cut(role: LeafRole, text: &'a [u8]) -> Option<RowText<'a>>
+        ensures some { IfSome result (IsWrittenAs role text.now) }
+        ensures none { IsNone result → (row : TableRow) → IsWrittenAs role text.now row → ⊥ }
     {
         let (looks, behind_looks) = cut(text, role.inputs().len(), WANTED, b"/")?;
         let (stored, behind_stored) = cut(behind_looks, role.stored().len(), WANTED, b" = ")?;

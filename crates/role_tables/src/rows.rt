@@ -1,19 +1,19 @@
 ghost use Rattle.std.specs.Prelude.{◌≡◌, ◌↔◌, IsTrue, IfOk, IfErr, IfSome, IsNone};
 ghost use Rattle.or_geom.specs.Gathering.{SomeHas};
-ghost use Rattle.cell_roles.specs.Roles.{role_name};
+ghost use Rattle.cell_roles.specs.LeafRoles.{leaf_role_name};
 ghost use Rattle.role_tables.specs.Fault.{IsBadText, IsRowsFault};
 ghost use Rattle.role_tables.specs.Point.{MatchOnePoint};
-ghost use Rattle.role_tables.specs.Table.{IsWritten, AreRoleRows};
+ghost use Rattle.role_tables.specs.Table.{IsWrittenAs, AreRoleRows};
 
 use crate::fault::TableFault;
 use crate::row::RowText;
-use cell_roles::Role;
+use cell_roles::LeafRole;
 use or_geom::{Memory, Name};
 use std::alloc::Global;
 
 /// The role's name in a fault.
-pub fn name_of(alloc: Global, role: Role) -> Result<Name, Memory>
-    ensures { IfOk result (λ name. name ≡ role_name role) }
+pub fn name_of(alloc: Global, role: LeafRole) -> Result<Name, Memory>
+    ensures { IfOk result (λ name. name ≡ leaf_role_name role) }
 {
     Name::from_bytes(alloc, role.name().as_bytes())
 }
@@ -31,8 +31,8 @@ fn shares_point_with_some(row: &RowText, others: &[RowText]) -> bool
 }
 
 /// The row that the text is, if it is one that matches no point that an earlier row matches.
-fn next_row<'a>(role: Role, before: &[RowText], text: &'a [u8]) -> Option<RowText<'a>>
-    ensures some { IfSome result (IsWritten role text.now) }
+fn next_row<'a>(role: LeafRole, before: &[RowText], text: &'a [u8]) -> Option<RowText<'a>>
+    ensures some { IfSome result (IsWrittenAs role text.now) }
     ensures apart { IfSome result (λ row. SomeHas (MatchOnePoint row) before.now → ⊥) }
     ensures none { IsNone result → IsBadText role before.now text.now }
 {
@@ -46,7 +46,7 @@ fn next_row<'a>(role: Role, before: &[RowText], text: &'a [u8]) -> Option<RowTex
 /// The rows that the texts are, no two of which match one point.
 pub fn read_rows<'a>(
     alloc: Global,
-    role: Role,
+    role: LeafRole,
     texts: &'a [Name],
 ) -> Result<Vec<RowText<'a>>, TableFault>
     ensures ok { IfOk result (λ rows. AreRoleRows role texts.now rows.items) }

@@ -1,14 +1,15 @@
--- The subcircuits of a memory, as they are written: seven, each after those that it refers to.
+-- The subcircuits of a memory, as they are written: its rows' and six more, each after those that it refers to.
 use Rattle.std.specs.Prelude.{ℕ, zero, suc, ◌/◌, ◌%◌, List, [], ◌∷◌, ◌++◌, map, codes}
 use Rattle.netlist.specs.declared.deck.Subckt.{Subckt}
 use Rattle.netlist.specs.declared.deck.Instance.{Instance}
-use Rattle.sram_netlist.specs.Organization.{Organization, power_of_two, bank_rows, words_per_row, columns_of, banks_of, addr_bits}
+use Rattle.sram_netlist.specs.Organization.{Organization, inputs_of, power_of_two, bank_rows, words_per_row, columns_of, banks_of, addr_bits}
 use Rattle.sram_netlist.specs.Instances.{LogicCell}
 use Rattle.cell_roles.specs.declared.role.Role.{Role}
-use Rattle.cell_roles.specs.declared.role.Role.TheVariants.{Bitcell, Precharge, Mux, Tie, Sense, Write, Driver}
+use Rattle.cell_roles.specs.declared.role.Role.TheVariants.{Precharge, Mux, Tie, Sense, Write, Driver}
 use Rattle.cell_roles.specs.Roles.{supplies}
-use Rattle.sram_netlist.specs.Netlist.{row_gate, low_bits, high_bits, mask_of, enable_count, enable_at, wlen_at, sen_at, logic_role, logic_cell_ports}
+use Rattle.sram_netlist.specs.Netlist.{row_gate, low_bits, high_bits, mask_of, enables_of, enable_at, wlen_at, sen_at, logic_role, logic_cell_ports}
 use Rattle.sram_netlist.specs.Names.{with_number, with_numbers, with_index, bank_name, net_name, cell_name}
+use Rattle.sram_netlist.specs.BitCells.{BitCells, bit_cell, row_kinds, row_name}
 use Rattle.sram_netlist.specs.InstanceList.{tabulate, tabulate_lists, logic_cells}
 
 abbrev pub subckt_instance : List ℕ → List (List ℕ) → List ℕ → Instance
@@ -53,13 +54,13 @@ enable_name zero m = codes "wen"
 enable_name (suc n) m = with_number (codes "en") m
 
 abbrev pub write_enables : Organization → List (List ℕ)
-write_enables plan = tabulate (enable_count plan.masks) (enable_name plan.masks)
+write_enables plan = tabulate (enables_of plan) (enable_name plan.masks)
 
 abbrev pub bank_enable : Organization → ℕ → ℕ → List ℕ
 bank_enable plan b m = net_name plan (enable_at plan.bank_bits plan.masks b m)
 
 abbrev pub bank_enables : Organization → ℕ → List (List ℕ)
-bank_enables plan b = tabulate (enable_count plan.masks) (bank_enable plan b)
+bank_enables plan b = tabulate (enables_of plan) (bank_enable plan b)
 
 abbrev pub wlen_name : Organization → ℕ → List ℕ
 wlen_name plan b = net_name plan (wlen_at plan.bank_bits b)
@@ -69,7 +70,7 @@ sen_name plan b = net_name plan (sen_at plan.bank_bits b)
 
 -- the data bits that a bank is given and gives, and the bits of a port of the memory
 abbrev pub data_inputs : Organization → List (List ℕ)
-data_inputs plan = tabulate plan.word_size (with_number (codes "d"))
+data_inputs plan = tabulate (inputs_of plan) (with_number (codes "d"))
 
 abbrev pub data_outputs : Organization → List (List ℕ)
 data_outputs plan = tabulate plan.word_size (with_number (codes "o"))
@@ -86,12 +87,12 @@ abbrev pub ro_name : ℕ → ℕ → List ℕ
 ro_name zero i = with_number (codes "br") i
 ro_name (suc m) i = with_number (codes "ro") i
 
--- n_row: a row's gate, its driver and its bitcells
+-- n_row, or n_row0 and so on: a row's gate, its driver and the cells of its bits
 abbrev pub row_ports : Organization → List (List ℕ)
 row_ports plan = row_inputs 97 plan.groups ++ (codes "wlen" ∷ (all_bit_lines plan ++ supplies))
 
-abbrev pub row_bit : (Role → List ℕ) → ℕ → Instance
-row_bit cell c = subckt_instance (with_number (codes "xb") c) (with_number (codes "bl") c ∷ with_number (codes "br") c ∷ codes "wl" ∷ supplies) (cell Bitcell)
+abbrev pub row_bit : BitCells → ℕ → ℕ → Instance
+row_bit bits r c = subckt_instance (with_number (codes "xb") c) (with_number (codes "bl") c ∷ with_number (codes "br") c ∷ codes "wl" ∷ supplies) (bit_cell bits r c)
 
 abbrev pub row_nand : Organization → (Role → List ℕ) → Instance
 row_nand plan cell = subckt_instance (codes "xnand") (row_inputs 97 plan.groups ++ (codes "zb" ∷ supplies)) (cell (row_gate plan.groups))
@@ -99,18 +100,21 @@ row_nand plan cell = subckt_instance (codes "xnand") (row_inputs 97 plan.groups 
 abbrev pub row_driver : (Role → List ℕ) → Instance
 row_driver cell = subckt_instance (codes "xdrv") (codes "zb" ∷ codes "wlen" ∷ codes "wl" ∷ supplies) (cell Driver)
 
-abbrev pub row_instances : Organization → (Role → List ℕ) → List Instance
-row_instances plan cell = row_nand plan cell ∷ (row_driver cell ∷ tabulate (columns_of plan) (row_bit cell))
+abbrev pub row_instances : Organization → (Role → List ℕ) → BitCells → ℕ → List Instance
+row_instances plan cell bits r = row_nand plan cell ∷ (row_driver cell ∷ tabulate (columns_of plan) (row_bit bits r))
+
+abbrev pub row_subckt : Organization → (Role → List ℕ) → BitCells → List ℕ → ℕ → Subckt
+row_subckt plan cell bits n r = made_subckt (row_name bits n r) (row_ports plan) (row_instances plan cell bits r)
 
 -- n_array: the rows
 abbrev pub array_ports : Organization → List (List ℕ)
 array_ports plan = predecode_lines plan ++ (codes "wlen" ∷ (all_bit_lines plan ++ supplies))
 
-abbrev pub array_row : Organization → List ℕ → ℕ → Instance
-array_row plan n r = subckt_instance (with_number (codes "xr") r) (row_lines_from plan.groups 0 r ++ (codes "wlen" ∷ (all_bit_lines plan ++ supplies))) (n ++ codes "_row")
+abbrev pub array_row : Organization → BitCells → List ℕ → ℕ → Instance
+array_row plan bits n r = subckt_instance (with_number (codes "xr") r) (row_lines_from plan.groups 0 r ++ (codes "wlen" ∷ (all_bit_lines plan ++ supplies))) (row_name bits n r)
 
-abbrev pub array_instances : Organization → List ℕ → List Instance
-array_instances plan n = tabulate (bank_rows plan) (array_row plan n)
+abbrev pub array_instances : Organization → BitCells → List ℕ → List Instance
+array_instances plan bits n = tabulate (bank_rows plan) (array_row plan bits n)
 
 -- n_pre: the precharge
 abbrev pub pre_ports : Organization → List (List ℕ)
@@ -144,7 +148,7 @@ data_links plan cell zero = tabulate (columns_of plan) (data_tie cell)
 data_links plan cell (suc m) = tabulate (columns_of plan) (data_mux plan cell)
 
 abbrev pub data_instances : Organization → (Role → List ℕ) → List Instance
-data_instances plan cell = tabulate plan.word_size (data_write plan cell) ++ (tabulate plan.word_size (data_sense plan cell) ++ data_links plan cell plan.col_bits)
+data_instances plan cell = tabulate (inputs_of plan) (data_write plan cell) ++ (tabulate plan.word_size (data_sense plan cell) ++ data_links plan cell plan.col_bits)
 
 -- n_bank: array, precharge and data
 abbrev pub bank_ports : Organization → List (List ℕ)
@@ -166,8 +170,13 @@ bank_instances plan n = bank_array plan n ∷ (bank_pre plan n ∷ (bank_data pl
 abbrev pub bank_control_names : Organization → ℕ → List (List ℕ)
 bank_control_names plan b = wlen_name plan b ∷ (bank_enables plan b ++ (sen_name plan b ∷ []))
 
+-- the port that tells reads from writes, by the bits of a write
+abbrev pub web_ports : ℕ → List (List ℕ)
+web_ports zero = []
+web_ports (suc write_size) = codes "web0" ∷ []
+
 abbrev pub macro_inputs : Organization → List (List ℕ) → List (List ℕ)
-macro_inputs plan more = codes "clk0" ∷ codes "csb0" ∷ codes "web0" ∷ (port_bits plan.masks (codes "wmask0") ++ (port_bits (addr_bits plan) (codes "addr0") ++ (port_bits plan.word_size (codes "din0") ++ more)))
+macro_inputs plan more = codes "clk0" ∷ codes "csb0" ∷ (web_ports plan.write_size ++ (port_bits plan.masks (codes "wmask0") ++ (port_bits (addr_bits plan) (codes "addr0") ++ (port_bits (inputs_of plan) (codes "din0") ++ more))))
 
 abbrev pub logic_ports : Organization → List (List ℕ)
 logic_ports plan = macro_inputs plan (codes "clkb" ∷ (tabulate_lists (banks_of plan) (bank_control_names plan) ++ (column_choices plan.col_bits ++ (predecode_lines plan ++ (data_inputs plan ++ supplies)))))
@@ -192,14 +201,18 @@ top_logic plan n = subckt_instance (codes "xlogic") (logic_ports plan) (n ++ cod
 abbrev pub top_instances : Organization → List ℕ → List Instance
 top_instances plan n = top_logic plan n ∷ tabulate (banks_of plan) (top_bank plan n)
 
--- what is written for the output name n, behind the subcircuits of the leaf cells; cell is the name of a role's cell
-abbrev pub written_subckts : Organization → (Role → List ℕ) → List ℕ → List Subckt
-written_subckts plan cell n =
-    made_subckt (n ++ codes "_row") (row_ports plan) (row_instances plan cell)
-    ∷ made_subckt (n ++ codes "_array") (array_ports plan) (array_instances plan n)
+-- those behind the rows'
+abbrev pub other_subckts : Organization → (Role → List ℕ) → BitCells → List ℕ → List Subckt
+other_subckts plan cell bits n =
+    made_subckt (n ++ codes "_array") (array_ports plan) (array_instances plan bits n)
     ∷ made_subckt (n ++ codes "_pre") (pre_ports plan) (pre_instances plan cell)
     ∷ made_subckt (n ++ codes "_data") (data_ports plan) (data_instances plan cell)
     ∷ made_subckt (n ++ codes "_bank") (bank_ports plan) (bank_instances plan n)
     ∷ made_subckt (n ++ codes "_logic") (logic_ports plan) (logic_instances plan cell)
     ∷ made_subckt n (top_ports plan) (top_instances plan n)
     ∷ []
+
+-- What is written for the output name n, behind the subcircuits of the leaf cells; cell is the name of a role's cell, bits of the cells
+-- of the bits.
+abbrev pub written_subckts : Organization → (Role → List ℕ) → BitCells → List ℕ → List Subckt
+written_subckts plan cell bits n = tabulate (row_kinds bits (bank_rows plan)) (row_subckt plan cell bits n) ++ other_subckts plan cell bits n

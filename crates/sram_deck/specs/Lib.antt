@@ -1,2 +1,3 @@
 pub mod Deck
 pub mod Sample
+pub mod FixedSample

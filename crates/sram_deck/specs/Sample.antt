@@ -5,6 +5,7 @@ use Rattle.netlist.specs.declared.deck.Subckt.{Subckt}
 use Rattle.cell_roles.specs.declared.role.Role.{Role}
 use Rattle.cell_roles.specs.declared.role.Role.TheVariants.{Bitcell, Precharge, Mux, Tie, Sense, Write, RowNand2, RowNand3, Driver, Nand2, Nand3, Inv, Dff, Delay}
 use Rattle.sram_netlist.specs.Organization.{Organization}
+use Rattle.sram_netlist.specs.BitCells.{Alike}
 use Rattle.sram_deck.specs.Deck.{subckt_instance, made_subckt, written_subckts}
 
 abbrev pub sample_plan : Organization
@@ -184,4 +185,4 @@ sample_top = made_subckt (codes "m") (codes "clk0" ∷ codes "csb0" ∷ codes "w
 
 -- the subcircuits of that memory are these
 abbrev pub SampleAgrees : Type 0
-SampleAgrees = written_subckts sample_plan sample_cell (codes "m") ≡ sample_row ∷ sample_array ∷ sample_pre ∷ sample_data ∷ sample_bank ∷ sample_logic ∷ sample_top ∷ []
+SampleAgrees = written_subckts sample_plan sample_cell (Alike (sample_cell Bitcell)) (codes "m") ≡ sample_row ∷ sample_array ∷ sample_pre ∷ sample_data ∷ sample_bank ∷ sample_logic ∷ sample_top ∷ []

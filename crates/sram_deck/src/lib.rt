@@ -3,4 +3,4 @@
 
 mod laws;
 
-pub use laws::sample_agrees;
+pub use laws::{fixed_sample_agrees, sample_agrees};

@@ -1,6 +1,6 @@
 -- What assembling takes of a kit.
-use Rattle.std.proofs.Common.{◌≡◌, ◌≢◌, ℕ, suc, ◌+◌, ◌<◌, ◌≤◌, ℤ, pos, negsuc, ◌≤ℤ◌, List, [], ◌∷◌, map, length, get_or, Bool, true, false, cond, find, Option, Some, None, option_map, refl, sym, ap, subst, ◌∙◌, arith}
-use Rattle.std.specs.Prelude.{IsTrue, ◌&&◌, nat_le, slice_get, slice_index_or}
+use Rattle.std.proofs.Common.{◌≡◌, ◌≢◌, ℕ, suc, ◌+◌, ◌≤◌, ℤ, pos, negsuc, ◌≤ℤ◌, List, [], ◌∷◌, map, length, get_or, Bool, true, false, cond, find, Option, Some, None, option_map, refl, sym, ap, subst, ◌∙◌, arith}
+use Rattle.std.specs.Prelude.{IsTrue, ◌&&◌, nat_le, slice_index_or}
 use Rattle.std.specs.List.{AllByRecursion, list_all, list_any, position_from}
 use Rattle.std.specs.Str.{bytes_eq, str_eq_ignore_ascii_case}
 use Rattle.std.specs.Char.{to_ascii_lowercase}
@@ -15,27 +15,30 @@ use Rattle.netlist.specs.declared.deck.Subckt.{Subckt}
 use Rattle.tech_rules.specs.declared.tech.RoleName.{RoleName}
 use Rattle.tech_rules.specs.Roles.{is_cell_byte, is_cell_name}
 use Rattle.cell_roles.specs.declared.role.Role.{Role}
+use Rattle.cell_roles.specs.declared.leaf_role.LeafRole.{LeafRole}
+use Rattle.cell_roles.specs.declared.leaf_role.LeafRole.TheVariants.{Common}
 use Rattle.cell_roles.specs.declared.role.Role.TheVariants.{Bitcell, Precharge, Mux, Tie, Sense, Write, RowNand2, RowNand3, Driver, Nand2, Nand3, Inv, Dff, Delay}
-use Rattle.cell_roles.specs.Roles.{role_name, role_ports}
+use Rattle.cell_roles.specs.Roles.{role_ports}
+use Rattle.cell_roles.specs.LeafRoles.{pin_role, leaf_role_name}
 use Rattle.spice_text.specs.Words.{lower}
 use Rattle.spice_text.specs.Writable.{lowered_subckt}
 use Rattle.spice_text.proofs.ReadDecks.{decks_are_lowered}
 use Rattle.spice_netlist.specs.Names.{same_name, index_of}
 use Rattle.spice_netlist.specs.Resolved.{names_of}
-use Rattle.sram_netlist.specs.Organization.{Organization}
-use Rattle.sram_rows.specs.Rows.{HasRoleCell, AreLeavesFor}
-use Rattle.port_lists.specs.Cells.{cell_in}
+use Rattle.sram_rows.specs.Rows.{HasCellOf}
+use Rattle.port_lists.specs.Cells.{named_cell}
 use Rattle.leaf_tables.specs.declared.kit.Kit.{Kit}
 use Rattle.leaf_tables.specs.declared.kit.Leaf.{Leaf}
-use Rattle.leaf_tables.specs.Leaves.{IsLeaf, HasLeaf, cell_named_for, subckt_named}
+use Rattle.leaf_tables.specs.Leaves.{HasLeaf, cell_named_for, subckt_named}
 use Rattle.leaf_tables.specs.Kits.{IsKit, source_of}
 use Rattle.leaf_tables.specs.Alignment.{role_number, leaf_in}
 use Rattle.leaf_tables.proofs.RoleLaws.{role_below, in_kit}
 use Rattle.macro_cells.specs.LayoutOfKit.{layout_kit}
 use Rattle.macro_cells.specs.LeafSides.{side_of}
 use Rattle.macro_bounds.specs.Floorplans.{IsSmallKit}
+use Rattle.macro_bounds.specs.Complete.{HasFlatLists}
 use Rattle.macro_bounds.specs.Library.{AreFreeStructures}
-use Rattle.sram_macro.specs.Names.{macro_names, is_structure_name, is_subckt_name, is_taken, first_taken}
+use Rattle.sram_macro.specs.Names.{is_structure_name, is_subckt_name, is_taken, first_taken}
 use Rattle.sram_macro.proofs.LayoutLaws.{listed_has}
 
 -- Each role has a leaf
@@ -43,7 +46,7 @@ use Rattle.sram_macro.proofs.LayoutLaws.{listed_has}
 no_leaf : Leaf
 no_leaf = record { width = pos 0; height = pos 0; pins = [] }
 
-pub has_leaf : (kit : Kit) (is : IsKit kit) (role : Role) → HasLeaf (source_of kit is.wire) role
+pub has_leaf : (kit : Kit) (is : IsKit kit) (role : Role) → HasLeaf (source_of kit is.wire) (Common role)
 has_leaf kit is role =
     (get_or kit.leaves (role_number role) no_leaf, in_kit kit role (get_or kit.leaves (role_number role) no_leaf) is (slice_get-get_or kit.leaves (role_number role) no_leaf (role_below kit is (role_number role) role refl)))
 
@@ -86,17 +89,24 @@ cell_text text h =
 abbrev IsNamed : RoleName → Type 0
 IsNamed r = IsTrue (is_cell_name r.cell)
 
-named_text : (entries : List RoleName) (role : Role) (cell : List ℕ) → AllByRecursion IsNamed entries → cell_named_for entries role ≡ Some cell → IsText (cell_in entries role)
+-- the cell that the entries name for a role
+abbrev pub cell_for : List RoleName → LeafRole → List ℕ
+cell_for entries role = named_cell entries (leaf_role_name role)
+
+named_text : (entries : List RoleName) (role : LeafRole) (cell : List ℕ) → AllByRecursion IsNamed entries → cell_named_for entries role ≡ Some cell → IsText (cell_for entries role)
 named_text [] role cell all e = absurd cc
-named_text (r ∷ rs) role cell all e = by (bytes_eq r.role (role_name role)) e (named_text rs role cell all.1) where
-  by : (t : Bool) → option_map (λ (entry : RoleName). entry.cell) (cond t (Some r) (find (λ (entry : RoleName). bytes_eq entry.role (role_name role)) rs)) ≡ Some cell
-      → (cell_named_for rs role ≡ Some cell → IsText (cell_in rs role)) → IsText (cond t r.cell (cell_in rs role))
+named_text (r ∷ rs) role cell all e = by (bytes_eq r.role (leaf_role_name role)) e (named_text rs role cell all.1) where
+  by : (t : Bool) → option_map (λ (entry : RoleName). entry.cell) (cond t (Some r) (find (λ (entry : RoleName). bytes_eq entry.role (leaf_role_name role)) rs)) ≡ Some cell
+      → (cell_named_for rs role ≡ Some cell → IsText (cell_for rs role)) → IsText (cond t r.cell (cell_for rs role))
   by true e more = cell_text r.cell all.0
   by false e more = more e
 
+pub leaf_text : (kit : Kit) (is : IsKit kit) (role : LeafRole) → HasLeaf (source_of kit is.wire) role → IsText (cell_for kit.tech.roles role)
+leaf_text kit is role leaf = named_text kit.tech.roles role leaf.1.cell (recursion_from_All IsNamed kit.tech.roles is.tech.roles) leaf.1.sized.flat.plays
+
 pub small_kit : (kit : Kit) → IsKit kit → IsSmallKit (layout_kit kit)
 small_kit kit is = record {
-  names = λ (r : Role). let leaf = has_leaf kit is r in named_text kit.tech.roles r leaf.1.cell (recursion_from_All IsNamed kit.tech.roles is.tech.roles) leaf.1.sized.flat.plays;
+  names = λ (r : Role). leaf_text kit is (Common r) (has_leaf kit is r);
   widths = λ (r : Role). few_found (leaf_in kit.leaves r) (λ (leaf : Leaf). leaf.width) (λ (leaf : Leaf) there. (in_kit kit r leaf is there).sized.outline.narrow);
   heights = λ (r : Role). few_found (leaf_in kit.leaves r) (λ (leaf : Leaf). leaf.height) (λ (leaf : Leaf) there. (in_kit kit r leaf is there).sized.outline.low);
 }
@@ -120,12 +130,12 @@ none_passes test (x ∷ xs) e = let parts = or_parts (test x) (list_any test xs)
 texts_differ : (a b : List ℕ) → bytes_eq a b ≡ false → a ≢ b
 texts_differ a b fails same = let passes : bytes_eq a b ≡ true = (bytes_eq-Decides a b).1 same in let both : true ≡ false = sym passes ∙ fails in absurd cc
 
-pub free_structures : (kit : Kit) (n : List ℕ) → IsKit kit → first_taken kit (macro_names n) ≡ None → AreFreeStructures kit.lib.structs n
-free_structures kit n is none = record {
+pub free_structures : (kit : Kit) (names : List (List ℕ)) → IsKit kit → first_taken kit names ≡ None → AreFreeStructures kit.lib.structs names
+free_structures kit names is none = record {
   writable = is.library.cells;
   differ = is.library.names;
   free = λ (s : Structure) (name : List ℕ) listed named.
-      let new : is_taken kit name ≡ false = listed_has (IsNew kit) (macro_names n) name (all_new kit (macro_names n) none) named in
+      let new : is_taken kit name ≡ false = listed_has (IsNew kit) names name (all_new kit names none) named in
       let parts = or_parts (is_structure_name kit.lib.structs name) (is_subckt_name kit.deck.subckts name) new in
       texts_differ (map to_ascii_lowercase s.name) (map to_ascii_lowercase name)
       (listed_has (λ (other : Structure). str_eq_ignore_ascii_case other.name name ≡ false) kit.lib.structs s (none_passes (λ (other : Structure). str_eq_ignore_ascii_case other.name name) kit.lib.structs parts.0) listed);
@@ -196,24 +206,28 @@ ports_low Inv = refl
 ports_low Dff = refl
 ports_low Delay = refl
 
-pub cell_is : (entries : List RoleName) (role : Role) (cell : List ℕ) → cell_named_for entries role ≡ Some cell → cell_in entries role ≡ cell
+cell_is : (entries : List RoleName) (role : LeafRole) (cell : List ℕ) → cell_named_for entries role ≡ Some cell → cell_for entries role ≡ cell
 cell_is [] role cell e = absurd cc
-cell_is (r ∷ rs) role cell e = by (bytes_eq r.role (role_name role)) e (cell_is rs role cell) where
-  by : (t : Bool) → option_map (λ (entry : RoleName). entry.cell) (cond t (Some r) (find (λ (entry : RoleName). bytes_eq entry.role (role_name role)) rs)) ≡ Some cell
-      → (cell_named_for rs role ≡ Some cell → cell_in rs role ≡ cell) → cond t r.cell (cell_in rs role) ≡ cell
+cell_is (r ∷ rs) role cell e = by (bytes_eq r.role (leaf_role_name role)) e (cell_is rs role cell) where
+  by : (t : Bool) → option_map (λ (entry : RoleName). entry.cell) (cond t (Some r) (find (λ (entry : RoleName). bytes_eq entry.role (leaf_role_name role)) rs)) ≡ Some cell
+      → (cell_named_for rs role ≡ Some cell → cell_for rs role ≡ cell) → cond t r.cell (cell_for rs role) ≡ cell
   by true e more = cc
   by false e more = more e
 
-role_cell : (kit : Kit) (is : IsKit kit) (role : Role) (leaf : Leaf) → IsLeaf (source_of kit is.wire) role leaf → HasRoleCell kit.deck.subckts (cell_in kit.tech.roles) role
-role_cell kit is role leaf l =
-    let there : subckt_named kit.deck.subckts (lower (cell_in kit.tech.roles role)) ≡ Some l.ports.subckt =
+pub leaf_flat : (kit : Kit) (is : IsKit kit) (role : LeafRole) → HasLeaf (source_of kit is.wire) role → HasFlatLists kit.tech.layers kit.lib.structs (cell_for kit.tech.roles role)
+leaf_flat kit is role leaf = let flat = leaf.1.sized.flat in subst (HasFlatLists kit.tech.layers kit.lib.structs) (sym (cell_is kit.tech.roles role leaf.1.cell flat.plays)) (leaf.1.lists, flat.flat)
+
+pub leaf_subckt : (kit : Kit) (is : IsKit kit) (role : LeafRole) → HasLeaf (source_of kit is.wire) role → HasCellOf kit.deck.subckts (cell_for kit.tech.roles role) (pin_role role)
+leaf_subckt kit is role leaf =
+    let l = leaf.1 in
+    let there : subckt_named kit.deck.subckts (lower (cell_for kit.tech.roles role)) ≡ Some l.ports.subckt =
     ap (λ (cell : List ℕ). subckt_named kit.deck.subckts (lower cell)) (cell_is kit.tech.roles role l.cell l.sized.flat.plays) ∙ l.ports.there in
-    let at = at_index kit.deck.subckts (lower (cell_in kit.tech.roles role)) l.ports.subckt 0 (decks_are_lowered kit.text kit.deck is.text) there in
+    let at = at_index kit.deck.subckts (lower (cell_for kit.tech.roles role)) l.ports.subckt 0 (decks_are_lowered kit.text kit.deck is.text) there in
     let here : 0 + at.index ≡ at.index = omega arith in
     record {
       index = at.index;
       there = at.there ∙ ap (λ (k : ℕ). Some k) here;
-      ported = ap (map lower) (at.ports ∙ l.ports.ports) ∙ ports_low role;
+      ported = ap (map lower) (at.ports ∙ l.ports.ports) ∙ ports_low (pin_role role);
     }
 
 -- and the names that will be written
@@ -230,8 +244,5 @@ none_there kit [] all = tt
 none_there kit (n ∷ ns) all =
     (no_index kit.deck.subckts n 0 (or_parts (is_structure_name kit.lib.structs n) (is_subckt_name kit.deck.subckts n) all.0).1, none_there kit ns all.1)
 
-pub leaves_for : (kit : Kit) (plan : Organization) (n : List ℕ) → IsKit kit → first_taken kit (macro_names n) ≡ None → AreLeavesFor plan (cell_in kit.tech.roles) kit.deck.subckts n
-leaves_for kit plan n is none = record {
-  roles = λ (r : Role). let leaf = has_leaf kit is r in role_cell kit is r leaf.0 leaf.1;
-  free = none_there kit (macro_names n) (all_new kit (macro_names n) none);
-}
+pub none_known : (kit : Kit) (names : List (List ℕ)) → first_taken kit names ≡ None → AllByRecursion (λ name. index_of (names_of kit.deck.subckts) name ≡ None) (map lower names)
+none_known kit names none = none_there kit names (all_new kit names none)

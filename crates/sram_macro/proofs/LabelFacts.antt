@@ -1,5 +1,5 @@
 -- Labels and the view.
-use Rattle.std.proofs.Common.{ℕ, ◌<◌, ◌≤◌, ℤ, pos, ◌+ℤ◌, ◌≤ℤ◌, List, [], ◌∷◌, ◌++◌, map, length, refl, ◌∙◌, arith}
+use Rattle.std.proofs.Common.{ℕ, zero, suc, ◌<◌, ◌≤◌, ℤ, pos, ◌+ℤ◌, ◌≤ℤ◌, List, [], ◌∷◌, ◌++◌, map, length, refl, ◌∙◌, arith}
 use Rattle.std.specs.Prelude.{FitsSigned, All, codes, slice_index, slice_index_or}
 use Rattle.std.specs.List.{AllByRecursion}
 use Rattle.std.specs.Int.{w32}
@@ -15,16 +15,16 @@ use Rattle.tech_rules.specs.Facts.{IsLayerIndex, IsWire}
 use Rattle.channel_router.specs.Wires.{channel_height}
 use Rattle.cell_builder.specs.declared.cell.PlacedLabel.{PlacedLabel}
 use Rattle.cell_builder.specs.Writable.{IsWritableText}
-use Rattle.sram_netlist.specs.Organization.{Organization, addr_bits, IsBuildable}
+use Rattle.sram_netlist.specs.Organization.{Organization, addr_bits, inputs_of, IsBuildable}
 use Rattle.sram_netlist.specs.Names.{with_index}
 use Rattle.sram_netlist.proofs.Bounds.{bounds}
-use Rattle.sram_deck.specs.Deck.{port_bits}
+use Rattle.sram_deck.specs.Deck.{port_bits, web_ports}
 use Rattle.sram_plan.specs.declared.view.SignalPin.{SignalPin}
 use Rattle.sram_plan.specs.View.{IsLength, IsView}
 use Rattle.macro_wires.specs.FloorplanNumbers.{IsUpTo}
 use Rattle.macro_bounds.proofs.TextLaws.{all_joined, IsLabel, label_text, index_text}
 use Rattle.macro_bounds.proofs.CellLaws.{all_tabulated, few_number}
-use Rattle.macro_bounds.proofs.CountLaws.{address_few}
+use Rattle.macro_bounds.proofs.CountLaws.{address_few, inputs_few}
 use Rattle.macro_bounds.proofs.FloorplanLaws.{height_up, pitch_up}
 use Rattle.sram_macro.specs.declared.extents.Extents.{Extents}
 use Rattle.sram_macro.specs.Extents.{AreNearExtents}
@@ -36,18 +36,22 @@ use Rattle.sram_macro.specs.View.{macro_view}
 bits_text : (n : ℕ) (letters : List ℕ) → IsLabel letters → n ≤ 256 → AllByRecursion IsText (port_bits n letters)
 bits_text n letters is few = all_tabulated IsText n (with_index letters) (λ i lt. index_text letters i is (few_number i 256 (omega (arith, few, lt)) (omega arith)))
 
+web_text : (write_size : ℕ) → AllByRecursion IsText (web_ports write_size)
+web_text zero = tt
+web_text (suc write_size) = (label_text (codes "web0") refl, tt)
+
 names_text : (plan : Organization) → IsBuildable plan → AllByRecursion IsText (signal_names plan)
 names_text plan p =
     let words = (bounds plan p).words in
     let address = address_few plan p in
     let masks = bits_text plan.masks (codes "wmask0") refl (bounds plan p).masks in
     let addresses = bits_text (addr_bits plan) (codes "addr0") refl (omega (arith, address)) in
-    let ins = bits_text plan.word_size (codes "din0") refl words in
+    let ins = bits_text (inputs_of plan) (codes "din0") refl (inputs_few plan p) in
     let outs = bits_text plan.word_size (codes "dout0") refl words in
-    let words_text = all_joined IsText (port_bits plan.word_size (codes "din0")) (port_bits plan.word_size (codes "dout0")) ins outs in
-    let later = all_joined IsText (port_bits (addr_bits plan) (codes "addr0")) (port_bits plan.word_size (codes "din0") ++ port_bits plan.word_size (codes "dout0")) addresses words_text in
-    let ports = all_joined IsText (port_bits plan.masks (codes "wmask0")) (port_bits (addr_bits plan) (codes "addr0") ++ (port_bits plan.word_size (codes "din0") ++ port_bits plan.word_size (codes "dout0"))) masks later in
-    (label_text (codes "clk0") refl, (label_text (codes "csb0") refl, (label_text (codes "web0") refl, ports)))
+    let words_text = all_joined IsText (port_bits (inputs_of plan) (codes "din0")) (port_bits plan.word_size (codes "dout0")) ins outs in
+    let later = all_joined IsText (port_bits (addr_bits plan) (codes "addr0")) (port_bits (inputs_of plan) (codes "din0") ++ port_bits plan.word_size (codes "dout0")) addresses words_text in
+    let ports = all_joined IsText (port_bits plan.masks (codes "wmask0")) (port_bits (addr_bits plan) (codes "addr0") ++ (port_bits (inputs_of plan) (codes "din0") ++ port_bits plan.word_size (codes "dout0"))) masks later in
+    (label_text (codes "clk0") refl, (label_text (codes "csb0") refl, all_joined IsText (web_ports plan.write_size) _ (web_text plan.write_size) ports))
 
 -- heights
 

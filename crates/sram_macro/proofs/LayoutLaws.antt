@@ -1,8 +1,7 @@
 -- Laying out.
-use Rattle.std.proofs.Common.{◌≡◌, ◌⊎◌, ◌↔◌, inl, inr, zero, suc, ◌+◌, ◌*◌, ◌≤◌, ℤ, pos, ◌+ℤ◌, List, [], ◌∷◌, All, Contains, Ok, Err, Result, IfErr, IfOk, length, refl, ap, sym, subst, ◌∙◌, arith}
+use Rattle.std.proofs.Common.{◌≡◌, ◌⊎◌, ◌↔◌, inl, inr, zero, suc, ◌*◌, ◌≤◌, ℤ, pos, ◌+ℤ◌, List, [], ◌∷◌, Contains, Ok, Err, Result, IfErr, IfOk, refl, ap, sym, subst, ◌∙◌, arith}
 use Rattle.std.specs.List.{AllByRecursion}
 use Rattle.std.proofs.lemmas.List.Elements.{Contains-append_left, Contains-append_right, Contains-append_cases}
-use Rattle.or_geom.specs.declared.shape.Shape.{Shape}
 use Rattle.or_geom.specs.Adds.{Adds}
 use Rattle.tech_rules.specs.declared.tech.Layer.{Layer}
 use Rattle.tech_rules.specs.declared.tech.Wire.{Wire}
@@ -10,7 +9,6 @@ use Rattle.tech_rules.specs.declared.route.RouteFault.{RouteFault}
 use Rattle.tech_rules.specs.declared.route.RouteFault.TheVariants.{Close, TapsClose, Memory}
 use Rattle.tech_rules.specs.Facts.{IsWire}
 use Rattle.channel_router.specs.declared.channel.Channel.{Channel}
-use Rattle.channel_router.specs.declared.channel.ChannelPin.{ChannelPin}
 use Rattle.channel_router.specs.declared.channel.Interval.{Interval}
 use Rattle.channel_router.specs.declared.channel.Routed.{Routed}
 use Rattle.channel_router.specs.Intervals.{AreIntervals}
@@ -18,17 +16,15 @@ use Rattle.channel_router.specs.Density.{IsDensity}
 use Rattle.tech_rules.specs.Drawing.{pitch}
 use Rattle.channel_router.specs.Routed.{HasClosePins, IsRouted, IsRouteFault}
 use Rattle.channel_router.specs.Wires.{channel_height}
-use Rattle.cell_roles.specs.declared.role.Role.TheVariants.{Inv, Sense, Write}
+use Rattle.cell_roles.specs.declared.role.Role.TheVariants.{Inv, Sense}
 use Rattle.sram_netlist.specs.Organization.{Organization, bank_rows, columns_of}
 use Rattle.macro_layout.specs.LayoutKit.{LayoutKit}
 use Rattle.macro_layout.specs.Places.{Floorplan, bit_width, bit_height, drive_width}
-use Rattle.macro_layout.specs.Floorplan.{Tracks, IsFloorplan, choice_count, column_role, rail_count, rail_x}
+use Rattle.macro_layout.specs.Floorplan.{Tracks, IsFloorplan, column_role, write_height, rail_count, rail_x}
 use Rattle.macro_wires.specs.declared.numbers.FloorplanNumbers.{FloorplanNumbers}
 use Rattle.macro_wires.specs.FloorplanNumbers.{floorplan_of}
 use Rattle.main_channel.specs.Main.{StandsAcross}
-use Rattle.macro_bounds.specs.Near.{IsCoordinate, IsChannelWithin, IsSevenLayerWire, IsWireShape, RoutedShapesAreNear, TracksAreFew}
-use Rattle.bank_layout.specs.Near.{IsWireWithin, IsNearRouted}
-use Rattle.port_data.specs.Column as column
+use Rattle.macro_bounds.specs.Near.{IsSevenLayerWire, TracksAreFew}
 use Rattle.sram_macro.specs.Layout.{IsMainOf, IsMainFault, IsMainRouted}
 
 -- a list that grew twice
@@ -78,7 +74,7 @@ pub some_floorplan : (plan : Organization) (kit : LayoutKit) (wire : Wire) (trac
 some_floorplan plan kit wire tracks =
     let row : ℤ = rail_x wire (rail_count plan) in
     let write : ℤ = pos (kit.height Inv) +ℤ channel_height wire tracks.main in
-    let sense : ℤ = write +ℤ pos (kit.height Write) in
+    let sense : ℤ = write +ℤ pos (write_height plan kit) in
     let column : ℤ = (sense +ℤ pos (kit.height Sense)) +ℤ channel_height wire tracks.column in
     let array : ℤ = column +ℤ pos (kit.height (column_role plan.col_bits)) in (
       record {

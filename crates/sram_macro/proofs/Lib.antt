@@ -3,8 +3,9 @@ mod ExtentLaws
 mod LibraryLaws
 mod SignalLaws
 mod LayoutLaws
-mod KitFacts
+pub mod KitFacts
+pub mod HeldFacts
 mod LabelFacts
 mod AssemblyLaws
 pub mod MainChannelLaws
-mod StatedLaws
+pub mod StatedLaws

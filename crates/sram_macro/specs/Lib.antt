@@ -1,3 +1,4 @@
+pub mod Leaves
 pub mod Names
 pub mod Extents
 pub mod Library

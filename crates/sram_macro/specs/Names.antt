@@ -1,5 +1,5 @@
--- The names of a macro's cells, and those that leaf cells have already.
-use Rattle.std.specs.Prelude.{◌≡◌, ℕ, List, [], ◌∷◌, Bool, ◌||◌, Option, Some}
+-- The names that leaf cells have already.
+use Rattle.std.specs.Prelude.{◌≡◌, ℕ, List, Bool, ◌||◌, Option, Some}
 use Rattle.std.specs.List.{find, list_any}
 use Rattle.std.specs.Str.{str_eq_ignore_ascii_case}
 use Rattle.gds_library.specs.declared.library.Structure.{Structure}
@@ -7,11 +7,6 @@ use Rattle.netlist.specs.declared.deck.Subckt.{Subckt}
 use Rattle.leaf_tables.specs.declared.kit.Kit.{Kit}
 use Rattle.leaf_tables.specs.declared.part.PartFault.{PartFault}
 use Rattle.leaf_tables.specs.declared.part.PartFault.TheVariants as part_fault
-use Rattle.macro_layout.specs.Cells.{row_cell_name, array_cell_name, pre_cell_name, data_cell_name, bank_cell_name, logic_cell_name}
-
--- in the order in which they are written
-abbrev pub macro_names : List ℕ → List (List ℕ)
-macro_names n = row_cell_name n ∷ array_cell_name n ∷ pre_cell_name n ∷ data_cell_name n ∷ bank_cell_name n ∷ logic_cell_name n ∷ n ∷ []
 
 -- a structure or subcircuit of the leaf cells has the name, without regard to case
 abbrev pub is_structure_name : List Structure → List ℕ → Bool
@@ -27,7 +22,7 @@ abbrev pub first_taken : Kit → List (List ℕ) → Option (List ℕ)
 first_taken kit names = find (is_taken kit) names
 
 -- the first of the names that is taken
-abbrev pub IsTakenFault : Kit → List ℕ → PartFault → Type 0
-IsTakenFault kit n (part_fault.NameTaken name) = first_taken kit (macro_names n) ≡ Some name
-IsTakenFault kit n part_fault.Memory = Unit {0}
-IsTakenFault kit n fault = ⊥
+abbrev pub IsTakenFault : Kit → List (List ℕ) → PartFault → Type 0
+IsTakenFault kit names (part_fault.NameTaken name) = first_taken kit names ≡ Some name
+IsTakenFault kit names part_fault.Memory = Unit {0}
+IsTakenFault kit names fault = ⊥

@@ -5,8 +5,8 @@ use Rattle.tech_rules.specs.declared.tech.Wire.{Wire}
 use Rattle.channel_router.specs.Wires.{track_y}
 use Rattle.cell_builder.specs.declared.cell.PlacedLabel.{PlacedLabel}
 use Rattle.cell_builder.specs.Additions.{label_at}
-use Rattle.sram_netlist.specs.Organization.{Organization, addr_bits}
-use Rattle.sram_deck.specs.Deck.{macro_inputs, port_bits}
+use Rattle.sram_netlist.specs.Organization.{Organization, inputs_of, addr_bits}
+use Rattle.sram_deck.specs.Deck.{web_ports, macro_inputs, port_bits}
 use Rattle.sram_netlist.specs.InstanceList.{tabulate}
 use Rattle.sram_plan.specs.declared.view.SignalPin.{SignalPin}
 use Rattle.sram_macro.specs.declared.extents.Extents.{Extents}
@@ -17,7 +17,7 @@ signal_names plan = macro_inputs plan (port_bits plan.word_size (codes "dout0"))
 
 -- how many of them go in
 abbrev pub input_count : Organization → ℕ
-input_count plan = 3 + plan.masks + addr_bits plan + plan.word_size
+input_count plan = 2 + length (web_ports plan.write_size) + plan.masks + addr_bits plan + inputs_of plan
 
 -- a name that can be written, and a height up to 2^30
 pub record IsWritablePin (pin : SignalPin) : Type 0 where

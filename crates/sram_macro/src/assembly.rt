@@ -1,4 +1,4 @@
-ghost use Rattle.std.specs.Prelude.{◌≡◌, ◌≤◌, ◌↔◌, pos, Contains, Some, None, IfOk, IfErr, IsTrue};
+ghost use Rattle.std.specs.Prelude.{◌≡◌, ◌≤◌, ◌↔◌, pos, length, Contains, Some, None, IfOk, IfErr, IsTrue};
 ghost use Rattle.std.specs.List.{AllByRecursion};
 ghost use Rattle.std.specs.List.Sorted.{IsStrictlySortedBy};
 ghost use Rattle.or_geom.specs.ShapeOrder.{shape_order};
@@ -6,6 +6,9 @@ ghost use Rattle.gds_library.specs.Writable.{IsWritable};
 ghost use Rattle.cell_builder.specs.Finish.{IsLibraryOf};
 ghost use Rattle.leaf_tables.specs.Kits.{IsKit};
 ghost use Rattle.tech_rules.specs.Facts.{IsWire};
+ghost use Rattle.port_lists.specs.Held.{held_of};
+ghost use Rattle.sram_deck.specs.Deck.{web_ports};
+ghost use Rattle.sram_netlist.specs.BitCells.{BitCells};
 ghost use Rattle.sram_netlist.specs.Numbers.{ArePlanNumbers};
 ghost use Rattle.sram_plan.specs.Config.{is_output_name};
 ghost use Rattle.sram_plan.specs.PlanNumbers.{numbers_of, organization};
@@ -15,11 +18,13 @@ ghost use Rattle.macro_cells.specs.LayoutOfKit.{layout_kit};
 ghost use Rattle.macro_wires.specs.Sides.{AreLeafSides, AreSidesOf};
 ghost use Rattle.macro_wires.specs.FloorplanNumbers.{IsNearFloorplan};
 ghost use Rattle.macro_bounds.specs.Writable.{IsWritableDrawing};
-ghost use Rattle.sram_macro.specs.Names.{macro_names, first_taken};
+ghost use Rattle.port_lists.specs.Held.Held.{Stored};
+ghost use Rattle.sram_macro.specs.Leaves.{IsHeld};
+ghost use Rattle.sram_macro.specs.Names.{first_taken};
 ghost use Rattle.sram_macro.specs.Signals.{signal_names, input_count, signals_on_tracks, IsWritablePin};
-ghost use Rattle.sram_macro.specs.Library.{macro_list, drawing_with, AreOnLayers};
+ghost use Rattle.sram_macro.specs.Library.{macro_list, drawing_with, AreOnLayers, HaveTexts};
 ghost use Rattle.sram_macro.specs.Layout.{IsMainRouted};
-ghost use Rattle.sram_macro.specs.Macro.{IsMacro, IsMacroFault, IsLaidOut, AreWiresOf};
+ghost use Rattle.sram_macro.specs.Macro.{IsMacro, IsMacroFault, IsLaidOut, AreWiresOf, macro_bits, names_of_macro};
 
 use crate::deck::macro_deck;
 use crate::layout::{Layout, lay_out, top_wires};
@@ -38,7 +43,8 @@ use macro_wires::{FloorplanNumbers, LeafSides};
 use netlist::Deck;
 use or_geom::{Memory, Name, Shape, sort_distinct};
 use port_data::{channel, refuse_narrow_slices};
-use sram_plan::{Abstract, Plan, SignalPin};
+use port_lists::Contents;
+use sram_plan::{Abstract, Plan, SignalPin, inputs_of as data_inputs};
 use std::alloc::Global;
 use tech_rules::Wire;
 
@@ -85,7 +91,14 @@ fn inputs_of(plan: &Plan) -> usize
     requires { ArePlanNumbers (numbers_of plan.now) }
     ensures { result ≡ input_count (organization plan.now) }
 {
-    3 + plan.masks as usize + plan.addr_bits as usize + plan.word_size as usize
+    2 + web_count(plan) + plan.masks as usize + plan.addr_bits as usize + data_inputs(plan) as usize
+}
+
+/// How many of them tell reads from writes: one, or none where nothing is written.
+fn web_count(plan: &Plan) -> usize
+    ensures { result ≡ length (web_ports plan.now.write_size) }
+{
+    if plan.write_size == 0 { 0 } else { 1 }
 }
 
 /// The shapes in order, each once.
@@ -115,7 +128,7 @@ fn wires_of(
     requires signals { AllByRecursion IsWritablePin signals.now }
     ensures are { IfOk result (AreWiresOf (organization plan.now) (layout_kit kit.now) wire.now layout signals.now) }
     ensures layers { IfOk result (AreOnLayers kit.now.tech.layers) }
-    ensures writable { IfOk result (λ wires. IsWritableDrawing (drawing_with layout.floorplan wires)) }
+    ensures writable { IfOk result (λ wires. (bits : BitCells) → HaveTexts bits → IsWritableDrawing (drawing_with bits layout.floorplan wires)) }
 {
     // That all wires fit 32 bits and are on layers follows by these laws.
     routed_shapes_are_near();
@@ -142,6 +155,7 @@ fn written_library(
     kit: &Kit,
     plan: &Plan,
     name: &Name,
+    contents: Contents<'_>,
     sides: &LeafSides,
     floorplan: &FloorplanNumbers,
     wires: Wires,
@@ -149,20 +163,21 @@ fn written_library(
     requires kit { IsKit kit.now }
     requires plan { ArePlanNumbers (numbers_of plan.now) }
     requires name { IsTrue (is_output_name name.now) }
-    requires free { first_taken kit.now (macro_names name.now) ≡ None }
+    requires contents { IsHeld kit.now plan.now (held_of contents) }
+    requires free { first_taken kit.now (names_of_macro kit.now plan.now (held_of contents) name.now) ≡ None }
     requires sides { AreLeafSides sides.now }
     requires of { AreSidesOf (organization plan.now) (layout_kit kit.now) sides.now }
     requires near { IsNearFloorplan floorplan.now }
     requires layers { AreOnLayers kit.now.tech.layers wires }
-    requires drawing { IsWritableDrawing (drawing_with floorplan.now wires) }
-    ensures library { IfOk result (IsLibraryOf kit.now.tech.layers (macro_list kit.now (organization plan.now) name.now (drawing_with floorplan.now wires)) name.now) }
+    requires drawing { IsWritableDrawing (drawing_with (macro_bits kit.now plan.now (held_of contents)) floorplan.now wires) }
+    ensures library { IfOk result (IsLibraryOf kit.now.tech.layers (macro_list kit.now (organization plan.now) name.now (drawing_with (macro_bits kit.now plan.now (held_of contents.entry)) floorplan.now wires)) name.now) }
     ensures named { IfOk result (λ lib. lib.name ≡ name.now) }
     ensures writable { IfOk result IsWritable }
 {
     // That the library can be written follows by these laws.
     macro_libraries_are_writable();
     output_names_are_short();
-    Ok(library(alloc, kit, plan, name, sides, floorplan, wires)?)
+    Ok(library(alloc, kit, plan, name, contents, sides, floorplan, wires)?)
 }
 
 /// The macro that is laid out so.
@@ -171,15 +186,17 @@ fn macro_of(
     kit: &Kit,
     plan: &Plan,
     name: &Name,
+    contents: Contents<'_>,
     layout: Layout,
 ) -> Result<Macro, Memory>
     requires kit { IsKit kit.now }
     requires plan { ArePlanNumbers (numbers_of plan.now) }
     requires name { IsTrue (is_output_name name.now) }
-    requires free { first_taken kit.now (macro_names name.now) ≡ None }
+    requires contents { IsHeld kit.now plan.now (held_of contents) }
+    requires free { first_taken kit.now (names_of_macro kit.now plan.now (held_of contents) name.now) ≡ None }
     requires wide { AreWideSlices (organization plan.now) (layout_kit kit.now) }
     requires layout { IsLaidOut kit.now (organization plan.now) layout }
-    ensures { IfOk result (IsMacro kit.now plan.now name.now) }
+    ensures { IfOk result (IsMacro kit.now plan.now (held_of contents.entry) name.now) }
 {
     let wire = wire_of(kit);
     let tracks = layout.main.tracks;
@@ -188,8 +205,8 @@ fn macro_of(
     let wires = wires_of(alloc, kit, plan, wire, layout, &signals)?;
     let layers = kit.tech.layers.as_slice();
     Ok(Macro {
-        lib: written_library(alloc, kit, plan, name, &sides, &floorplan, wires)?,
-        deck: macro_deck(alloc, kit, plan, name)?,
+        lib: written_library(alloc, kit, plan, name, contents, &sides, &floorplan, wires)?,
+        deck: macro_deck(alloc, kit, plan, name, contents)?,
         view: macro_view(alloc, layers, name, wire, &ends, signals)?,
         tracks,
     })
@@ -216,11 +233,30 @@ pub fn assemble(alloc: Global, kit: &Kit, plan: &Plan, name: &Name) -> Result<Ma
     requires kit { IsKit kit.now }
     requires plan { ArePlanNumbers (numbers_of plan.now) }
     requires name { IsTrue (is_output_name name.now) }
-    ensures ok { IfOk result (IsMacro kit.now plan.now name.now) }
-    ensures fault { IfErr result (IsMacroFault kit.now plan.now name.now) }
+    ensures ok { IfOk result (IsMacro kit.now plan.now Stored name.now) }
+    ensures fault { IfErr result (IsMacroFault kit.now plan.now Stored name.now) }
 {
-    refuse_taken_names(alloc, kit, name)?;
+    assemble_with(alloc, kit, plan, name, Contents::Stored)
+}
+
+/// Assembles a macro that holds these contents, refused as by `assemble`. A plan that writes nothing has no write cells, so that
+/// none is too wide.
+pub fn assemble_with(
+    alloc: Global,
+    kit: &Kit,
+    plan: &Plan,
+    name: &Name,
+    contents: Contents<'_>,
+) -> Result<Macro, PartFault>
+    requires kit { IsKit kit.now }
+    requires plan { ArePlanNumbers (numbers_of plan.now) }
+    requires name { IsTrue (is_output_name name.now) }
+    requires contents { IsHeld kit.now plan.now (held_of contents) }
+    ensures ok { IfOk result (IsMacro kit.now plan.now (held_of contents.entry) name.now) }
+    ensures fault { IfErr result (IsMacroFault kit.now plan.now (held_of contents.entry) name.now) }
+{
+    refuse_taken_names(alloc, kit, plan, name, contents)?;
     let column = column_of(alloc, kit, plan)?;
     let layout = lay_out(alloc, kit, plan, name, &column)?;
-    Ok(macro_of(alloc, kit, plan, name, layout)?)
+    Ok(macro_of(alloc, kit, plan, name, contents, layout)?)
 }

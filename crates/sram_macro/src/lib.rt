@@ -11,5 +11,5 @@ mod names;
 mod signals;
 mod view;
 
-pub use assembly::{Macro, assemble};
+pub use assembly::{Macro, assemble, assemble_with};
 pub use laws::macros_are_stated;

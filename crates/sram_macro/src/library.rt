@@ -1,8 +1,15 @@
 ghost use Rattle.std.specs.Prelude.{◌≡◌, length, IfOk, OnOk};
 ghost use Rattle.leaf_tables.specs.Kits.{IsKit};
+ghost use Rattle.port_lists.specs.Held.{held_of};
 ghost use Rattle.sram_netlist.specs.Numbers.{ArePlanNumbers};
 ghost use Rattle.sram_plan.specs.PlanNumbers.{numbers_of, organization};
 ghost use Rattle.cell_builder.specs.Finish.{IsLibraryOf};
+ghost use Rattle.macro_layout.specs.Cells.{row_cell};
+ghost use Rattle.port_lists.specs.Contents.{AreHeldBy};
+ghost use Rattle.sram_netlist.specs.BitCells.{row_kinds};
+ghost use Rattle.sram_netlist.specs.InstanceList.{tabulate};
+ghost use Rattle.sram_netlist.specs.Organization.{bank_rows};
+ghost use Rattle.sram_macro.specs.Macro.{macro_bits};
 ghost use Rattle.macro_cells.specs.LayoutOfKit.{layout_kit};
 ghost use Rattle.macro_wires.specs.Sides.{AreLeafSides, AreSidesOf};
 ghost use Rattle.macro_wires.specs.FloorplanNumbers.{floorplan_of, IsNearFloorplan};
@@ -15,15 +22,38 @@ use leaf_tables::Kit;
 use macro_cells::{array_cell, data_cell, logic_row_cell, macro_cell, pre_cell, row_cell};
 use macro_wires::{FloorplanNumbers, LeafSides};
 use or_geom::{Memory, Name, Shape};
+use port_lists::{Contents, row_kinds};
 use sram_plan::Plan;
 use std::alloc::Global;
 
-/// The wires of a bank, from the lower edge of its write cells, and the wires and labels of the macro.
+/// The wires of a bank, from its lower edge, and the wires and labels of the macro.
 #[derive(Drop)]
 pub struct Wires {
     pub bank: Vec<Shape>,
     pub top: Vec<Shape>,
     pub labels: Vec<PlacedLabel>,
+}
+
+/// Draws the cells of the rows.
+fn draw_rows(
+    alloc: Global,
+    kit: &Kit,
+    plan: &Plan,
+    name: &Name,
+    contents: Contents<'_>,
+    cells: &mut Cells,
+) -> Result<(), Memory>
+    requires kit { IsKit kit.now }
+    requires plan { ArePlanNumbers (numbers_of plan.now) }
+    requires contents { AreHeldBy (organization plan.now) (held_of contents) }
+    requires few { length cells.old.cells ≡ 0 }
+    ensures adopted { OnOk result (cells.new.adopted ≡ cells.old.adopted) }
+    ensures cells { OnOk result (cells.new.cells ≡ tabulate (row_kinds (macro_bits kit.now plan.now (held_of contents.entry)) (bank_rows (organization plan.now))) (row_cell (organization plan.now) (layout_kit kit.now) (macro_bits kit.now plan.now (held_of contents.entry)) name.now)) }
+{
+    for row in 0..row_kinds(plan, contents) {
+        cells.draw(row_cell(alloc, kit, plan, name, contents, row)?)?;
+    }
+    Ok(())
 }
 
 /// Draws the cells of a bank's parts.
@@ -32,20 +62,22 @@ fn draw_parts(
     kit: &Kit,
     plan: &Plan,
     name: &Name,
+    contents: Contents<'_>,
     floorplan: &FloorplanNumbers,
     cells: &mut Cells,
 ) -> Result<(), Memory>
     requires kit { IsKit kit.now }
     requires plan { ArePlanNumbers (numbers_of plan.now) }
+    requires contents { AreHeldBy (organization plan.now) (held_of contents) }
     requires near { IsNearFloorplan floorplan.now }
     requires few { length cells.old.cells ≡ 0 }
     ensures adopted { OnOk result (cells.new.adopted ≡ cells.old.adopted) }
-    ensures cells { OnOk result (cells.new.cells ≡ part_cells kit.now (organization plan.now) name.now (floorplan_of floorplan.now)) }
+    ensures cells { OnOk result (cells.new.cells ≡ part_cells kit.now (organization plan.now) (macro_bits kit.now plan.now (held_of contents.entry)) name.now (floorplan_of floorplan.now)) }
 {
     let sense_y = floorplan.sense_y - floorplan.write_y;
     let column_y = floorplan.column_y - floorplan.write_y;
-    cells.draw(row_cell(alloc, kit, plan, name)?)?;
-    cells.draw(array_cell(alloc, kit, plan, name)?)?;
+    draw_rows(alloc, kit, plan, name, contents, cells)?;
+    cells.draw(array_cell(alloc, kit, plan, name, contents)?)?;
     cells.draw(pre_cell(alloc, kit, plan, name)?)?;
     cells.draw(data_cell(alloc, kit, plan, name, sense_y, column_y)?)?;
     Ok(())
@@ -57,21 +89,23 @@ pub fn library(
     kit: &Kit,
     plan: &Plan,
     name: &Name,
+    contents: Contents<'_>,
     sides: &LeafSides,
     floorplan: &FloorplanNumbers,
     wires: Wires,
 ) -> Result<Library, Memory>
     requires kit { IsKit kit.now }
     requires plan { ArePlanNumbers (numbers_of plan.now) }
+    requires contents { AreHeldBy (organization plan.now) (held_of contents) }
     requires sides { AreLeafSides sides.now }
     requires of { AreSidesOf (organization plan.now) (layout_kit kit.now) sides.now }
     requires near { IsNearFloorplan floorplan.now }
     requires layers { AreOnLayers kit.now.tech.layers wires }
-    ensures { IfOk result (IsLibraryOf kit.now.tech.layers (macro_list kit.now (organization plan.now) name.now (drawing_with floorplan.now wires)) name.now) }
+    ensures { IfOk result (IsLibraryOf kit.now.tech.layers (macro_list kit.now (organization plan.now) name.now (drawing_with (macro_bits kit.now plan.now (held_of contents.entry)) floorplan.now wires)) name.now) }
 {
     let mut cells = Cells::new(alloc)?;
     cells.adopt(&kit.lib)?;
-    draw_parts(alloc, kit, plan, name, floorplan, &mut cells)?;
+    draw_parts(alloc, kit, plan, name, contents, floorplan, &mut cells)?;
     cells.draw(bank_cell(alloc, name, sides, floorplan, wires.bank)?)?;
     cells.draw(logic_row_cell(alloc, kit, plan, name)?)?;
     cells.draw(macro_cell(alloc, plan, name, floorplan, wires.top, wires.labels)?)?;

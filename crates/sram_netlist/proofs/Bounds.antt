@@ -1,7 +1,7 @@
 -- The numbers of a plan are small.
 use Rattle.std.proofs.Common.{◌≡◌, ◌⊎◌, inl, inr, ℕ, zero, suc, ◌+◌, ◌*◌, ◌<◌, ◌≤◌, ◌^◌, List, [], ◌∷◌, refl, arith, pow-suc}
 use Rattle.std.specs.List.{AllByRecursion}
-use Rattle.sram_netlist.specs.Organization.{Organization, total_bits, power_of_two, bank_rows, columns_of, words_per_row, banks_of, addr_bits, IsBuildable, IsGroupSize}
+use Rattle.sram_netlist.specs.Organization.{Organization, total_bits, power_of_two, bank_rows, columns_of, words_per_row, banks_of, addr_bits, IsBuildable, IsGroupSize, written_bits}
 use Rattle.sram_netlist.specs.Membership.{IsGroup, IsChoice}
 use Rattle.sram_netlist.specs.Netlist.{enable_count}
 
@@ -13,6 +13,22 @@ pub twice_up : (m n : ℕ) → m ≤ n → power_of_two m ≤ power_of_two n
 twice_up zero n h = let k = twice_above n in omega (arith, k)
 twice_up (suc m) zero h = absurd (omega arith)
 twice_up (suc m) (suc n) h = let k = twice_up m n (omega arith) in omega (arith, k)
+
+-- counts of what is written: at most as many, none unless a write has bits, and as many where it has
+pub written_most : (w n : ℕ) → written_bits w n ≤ n
+written_most zero n = omega arith
+written_most (suc w) n = omega arith
+
+pub written_fits : (w n i : ℕ) → i < written_bits w n → i < n
+written_fits w n i h = let k = written_most w n in omega (arith, k)
+
+pub some_written : (w n i : ℕ) → i < written_bits w n → 0 < w
+some_written zero n i h = absurd (omega arith)
+some_written (suc w) n i h = omega arith
+
+pub written_all : (w n : ℕ) → 0 < w → written_bits w n ≡ n
+written_all zero n h = absurd (omega arith)
+written_all (suc w) n h = refl
 
 pub at_least : (a b : ℕ) → 0 < b → a ≤ a * b
 at_least a zero h = absurd (omega arith)

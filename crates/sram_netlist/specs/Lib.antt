@@ -6,4 +6,6 @@ pub mod Netlist
 pub mod InstanceList
 pub mod Membership
 pub mod Names
+pub mod BitCells
+pub mod LeafNetlist
 pub mod Laws

@@ -2,7 +2,7 @@
 use Rattle.std.specs.Prelude.{ℕ, zero, suc, ◌+◌, ◌*◌, ◌/◌, ◌%◌, List, [], ◌∷◌, ◌++◌, Bool, true, false, length, if◌then◌else◌}
 use Rattle.cell_roles.specs.declared.role.Role.{Role}
 use Rattle.cell_roles.specs.declared.role.Role.TheVariants.{Bitcell, Precharge, Mux, Tie, Sense, Write, RowNand2, RowNand3, Driver, Nand2, Nand3, Inv, Dff, Delay}
-use Rattle.sram_netlist.specs.Organization.{Organization, words_per_row, bank_bit}
+use Rattle.sram_netlist.specs.Organization.{Organization, words_per_row, bank_bit, written_bits}
 use Rattle.sram_netlist.specs.Nets.{Net, Clk0, Csb0, Web0, Clkb, Csq, Weq, Cs, We, Wlb, Wlen, Wrb, Wen, Rdb, Rd, Dly, Seb, Sen, Vdd, Gnd, Control, Addr, Din, Dout, Wmask, A, Na, D, M, LineB, Line, WlenB, WlenAt, SenB, SenAt, WenB, WenAt, Zb, Wl, Bl, Br, Lo, Ro}
 use Rattle.sram_netlist.specs.Instances.{LogicCell, LeafInstance, Clki, Csd, Wed, Csi, Wei, Wln, Wli, Wrn, Wri, Rdn, Rdi, Dlay, Senn, Seni, Ad, Ai, Dd, Dm, Pn, Pi, Ln, Li, Kn, Ki, Gn, Gi, BitAt, NandAt, DriverAt, PrechargeAt, WriteAt, SenseAt, MuxAt, TieAt, LogicAt}
 
@@ -69,11 +69,25 @@ abbrev pub enable_count : ℕ → ℕ
 enable_count zero = 1
 enable_count (suc n) = suc n
 
+-- and none where nothing is written
+abbrev pub enables_of : Organization → ℕ
+enables_of plan = written_bits plan.write_size (enable_count plan.masks)
+
+-- What starts the sense enable, by the bits of a write: a read, or where nothing is written the word line enable.
+abbrev pub sense_start : ℕ → Net
+sense_start zero = Control Wlen
+sense_start (suc write_size) = Control Rd
+
 -- a bank's write enable for mask m: wen itself where there is one bank and no mask
 abbrev pub enable_at : ℕ → ℕ → ℕ → ℕ → Net
 enable_at zero zero bank m = Control Wen
 enable_at zero (suc masks) bank m = WenAt bank m
 enable_at (suc bank_bits) masks bank m = WenAt bank m
+
+-- the port that tells reads from writes, by the bits of a write
+abbrev pub web_nets : ℕ → List Net
+web_nets zero = []
+web_nets (suc write_size) = Control Web0 ∷ []
 
 -- the mask of bit i of the word
 abbrev pub mask_of : ℕ → ℕ → ℕ → ℕ
@@ -154,7 +168,7 @@ logic_cell_ports plan Wri = Control Wrb ∷ Control Wen ∷ supply_nets
 logic_cell_ports plan Rdn = Control Cs ∷ Control Weq ∷ Control Clkb ∷ Control Rdb ∷ supply_nets
 logic_cell_ports plan Rdi = Control Rdb ∷ Control Rd ∷ supply_nets
 logic_cell_ports plan Dlay = Control Clkb ∷ Control Dly ∷ supply_nets
-logic_cell_ports plan Senn = Control Rd ∷ Control Dly ∷ Control Seb ∷ supply_nets
+logic_cell_ports plan Senn = sense_start plan.write_size ∷ Control Dly ∷ Control Seb ∷ supply_nets
 logic_cell_ports plan Seni = Control Seb ∷ Control Sen ∷ supply_nets
 -- for each address bit: latched, and its complement
 logic_cell_ports plan (Ad i) = Addr i ∷ Control Clk0 ∷ A i ∷ supply_nets

@@ -2,9 +2,9 @@
 use Rattle.std.specs.Prelude.{◌≡◌, ℕ, zero, suc, ◌+◌, ◌*◌, ◌<◌, ◌≤◌, ◌⊎◌, List, [], ◌∷◌, length}
 use Rattle.std.specs.List.{AllByRecursion}
 
--- A word has word_size bits. Masks cut it into parts of write_size bits (masks is 0 where words are written whole). There are
--- 2^bank_bits banks. The row bits of an address are cut into groups, given by their sizes, low bits first; a row holds
--- 2^col_bits words.
+-- A word has word_size bits. Masks cut it into parts of write_size bits (masks is 0 where words are written whole). Where
+-- write_size is 0 nothing is written: the memory is read-only. There are 2^bank_bits banks. The row bits of an address are cut
+-- into groups, given by their sizes, low bits first; a row holds 2^col_bits words.
 pub record Organization : Type 0 where
   pub word_size : ℕ
   pub write_size : ℕ
@@ -40,6 +40,19 @@ bank_bit plan = plan.col_bits + total_bits plan.groups
 
 abbrev pub addr_bits : Organization → ℕ
 addr_bits plan = bank_bit plan + plan.bank_bits
+
+-- something is written
+abbrev pub IsWritten : Organization → Type 0
+IsWritten plan = 0 < plan.write_size
+
+-- so many where a write has bits, else none
+abbrev pub written_bits : ℕ → ℕ → ℕ
+written_bits zero n = 0
+written_bits (suc write_size) n = n
+
+-- the data bits that are written
+abbrev pub inputs_of : Organization → ℕ
+inputs_of plan = written_bits plan.write_size plan.word_size
 
 -- a group has two or three bits
 abbrev pub IsGroupSize : ℕ → Type 0

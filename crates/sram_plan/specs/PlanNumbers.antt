@@ -24,6 +24,23 @@ numbers_of plan = record {
   groups = used_groups plan.groups;
 }
 
+-- the plan of the memory of the same numbers in which nothing is written
+abbrev pub read_only_plan : Plan → Plan
+read_only_plan plan = record {
+  word_size = plan.word_size;
+  write_size = 0;
+  masks = plan.masks;
+  banks = plan.banks;
+  num_words = plan.num_words;
+  wpr = plan.wpr;
+  rows = plan.rows;
+  columns = plan.columns;
+  addr_bits = plan.addr_bits;
+  col_bits = plan.col_bits;
+  bank_bits = plan.bank_bits;
+  groups = plan.groups;
+}
+
 -- the organisation of a plan
 abbrev pub organization : Plan → Organization
 organization plan = organization_of (numbers_of plan)

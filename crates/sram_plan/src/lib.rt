@@ -14,6 +14,6 @@ pub use choose::plan;
 pub use config::Config;
 pub use fault::ConfigFault;
 pub use laws::plans_are_one;
-pub use numbers::{Plan, PlanFault};
+pub use numbers::{Plan, PlanFault, inputs_of, read_only};
 pub use read::read_config;
 pub use view::{Abstract, SignalPin};

@@ -18,10 +18,11 @@ use Rattle.cell_roles.specs.Roles.{supplies}
 use Rattle.sram_netlist.specs.Netlist.{wlen_at}
 use Rattle.sram_netlist.specs.Names.{with_number, full_name, to_array, in_array}
 use Rattle.sram_netlist.specs.InstanceList.{numbers_from, row_leaves}
+use Rattle.sram_netlist.specs.BitCells.{BitCells, row_name}
 use Rattle.sram_deck.specs.Deck.{predecode_lines, all_bit_lines, row_inputs, row_lines_from, row_ports, row_instances, array_row, array_instances}
 use Rattle.sram_rows.proofs.DigitLaws.{plain_all, plain_tail, not_single, plain_low}
 use Rattle.sram_rows.proofs.Segments.{all_numbers, of_bit_lines, one_bl, one_br, row_lines_there}
-use Rattle.sram_rows.proofs.LeafInstances.{HasLeaf, row_of, below, by_name}
+use Rattle.sram_rows.proofs.LeafInstances.{HasLeaves, row_of, below, by_name}
 use Rattle.sram_rows.proofs.SubcktInstances.{HasSubckt, IsInstanceOf, seen_is, subckt_flat, net_within}
 use Rattle.sram_rows.proofs.LineNames.{lines_names}
 use Rattle.sram_rows.proofs.RowLevel.{RowSees, row_flat}
@@ -60,8 +61,8 @@ along : (P Q : List ℕ → Type 0) (ns : List (List ℕ)) → ((n : List ℕ) �
 along P Q [] h all = tt
 along P Q (n ∷ ns) h all = (h n all.0, along P Q ns h all.1)
 
-module _ (plan : Organization) (p : IsBuildable plan) (cell : Role → List ℕ) (name : List ℕ) (subckts : List ResolvedSubckt) (find : List ℕ → Option ℕ) (leaf : (r : Role) → HasLeaf subckts find (cell r) r)
-    (row : HasSubckt subckts find (name ++ codes "_row") (row_ports plan) (row_instances plan cell)) (b : ℕ) (see : FlatNet → List ℕ) (s : ArraySees plan b see) where
+module _ (plan : Organization) (p : IsBuildable plan) (cell : Role → List ℕ) (bits : BitCells) (name : List ℕ) (subckts : List ResolvedSubckt) (find : List ℕ → Option ℕ) (leaf : HasLeaves plan cell bits subckts find)
+    (row : (r : ℕ) → r < bank_rows plan → HasSubckt subckts find (row_name bits name r) (row_ports plan) (row_instances plan cell bits r)) (b : ℕ) (see : FlatNet → List ℕ) (s : ArraySees plan b see) where
   abbrev tail : List (List ℕ)
   tail = codes "wlen" ∷ (all_bit_lines plan ++ supplies)
 
@@ -69,7 +70,7 @@ module _ (plan : Organization) (p : IsBuildable plan) (cell : Role → List ℕ)
     abbrev nodes : List (List ℕ)
     nodes = row_lines_from plan.groups 0 r ++ tail
 
-    row_is : IsInstanceOf (array_row plan name r) (name ++ codes "_row") (with_number (codes "xr") r) (row_ports plan) nodes
+    row_is : IsInstanceOf (array_row plan bits name r) (row_name bits name r) (with_number (codes "xr") r) (row_ports plan) nodes
     row_is = record {
       of = refl;
       named = plain_low _ (plain_tail r (few_rows plan p r few) [] refl);
@@ -78,10 +79,10 @@ module _ (plan : Organization) (p : IsBuildable plan) (cell : Role → List ℕ)
     }
 
     abbrev seen : FlatNet → List ℕ
-    seen = see_in subckts see (resolved_instance find (array_row plan name r)) row.index
+    seen = see_in subckts see (resolved_instance find (array_row plan bits name r)) (row r few).index
 
     is : (n : List ℕ) → by_name seen n ≡ see (look (net_within (with_number (codes "xr") r) n) (row_ports plan) nodes n)
-    is n = seen_is subckts find (name ++ codes "_row") (row_ports plan) (row_instances plan cell) row see (array_row plan name r) (with_number (codes "xr") r) nodes row_is n
+    is n = seen_is subckts find (row_name bits name r) (row_ports plan) (row_instances plan cell bits r) (row r few) see (array_row plan bits name r) (with_number (codes "xr") r) nodes row_is n
 
     -- a name of two bytes or more that stands among the ports is passed on
     passed : (x y : ℕ) (zs : List ℕ) → IsOneOf (x ∷ y ∷ zs) tail → by_name seen (x ∷ y ∷ zs) ≡ by_name see (x ∷ y ∷ zs)
@@ -113,14 +114,14 @@ module _ (plan : Organization) (p : IsBuildable plan) (cell : Role → List ℕ)
       gnd = passed 103 110 (100 ∷ []) (inr (one_right (codes "gnd") (all_bit_lines plan) supplies (inr (inl refl)))) ∙ s.gnd;
     }
 
-    row_part : (d : ℕ) → Flattens (row_of plan cell) subckts (to_array plan b) see (visits_in subckts (below subckts (suc d)) (resolved_instance find (array_row plan name r)) (resolved_instance find (array_row plan name r)).index) (row_leaves plan b r)
+    row_part : (d : ℕ) → Flattens (row_of plan cell bits) subckts (to_array plan b) see (visits_in subckts (below subckts (suc d)) (resolved_instance find (array_row plan bits name r)) (resolved_instance find (array_row plan bits name r)).index) (row_leaves plan b r)
     row_part d =
-        subckt_flat subckts find (name ++ codes "_row") (row_ports plan) (row_instances plan cell) row see (array_row plan name r) (with_number (codes "xr") r) nodes row_is (row_of plan cell) d (to_array plan b) (row_leaves plan b r)
-        (row_flat plan p cell subckts find leaf d b r seen row_sees)
+        subckt_flat subckts find (row_name bits name r) (row_ports plan) (row_instances plan cell bits r) (row r few) see (array_row plan bits name r) (with_number (codes "xr") r) nodes row_is (row_of plan cell bits) d (to_array plan b) (row_leaves plan b r)
+        (row_flat plan p cell bits subckts find leaf d b r few seen row_sees)
 
   -- the array's rows
-  pub array_flat : (d : ℕ) → Flattens (row_of plan cell) subckts (to_array plan b) see (visits_by subckts (below subckts (suc d)) (map (resolved_instance find) (array_instances plan name))) (flat_map (row_leaves plan b) (numbers_from 0 (bank_rows plan)))
+  pub array_flat : (d : ℕ) → Flattens (row_of plan cell bits) subckts (to_array plan b) see (visits_by subckts (below subckts (suc d)) (map (resolved_instance find) (array_instances plan bits name))) (flat_map (row_leaves plan b) (numbers_from 0 (bank_rows plan)))
   array_flat d =
-      flat_eachs (row_of plan cell) subckts (to_array plan b) see (below subckts (suc d)) (resolved_instance find) (array_row plan name) (row_leaves plan b) (numbers_from 0 (bank_rows plan))
-      (all_numbers (λ r. Flattens (row_of plan cell) subckts (to_array plan b) see (visits_in subckts (below subckts (suc d)) (resolved_instance find (array_row plan name r)) (resolved_instance find (array_row plan name r)).index) (row_leaves plan b r)) 0 (bank_rows plan)
+      flat_eachs (row_of plan cell bits) subckts (to_array plan b) see (below subckts (suc d)) (resolved_instance find) (array_row plan bits name) (row_leaves plan b) (numbers_from 0 (bank_rows plan))
+      (all_numbers (λ r. Flattens (row_of plan cell bits) subckts (to_array plan b) see (visits_in subckts (below subckts (suc d)) (resolved_instance find (array_row plan bits name r)) (resolved_instance find (array_row plan bits name r)).index) (row_leaves plan b r)) 0 (bank_rows plan)
       (λ r from lt. row_part r (omega arith) d))

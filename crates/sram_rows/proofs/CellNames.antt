@@ -1,12 +1,11 @@
 -- The names of cells that were read can be written.
-use Rattle.std.proofs.Common.{◌≡◌, ◌≢◌, ℕ, zero, suc, ◌<◌, ◌≤◌, List, [], ◌∷◌, map, length, get_or, Some, refl, sym, ap, subst, ◌∙◌, arith}
+use Rattle.std.proofs.Common.{◌≡◌, ◌≢◌, ℕ, zero, suc, ◌<◌, ◌≤◌, List, [], ◌∷◌, map, length, get_or, refl, sym, ap, subst, ◌∙◌, arith}
 use Rattle.std.specs.List.{AllByRecursion}
 use Rattle.std.specs.Char.{to_ascii_lowercase}
 use Rattle.std.proofs.lemmas.List.{length-map}
-use Rattle.netlist.specs.declared.deck.Deck.{Deck}
 use Rattle.netlist.specs.declared.deck.Subckt.{Subckt}
 use Rattle.spice_text.specs.Words.{lower}
-use Rattle.spice_text.specs.Writable.{IsNameByte, IsName, lowered_subckt}
+use Rattle.spice_text.specs.Writable.{IsNameByte, lowered_subckt}
 use Rattle.spice_text.specs.ReadDecks.{IsReadableName}
 use Rattle.spice_text.proofs.ReadDecks.{decks_are_lowered, subckt_names_are_readable}
 use Rattle.spice_netlist.specs.Resolved.{names_of}
@@ -28,14 +27,14 @@ bytes_are [] printed other = tt
 bytes_are (b ∷ n) printed other = (record { above = printed.0.0; below = printed.0.1; other = λ e. other.0 (ap to_ascii_lowercase e) }, bytes_are n printed.1 other.1)
 
 pub cells_are_names : CellsAreNames
-cells_are_names bytes d cell r read has printed =
-    let s = spot (lower (cell r)) (names_of d.subckts) 0 has.index has.there in
+cells_are_names bytes d name r read has printed =
+    let s = spot (lower name) (names_of d.subckts) 0 has.index has.there in
     let same : names_of d.subckts ≡ map (λ s. s.name) d.subckts = lowered_names d.subckts ∙ ap (map (λ (t : Subckt). t.name)) (decks_are_lowered bytes d read) in
     let long = length-map d.subckts (λ (t : Subckt). lower t.name) in
     let within = s.within in
     let lt : s.at < length d.subckts = omega (arith, long, within) in
-    let is : get_or (map (λ (t : Subckt). t.name) d.subckts) s.at [] ≡ lower (cell r) = ap (λ (l : List (List ℕ)). get_or l s.at []) (sym same) ∙ s.name in
-    let name : IsReadableName (lower (cell r)) = subst IsReadableName is (all_at IsReadableName d.subckts s.at (subckt_names_are_readable bytes d read) lt) in
-    let low = length-map (cell r) to_ascii_lowercase in
-    let some = name.some in
-    record { some = omega (arith, low, some); bytes = bytes_are (cell r) printed name.other }
+    let is : get_or (map (λ (t : Subckt). t.name) d.subckts) s.at [] ≡ lower name = ap (λ (l : List (List ℕ)). get_or l s.at []) (sym same) ∙ s.name in
+    let readable : IsReadableName (lower name) = subst IsReadableName is (all_at IsReadableName d.subckts s.at (subckt_names_are_readable bytes d read) lt) in
+    let low = length-map name to_ascii_lowercase in
+    let some = readable.some in
+    record { some = omega (arith, low, some); bytes = bytes_are name printed readable.other }

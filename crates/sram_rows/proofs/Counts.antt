@@ -3,20 +3,22 @@ use Rattle.std.proofs.Common.{◌≡◌, ℕ, zero, suc, ◌+◌, ◌*◌, ◌�
 use Rattle.std.specs.List.{flat_map, AllByRecursion}
 use Rattle.std.proofs.lemmas.List.{length-map, length-append}
 use Rattle.row_laws.specs.Flattens.{zip_rows}
-use Rattle.sram_netlist.specs.Organization.{Organization, power_of_two, bank_rows, columns_of, banks_of, bank_bit, addr_bits, IsBuildable, IsGroupSize}
+use Rattle.sram_netlist.specs.Organization.{Organization, inputs_of, power_of_two, bank_rows, columns_of, banks_of, bank_bit, addr_bits, IsBuildable, IsGroupSize}
 use Rattle.sram_netlist.specs.Instances.{LeafInstance, LogicAt, PrechargeAt, WriteAt, SenseAt, MuxAt, TieAt, BitAt, Dd, Dm}
 use Rattle.cell_roles.specs.declared.role.Role.{Role}
 use Rattle.cell_roles.specs.Roles.{role_ports}
 use Rattle.cell_roles.specs.declared.role.Role.TheVariants.{Bitcell, Precharge, Mux, Tie, Sense, Write, RowNand2, RowNand3, Driver, Nand2, Nand3, Inv, Dff, Delay}
 use Rattle.spice_text.specs.Words.{lower}
 use Rattle.sram_netlist.specs.Names.{leaf_path, full_name}
-use Rattle.sram_netlist.specs.Netlist.{enable_count, role, ports}
+use Rattle.sram_netlist.specs.Netlist.{enable_count, enables_of, role, ports}
+use Rattle.sram_netlist.specs.BitCells.{BitCells}
 use Rattle.sram_netlist.specs.InstanceList.{numbers_from, tabulate, tabulate_lists, row_leaves, column_cells, data_leaves, bank_leaves, fixed_cells, address_cells, line_gates, gates, groups_gates, choice_gates, bank_cells, banks_cells, enable_gates, enable_cells, logic_cells, leaf_instances}
-use Rattle.sram_netlist.proofs.Bounds.{bounds, twice_up}
+use Rattle.sram_netlist.proofs.Bounds.{bounds, written_most, twice_up}
+use Rattle.sram_rows.specs.Rows.{cell_at}
 use Rattle.sram_rows.proofs.Segments.{few_of, few_groups}
 use Rattle.sram_rows.proofs.LeafInstances.{row_of}
 
-span_long : (k n : ℕ) → length (numbers_from k n) ≡ n
+pub span_long : (k n : ℕ) → length (numbers_from k n) ≡ n
 span_long k zero = refl
 span_long k (suc n) = ap suc (span_long (suc k) n)
 
@@ -63,43 +65,53 @@ banks_few plan (suc n) h =
 bank_enables_few : (k b : ℕ) → k ≤ 256 → length (tabulate_lists k (enable_gates b)) ≤ 512
 bank_enables_few k b h = let e = eachs_few k (enable_gates b) 2 (λ m. omega arith) in omega (arith, e)
 
-enables_few : (n k : ℕ) → n ≤ 2 → enable_count k ≤ 256 → length (enable_cells n k) ≤ 2048
-enables_few zero zero h few = omega arith
-enables_few zero (suc k) h few = let e = eachs_few 1 (λ b. tabulate_lists (suc k) (enable_gates b)) 512 (λ b. bank_enables_few (suc k) b few) in omega (arith, e)
-enables_few (suc n) k h few =
-    let e = eachs_few (power_of_two (suc n)) (λ b. tabulate_lists (enable_count k) (enable_gates b)) 512 (λ b. bank_enables_few (enable_count k) b few) in
+enables_few : (n k enables : ℕ) → n ≤ 2 → enables ≤ 256 → length (enable_cells n k enables) ≤ 2048
+enables_few zero zero enables h few = omega arith
+enables_few zero (suc k) enables h few = let e = eachs_few 1 (λ b. tabulate_lists enables (enable_gates b)) 512 (λ b. bank_enables_few enables b few) in omega (arith, e)
+enables_few (suc n) k enables h few =
+    let e = eachs_few (power_of_two (suc n)) (λ b. tabulate_lists enables (enable_gates b)) 512 (λ b. bank_enables_few enables b few) in
     let t = twice_up (suc n) 2 h in
     omega (arith, e, t)
+
+-- clock and control
+fixed_few : (w : ℕ) → length (fixed_cells w) ≤ 14
+fixed_few zero = omega arith
+fixed_few (suc w) = omega arith
 
 cells_few : (plan : Organization) → IsBuildable plan → length (logic_cells plan) ≤ 4000
 cells_few plan p =
     let bd = bounds plan p in
-    let enables = enable_cells plan.bank_bits plan.masks in
+    let enables = enable_cells plan.bank_bits plan.masks (enables_of plan) in
     let banks = banks_cells plan plan.bank_bits ++ enables in
     let masks = tabulate plan.masks Dm ++ banks in
-    let words = tabulate plan.word_size Dd ++ masks in
+    let words = tabulate (inputs_of plan) Dd ++ masks in
     let groups = groups_gates plan.groups plan.col_bits ++ words in
     let choices = choice_gates plan.col_bits ++ groups in
     let address = tabulate_lists (addr_bits plan) address_cells in
-    let l1 = length-append fixed_cells (address ++ choices) in
+    let fixed = fixed_cells plan.write_size in
+    let l1 = length-append fixed (address ++ choices) in
     let l2 = length-append address choices in
     let l3 = length-append (choice_gates plan.col_bits) groups in
     let l4 = length-append (groups_gates plan.groups plan.col_bits) words in
-    let l5 = length-append (tabulate plan.word_size Dd) masks in
+    let l5 = length-append (tabulate (inputs_of plan) Dd) masks in
     let l6 = length-append (tabulate plan.masks Dm) banks in
     let l7 = length-append (banks_cells plan plan.bank_bits) enables in
     let a = eachs_few (addr_bits plan) address_cells 2 (λ i. omega arith) in
     let c = choice_few plan.col_bits p.choices in
     let g = groups_few plan.groups plan.col_bits p.sizes in
     let three = few_groups plan p in
-    let d = each_long plan.word_size Dd in
+    let d = each_long (inputs_of plan) Dd in
     let m = each_long plan.masks Dm in
     let b = banks_few plan plan.bank_bits p.banks in
-    let e = enables_few plan.bank_bits plan.masks p.banks bd.enables in
+    let few = written_most plan.write_size (enable_count plan.masks) in
+    let few_enables = bd.enables in
+    let e = enables_few plan.bank_bits plan.masks (enables_of plan) p.banks (omega (arith, few, few_enables)) in
+    let few_fixed = fixed_few plan.write_size in
+    let few_inputs = written_most plan.write_size plan.word_size in
     let few_address = bd.address in
     let few_words = bd.words in
     let few_masks = bd.masks in
-    omega (arith, l1, l2, l3, l4, l5, l6, l7, a, c, g, three, d, m, b, e, few_address, few_words, few_masks)
+    omega (arith, l1, l2, l3, l4, l5, l6, l7, a, c, g, three, d, m, b, e, few_fixed, few_inputs, few_address, few_words, few_masks)
 
 row_few : (plan : Organization) (b r : ℕ) → columns_of plan ≤ 256 → length (row_leaves plan b r) ≤ 258
 row_few plan b r few = let e = each_long (columns_of plan) (BitAt b r) in omega (arith, e, few)
@@ -116,14 +128,15 @@ bank_few plan b p =
     let words = bd.words in
     let r = eachs_few (bank_rows plan) (row_leaves plan b) 258 (λ r. row_few plan b r columns) in
     let c = each_long (columns_of plan) (PrechargeAt b) in
-    let w = each_long plan.word_size (WriteAt b) in
+    let w = each_long (inputs_of plan) (WriteAt b) in
+    let few_inputs = written_most plan.write_size plan.word_size in
     let s = each_long plan.word_size (SenseAt b) in
     let l = links_few plan.col_bits b (columns_of plan) columns in
     let l1 = length-append (tabulate_lists (bank_rows plan) (row_leaves plan b)) (tabulate (columns_of plan) (PrechargeAt b) ++ data_leaves plan b) in
     let l2 = length-append (tabulate (columns_of plan) (PrechargeAt b)) (data_leaves plan b) in
-    let l3 = length-append (tabulate plan.word_size (WriteAt b)) (tabulate plan.word_size (SenseAt b) ++ column_cells plan.col_bits b (columns_of plan)) in
+    let l3 = length-append (tabulate (inputs_of plan) (WriteAt b)) (tabulate plan.word_size (SenseAt b) ++ column_cells plan.col_bits b (columns_of plan)) in
     let l4 = length-append (tabulate plan.word_size (SenseAt b)) (column_cells plan.col_bits b (columns_of plan)) in
-    omega (arith, r, c, w, s, l, l1, l2, l3, l4, columns, rows, words)
+    omega (arith, r, c, w, s, l, l1, l2, l3, l4, columns, rows, words, few_inputs)
 
 pub leaves_few_all : (plan : Organization) → IsBuildable plan → length (leaf_instances plan) ≤ 300000
 leaves_few_all plan p =
@@ -156,14 +169,14 @@ ports_few Inv = omega arith
 ports_few Dff = omega arith
 ports_few Delay = omega arith
 
-pins_few : (plan : Organization) (cell : Role → List ℕ) (x : LeafInstance) → length (row_of plan cell x) ≤ 7
-pins_few plan cell x =
-    let z = zip_few (leaf_path plan x) (lower (cell (role plan x))) (role_ports (role plan x)) (map (full_name plan) (ports plan x)) in
+pins_few : (plan : Organization) (cell : Role → List ℕ) (bits : BitCells) (x : LeafInstance) → length (row_of plan cell bits x) ≤ 7
+pins_few plan cell bits x =
+    let z = zip_few (leaf_path plan x) (lower (cell_at plan cell bits x)) (role_ports (role plan x)) (map (full_name plan) (ports plan x)) in
     let f = ports_few (role plan x) in
     omega (arith, z, f)
 
-pub rows_few : (plan : Organization) (cell : Role → List ℕ) → IsBuildable plan → length (flat_map (row_of plan cell) (leaf_instances plan)) ≤ 2100000
-rows_few plan cell p =
+pub rows_few : (plan : Organization) (cell : Role → List ℕ) (bits : BitCells) → IsBuildable plan → length (flat_map (row_of plan cell bits) (leaf_instances plan)) ≤ 2100000
+rows_few plan cell bits p =
     let few = leaves_few_all plan p in
-    let rows = flat_few (row_of plan cell) 7 (leaf_instances plan) (pins_few plan cell) in
+    let rows = flat_few (row_of plan cell bits) 7 (leaf_instances plan) (pins_few plan cell bits) in
     omega (arith, few, rows)

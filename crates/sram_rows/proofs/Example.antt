@@ -7,7 +7,9 @@ use Rattle.cell_roles.specs.declared.role.Role.{Role}
 use Rattle.cell_roles.specs.Roles.{all_roles, role_ports}
 use Rattle.cell_roles.specs.declared.role.Role.TheVariants.{Bitcell, Precharge, Mux, Tie, Sense, Write, RowNand2, RowNand3, Driver, Nand2, Nand3, Inv, Dff, Delay}
 use Rattle.sram_deck.specs.Deck.{made_subckt}
+use Rattle.sram_netlist.specs.BitCells.{Alike}
 use Rattle.sram_rows.specs.Rows.{HasRoleCell, SomeAreLeavesFor}
+use Rattle.sram_rows.proofs.LeafEnds.{alike_leaves}
 
 abbrev cell : Role → List ℕ
 cell Bitcell = codes "Demo_bitcell"
@@ -66,8 +68,10 @@ pub premises : SomeAreLeavesFor
 premises = record {
   plan = plan;
   cell = cell;
+  bits = Alike (cell Bitcell);
+  ends = map cell all_roles;
   leaves = leaves;
   name = codes "Memory";
   is_buildable = is_plan;
-  are_leaves = record { roles = has_role; free = (refl, (refl, (refl, (refl, (refl, (refl, (refl, tt))))))) };
+  are_leaves = alike_leaves plan cell leaves (codes "Memory") has_role (refl, (refl, (refl, (refl, (refl, (refl, (refl, tt)))))));
 }

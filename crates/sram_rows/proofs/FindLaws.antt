@@ -1,13 +1,10 @@
 -- Where names stand in a list.
-use Rattle.std.proofs.Common.{◌≡◌, inl, inr, ℕ, suc, ◌+◌, ◌<◌, List, [], ◌∷◌, ◌++◌, length, map, get_or, Bool, true, false, ◌&&◌, cond, None, Some, is_some, refl, sym, ap, ◌∙◌, arith}
+use Rattle.std.proofs.Common.{◌≡◌, inl, inr, ℕ, suc, ◌+◌, ◌<◌, List, [], ◌∷◌, ◌++◌, length, get_or, Bool, true, false, cond, None, Some, is_some, refl, sym, ap, ◌∙◌, arith}
 use Rattle.std.specs.List.{position_from}
-use Rattle.std.specs.Char.{to_ascii_lowercase}
 use Rattle.std.specs.Cmp.Lexicographic.{same_text}
-use Rattle.spice_text.specs.Words.{lower}
 use Rattle.spice_netlist.specs.Names.{same_name}
 use Rattle.spice_netlist.proofs.NameIndexLaws.{same_self}
 use Rattle.row_laws.proofs.LookLaws.{IsOneOf, AreOther}
-use Rattle.sram_netlist.proofs.ChoiceLaws.{nat_same}
 
 pub find_past : (t : List ℕ → Bool) (i : ℕ) (xs ys : List (List ℕ)) → position_from t i xs ≡ None → position_from t i (xs ++ ys) ≡ position_from t (i + length xs) ys
 find_past t i [] ys none = ap (λ (n : ℕ). position_from t n ys) (omega arith)
@@ -61,12 +58,3 @@ find_some n i (x ∷ xs) (inr is) = by (same_name n x) (find_some n (i + 1) xs i
     by : (b : Bool) → is_some (position_from (same_name n) (i + 1) xs) ≡ true → is_some (cond b (Some i) (position_from (same_name n) (i + 1) xs)) ≡ true
     by true e = refl
     by false e = e
-
--- two names with one front part
-pub same_behind : (n s t : List ℕ) → same_name (lower (n ++ s)) (lower (n ++ t)) ≡ same_name (lower s) (lower t)
-same_behind [] s t = refl
-same_behind (c ∷ n) s t = ap (λ (b : Bool). b && same_name (lower (n ++ s)) (lower (n ++ t))) (nat_same (to_ascii_lowercase c)) ∙ same_behind n s t
-
-pub find_behind : (n s : List ℕ) (i : ℕ) (ss : List (List ℕ)) → position_from (same_name (lower (n ++ s))) i (map (λ t. lower (n ++ t)) ss) ≡ position_from (same_name (lower s)) i (map lower ss)
-find_behind n s i [] = refl
-find_behind n s i (t ∷ ss) = λ j. cond (same_behind n s t j) (Some i) (find_behind n s (i + 1) ss j)

@@ -5,18 +5,19 @@ use Rattle.std.specs.List.{AllByRecursion}
 use Rattle.netlist.specs.declared.deck.Instance.{Instance}
 use Rattle.row_laws.proofs.LookLaws.{all_append, all_map}
 use Rattle.cell_roles.specs.declared.role.Role.{Role}
-use Rattle.sram_netlist.specs.Organization.{Organization, IsBuildable, IsGroupSize, power_of_two, bank_rows, columns_of, banks_of, bank_bit, addr_bits}
+use Rattle.sram_netlist.specs.Organization.{Organization, inputs_of, IsBuildable, IsGroupSize, power_of_two, bank_rows, columns_of, banks_of, bank_bit, addr_bits}
 use Rattle.sram_netlist.specs.Instances.{LogicCell, Pn, Pi, Ad, Ai, Dd, Dm, Ln, Li, Kn, Ki, Gn, Gi}
-use Rattle.sram_netlist.specs.Netlist.{enable_count}
+use Rattle.sram_netlist.specs.Netlist.{enables_of}
 use Rattle.sram_netlist.specs.Names.{LineKind, Column, Group, Bank, line_kind, line_kind_in, gate_name, inv_name, bank_name, cell_name, with_number}
 use Rattle.sram_netlist.specs.InstanceList.{tabulate, tabulate_lists, fixed_cells, address_cells, line_gates, gates, choice_gates, groups_gates, bank_cells, banks_cells, enable_gates, enable_cells, logic_cells}
 use Rattle.sram_netlist.proofs.Bounds.{bounds, size_small}
 use Rattle.sram_netlist.proofs.ChoiceLaws.{nat_same, nat_other, behind, column, past_groups}
 use Rattle.sram_netlist.proofs.NamesTell.{letters, first, rest}
+use Rattle.sram_netlist.specs.BitCells.{BitCells}
 use Rattle.sram_deck.specs.Deck.{row_nand, row_driver, row_bit, row_instances, array_row, array_instances, pre_column, pre_instances, data_write, data_sense, data_mux, data_tie, data_links, data_instances, bank_instances, logic_cell, logic_instances, top_logic, top_bank, top_instances}
-use Rattle.sram_rows.proofs.DifferLaws.{among, apart, DifferBy, AreTold, told_none, told_both, told_more, told_lists, told_tabulate, told_pair, told_list, all_follow}
+use Rattle.sram_rows.proofs.DifferLaws.{among, apart, kinds_of, DifferBy, AreTold, told_none, told_both, told_more, told_lists, told_tabulate, told_pair, told_list, all_follow}
 use Rattle.sram_rows.proofs.NumberedNames.{number_letters, numbers_letters, first_number, second_number, has_no_digit, number_is, numbers_are}
-use Rattle.sram_rows.proofs.PlainNames.{few_columns, few_rows, few_words, few_enables, few_choices}
+use Rattle.sram_rows.proofs.PlainNames.{few_columns, few_rows, few_words, few_inputs, few_written, few_choices}
 use Rattle.sram_rows.proofs.PlainNetNames.{few_banks}
 use Rattle.sram_rows.proofs.Segments.{few_of, few_groups, all_tabulate_lists}
 
@@ -149,8 +150,8 @@ module _ (plan : Organization) (p : IsBuildable plan) where
   abbrev enable_kinds : List (List ℕ)
   enable_kinds = codes "xgn_" ∷ codes "xgi_" ∷ []
 
-  enables_of : (n k : ℕ) → ((b : ℕ) → b < n → b < 2 ^ 64) → ((m : ℕ) → m < k → m < 2 ^ 64) → AreToldCells (tabulate_lists n (λ b. tabulate_lists k (enable_gates b))) enable_kinds
-  enables_of n k few masks = told_lists (cell_name plan) first_number n (λ b. tabulate_lists k (enable_gates b)) enable_kinds
+  gates_of : (n k : ℕ) → ((b : ℕ) → b < n → b < 2 ^ 64) → ((m : ℕ) → m < k → m < 2 ^ 64) → AreToldCells (tabulate_lists n (λ b. tabulate_lists k (enable_gates b))) enable_kinds
+  gates_of n k few masks = told_lists (cell_name plan) first_number n (λ b. tabulate_lists k (enable_gates b)) enable_kinds
       (λ b lt. told_lists (cell_name plan) second_number k (enable_gates b) enable_kinds
       (λ m less. let f = few b lt in let f' = masks m less in
       told_pair (cell_name plan) (Gn b m) (Gi b m) (codes "xgn_") (codes "xgi_") (numbers_letters (codes "xgn") b m f f') (numbers_letters (codes "xgi") b m f f') refl)
@@ -161,53 +162,66 @@ module _ (plan : Organization) (p : IsBuildable plan) where
       (λ b lt. all_tabulate_lists (λ c. first_number (cell_name plan c) ≡ b) k (enable_gates b) (λ m less. let f = few b lt in let f' = masks m less in
       (ap first (numbers_are (codes "xgn") b m refl f f'), (ap first (numbers_are (codes "xgi") b m refl f f'), tt))))
 
-  enables_told : (n k : ℕ) → ((b : ℕ) → b < power_of_two n → b < 2 ^ 64) → ((m : ℕ) → m < enable_count k → m < 2 ^ 64) → AreToldCells (enable_cells n k) enable_kinds
-  enables_told zero zero few masks = told_none (cell_name plan) enable_kinds
-  enables_told zero (suc k) few masks = enables_of 1 (suc k) few masks
-  enables_told (suc n) k few masks = enables_of (power_of_two (suc n)) (enable_count k) few masks
+  enables_told : (n k enables : ℕ) → ((b : ℕ) → b < power_of_two n → b < 2 ^ 64) → ((m : ℕ) → m < enables → m < 2 ^ 64) → AreToldCells (enable_cells n k enables) enable_kinds
+  enables_told zero zero enables few masks = told_none (cell_name plan) enable_kinds
+  enables_told zero (suc k) enables few masks = gates_of 1 enables few masks
+  enables_told (suc n) k enables few masks = gates_of (power_of_two (suc n)) enables few masks
 
-  abbrev fixed_kinds : List (List ℕ)
-  fixed_kinds = codes "xclki" ∷ codes "xcsd" ∷ codes "xwed" ∷ codes "xcsi" ∷ codes "xwei" ∷ codes "xwln" ∷ codes "xwli" ∷ codes "xwrn" ∷ codes "xwri" ∷ codes "xrdn" ∷ codes "xrdi" ∷ codes "xdly" ∷ codes "xsen" ∷ codes "xsei" ∷ []
+  -- behind the data bits, and behind clock and control
+  abbrev late_kinds : List (List ℕ)
+  late_kinds = codes "xdm" ∷ ((choice_of_bank_kinds ++ control_kinds) ++ enable_kinds)
+
+  abbrev gate_kinds : List (List ℕ)
+  gate_kinds = address_kinds ++ (choice_kinds ++ (group_kinds ++ (codes "xdd" ∷ late_kinds)))
+
+  abbrev fixed_kinds : ℕ → List (List ℕ)
+  fixed_kinds w = kinds_of (cell_name plan) (fixed_cells w)
+
+  fixed_told : (w : ℕ) → AreToldCells (fixed_cells w) (fixed_kinds w)
+  fixed_told zero = told_list (cell_name plan) (fixed_cells 0) refl
+  fixed_told (suc w) = told_list (cell_name plan) (fixed_cells (suc w)) refl
+
+  fixed_apart : (w : ℕ) → apart (fixed_kinds w) gate_kinds ≡ true
+  fixed_apart zero = refl
+  fixed_apart (suc w) = refl
 
   cells_differ : DifferBy (cell_name plan) (logic_cells plan)
   cells_differ =
-      let k6 = (choice_of_bank_kinds ++ control_kinds) ++ enable_kinds in
-      let k5 = codes "xdm" ∷ k6 in
-      let k4 = codes "xdd" ∷ k5 in
+      let k4 = codes "xdd" ∷ late_kinds in
       let k3 = group_kinds ++ k4 in
       let k2 = choice_kinds ++ k3 in
-      let k1 = address_kinds ++ k2 in
-      let c6 = banks_cells plan plan.bank_bits ++ enable_cells plan.bank_bits plan.masks in
+      let enables = enable_cells plan.bank_bits plan.masks (enables_of plan) in
+      let c6 = banks_cells plan plan.bank_bits ++ enables in
       let c5 = tabulate plan.masks Dm ++ c6 in
-      let c4 = tabulate plan.word_size Dd ++ c5 in
+      let c4 = tabulate (inputs_of plan) Dd ++ c5 in
       let c3 = groups_gates plan.groups plan.col_bits ++ c4 in
       let c2 = choice_gates plan.col_bits ++ c3 in
       let c1 = tabulate_lists (addr_bits plan) address_cells ++ c2 in
-      (told_both (cell_name plan) fixed_cells c1 fixed_kinds k1 (told_list (cell_name plan) fixed_cells refl)
+      (told_both (cell_name plan) (fixed_cells plan.write_size) c1 (fixed_kinds plan.write_size) gate_kinds (fixed_told plan.write_size)
       (told_both (cell_name plan) (tabulate_lists (addr_bits plan) address_cells) c2 address_kinds k2 address_told
       (told_both (cell_name plan) (choice_gates plan.col_bits) c3 choice_kinds k3 (choice_told plan.col_bits refl)
       (told_both (cell_name plan) (groups_gates plan.groups plan.col_bits) c4 group_kinds k4 groups_told
-      (told_both (cell_name plan) (tabulate plan.word_size Dd) c5 (codes "xdd" ∷ []) k5 (numbered (cell_name plan) plan.word_size Dd (codes "xdd") (codes "xdd" ∷ []) (λ k. refl) (few_words plan p) refl refl)
-      (told_both (cell_name plan) (tabulate plan.masks Dm) c6 (codes "xdm" ∷ []) k6 (numbered (cell_name plan) plan.masks Dm (codes "xdm") (codes "xdm" ∷ []) (λ k. refl) few_masks refl refl)
-      (told_both (cell_name plan) (banks_cells plan plan.bank_bits) (enable_cells plan.bank_bits plan.masks) (choice_of_bank_kinds ++ control_kinds) enable_kinds (banks_told plan.bank_bits (few_banks plan p))
-      (enables_told plan.bank_bits plan.masks (few_banks plan p) (few_enables plan p)) refl) refl) refl) refl) refl) refl) refl).differ
+      (told_both (cell_name plan) (tabulate (inputs_of plan) Dd) c5 (codes "xdd" ∷ []) late_kinds (numbered (cell_name plan) (inputs_of plan) Dd (codes "xdd") (codes "xdd" ∷ []) (λ k. refl) (few_inputs plan p) refl refl)
+      (told_both (cell_name plan) (tabulate plan.masks Dm) c6 (codes "xdm" ∷ []) ((choice_of_bank_kinds ++ control_kinds) ++ enable_kinds) (numbered (cell_name plan) plan.masks Dm (codes "xdm") (codes "xdm" ∷ []) (λ k. refl) few_masks refl refl)
+      (told_both (cell_name plan) (banks_cells plan plan.bank_bits) enables (choice_of_bank_kinds ++ control_kinds) enable_kinds (banks_told plan.bank_bits (few_banks plan p))
+      (enables_told plan.bank_bits plan.masks (enables_of plan) (few_banks plan p) (few_written plan p)) refl) refl) refl) refl) refl) refl) (fixed_apart plan.write_size)).differ
 
   -- The subcircuits
 
-  module _ (cell : Role → List ℕ) (n : List ℕ) where
+  module _ (cell : Role → List ℕ) (bits : BitCells) (n : List ℕ) where
     abbrev AreDifferent : List Instance → Type 0
     AreDifferent is = DifferBy name_of_instance is
 
     pub logic_instances_differ : AreDifferent (logic_instances plan cell)
     logic_instances_differ = differ_map name_of_instance (logic_cell plan cell) (logic_cells plan) cells_differ
 
-    pub row_instances_differ : AreDifferent (row_instances plan cell)
-    row_instances_differ =
-        (told_both name_of_instance (row_nand plan cell ∷ row_driver cell ∷ []) (tabulate (columns_of plan) (row_bit cell)) (codes "xnand" ∷ codes "xdrv" ∷ []) (codes "xb" ∷ []) (told_list name_of_instance (row_nand plan cell ∷ row_driver cell ∷ []) refl)
-        (numbered name_of_instance (columns_of plan) (row_bit cell) (codes "xb") (codes "xb" ∷ []) (λ k. refl) (few_columns plan p) refl refl) refl).differ
+    pub row_instances_differ : (r : ℕ) → AreDifferent (row_instances plan cell bits r)
+    row_instances_differ r =
+        (told_both name_of_instance (row_nand plan cell ∷ row_driver cell ∷ []) (tabulate (columns_of plan) (row_bit bits r)) (codes "xnand" ∷ codes "xdrv" ∷ []) (codes "xb" ∷ []) (told_list name_of_instance (row_nand plan cell ∷ row_driver cell ∷ []) refl)
+        (numbered name_of_instance (columns_of plan) (row_bit bits r) (codes "xb") (codes "xb" ∷ []) (λ k. refl) (few_columns plan p) refl refl) refl).differ
 
-    pub array_instances_differ : AreDifferent (array_instances plan n)
-    array_instances_differ = (numbered name_of_instance (bank_rows plan) (array_row plan n) (codes "xr") (codes "xr" ∷ []) (λ k. refl) (few_rows plan p) refl refl).differ
+    pub array_instances_differ : AreDifferent (array_instances plan bits n)
+    array_instances_differ = (numbered name_of_instance (bank_rows plan) (array_row plan bits n) (codes "xr") (codes "xr" ∷ []) (λ k. refl) (few_rows plan p) refl refl).differ
 
     pub pre_instances_differ : AreDifferent (pre_instances plan cell)
     pre_instances_differ = (numbered name_of_instance (columns_of plan) (pre_column cell) (codes "xp") (codes "xp" ∷ []) (λ k. refl) (few_columns plan p) refl refl).differ
@@ -221,8 +235,8 @@ module _ (plan : Organization) (p : IsBuildable plan) where
 
     pub data_instances_differ : AreDifferent (data_instances plan cell)
     data_instances_differ =
-        (told_both name_of_instance (tabulate plan.word_size (data_write plan cell)) (tabulate plan.word_size (data_sense plan cell) ++ data_links plan cell plan.col_bits) (codes "xw" ∷ []) (codes "xs" ∷ link_kinds)
-        (numbered name_of_instance plan.word_size (data_write plan cell) (codes "xw") (codes "xw" ∷ []) (λ k. refl) (few_words plan p) refl refl)
+        (told_both name_of_instance (tabulate (inputs_of plan) (data_write plan cell)) (tabulate plan.word_size (data_sense plan cell) ++ data_links plan cell plan.col_bits) (codes "xw" ∷ []) (codes "xs" ∷ link_kinds)
+        (numbered name_of_instance (inputs_of plan) (data_write plan cell) (codes "xw") (codes "xw" ∷ []) (λ k. refl) (few_inputs plan p) refl refl)
         (told_both name_of_instance (tabulate plan.word_size (data_sense plan cell)) (data_links plan cell plan.col_bits) (codes "xs" ∷ []) link_kinds
         (numbered name_of_instance plan.word_size (data_sense plan cell) (codes "xs") (codes "xs" ∷ []) (λ k. refl) (few_words plan p) refl refl) (links_told plan.col_bits) refl) refl).differ
 

@@ -19,6 +19,7 @@ pub mod LogicLevel
 pub mod TopLevel
 pub mod PlainPorts
 pub mod FindLaws
+pub mod RowKinds
 pub mod WrittenSubckts
 pub mod Reach
 pub mod Counts
@@ -28,4 +29,5 @@ pub mod InstancesDiffer
 pub mod WritableInstances
 pub mod WritableLaws
 pub mod CellNames
+pub mod LeafEnds
 pub mod Example

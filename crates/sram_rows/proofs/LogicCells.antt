@@ -1,23 +1,24 @@
 -- The cells of the logic row: each is the plan's.
-use Rattle.std.proofs.Common.{◌≡◌, ◌⊎◌, inl, inr, ℕ, zero, suc, ◌+◌, ◌/◌, ◌<◌, ◌≤◌, ◌^◌, Bool, true, false, List, [], ◌∷◌, ◌++◌, length, refl, sym, ap, ◌∙◌, arith, map}
+use Rattle.std.proofs.Common.{◌≡◌, inl, inr, ℕ, zero, suc, ◌+◌, ◌/◌, ◌<◌, ◌≤◌, ◌^◌, Bool, true, false, List, [], ◌∷◌, ◌++◌, length, refl, sym, ap, ◌∙◌, arith, map}
 use Rattle.std.specs.List.{AllByRecursion}
 use Rattle.std.specs.Fmt.{decimal}
 use Rattle.std.proofs.lemmas.List.{length-append}
 use Rattle.row_laws.proofs.LookLaws.{all_append}
-use Rattle.sram_netlist.specs.Organization.{Organization, total_bits, banks_of, bank_bit, addr_bits, IsBuildable}
-use Rattle.sram_netlist.specs.Nets.{Net, Dout, LineB, Line, WlenAt, SenAt, WenB, WenAt, Zb, Wl, Bl, Br, Lo, Ro}
+use Rattle.sram_netlist.specs.Organization.{Organization, IsWritten, inputs_of, total_bits, banks_of, bank_bit, addr_bits, IsBuildable}
+use Rattle.sram_netlist.specs.Nets.{Net, Web0, Wen, Control, Din, Dout, D, LineB, Line, WlenAt, SenAt, WenB, WenAt, Zb, Wl, Bl, Br, Lo, Ro}
 use Rattle.sram_netlist.specs.Instances.{LogicCell, Clki, Csd, Wed, Csi, Wei, Wln, Wli, Wrn, Wri, Rdn, Rdi, Dlay, Senn, Seni, Ad, Ai, Dd, Dm, Pn, Pi, Ln, Li, Kn, Ki, Gn, Gi, LogicAt}
 use Rattle.cell_roles.specs.Roles.{role_ports}
-use Rattle.sram_netlist.specs.Netlist.{gate_of, pick, picks, lowest_bit, enable_count, enable_inputs, bank_input, mask_input, supply_nets, logic_role, logic_cell_ports}
-use Rattle.sram_netlist.specs.Membership.{IsNameable, IsChoice, IsGroup, HasLogicCell, IsOneOf}
+use Rattle.sram_netlist.specs.Netlist.{gate_of, pick, picks, lowest_bit, enable_count, enables_of, sense_start, enable_inputs, bank_input, mask_input, supply_nets, logic_role, logic_cell_ports}
+use Rattle.sram_netlist.specs.Membership.{IsGated, IsNameable, IsChoice, IsGroup, HasLogicCell, IsOneOf}
 use Rattle.sram_netlist.specs.Names.{line_kind, cell_name}
 use Rattle.sram_netlist.specs.InstanceList.{tabulate_lists, logic_cells, bank_leaves}
-use Rattle.sram_netlist.proofs.Bounds.{bounds, choice_size, line_few}
+use Rattle.sram_netlist.proofs.Bounds.{bounds, choice_size, line_few, some_written}
 use Rattle.sram_rows.proofs.DigitLaws.{IsPlain, plain_tail}
+use Rattle.sram_rows.proofs.PlainNames.{inputs_within, enables_within}
 use Rattle.sram_rows.proofs.PlainNetNames.{few_banks, kind_small, gate_name_plain, inv_name_plain}
 use Rattle.sram_netlist.proofs.InstanceLists.{lists_agree}
 
--- nets that the logic row has
+-- of the nets that names tell apart, those that the logic row has
 abbrev pub IsInLogic : Organization → Net → Type 0
 IsInLogic plan (Dout i) = ⊥
 IsInLogic plan (Zb b r) = ⊥
@@ -28,7 +29,11 @@ IsInLogic plan (Lo b i) = ⊥
 IsInLogic plan (Ro b i) = ⊥
 IsInLogic plan (WlenAt b) = 0 < plan.bank_bits
 IsInLogic plan (SenAt b) = 0 < plan.bank_bits
-IsInLogic plan (WenAt b m) = (0 < plan.bank_bits) ⊎ (0 < plan.masks)
+IsInLogic plan (WenAt b m) = IsGated plan × (m < enables_of plan)
+IsInLogic plan (Control Web0) = IsWritten plan
+IsInLogic plan (Control Wen) = IsWritten plan
+IsInLogic plan (Din i) = i < inputs_of plan
+IsInLogic plan (D i) = i < inputs_of plan
 IsInLogic plan x = Unit {0}
 
 pub record IsGood (plan : Organization) (x : Net) : Type 0 where
@@ -87,24 +92,28 @@ mask_good plan (suc k) m e lt = (record { has = omega (arith, e, lt); logic = tt
 own_line : (plan : Organization) (b : ℕ) → b < banks_of plan → 0 < plan.bank_bits → IsGood plan (Line (bank_bit plan) plan.bank_bits b)
 own_line plan b lt some = record { has = (inr (inr ((refl, refl), some)), lt); logic = tt }
 
+start_good : (plan : Organization) (w : ℕ) → IsGood plan (sense_start w)
+start_good plan zero = record { has = tt; logic = tt }
+start_good plan (suc w) = record { has = tt; logic = tt }
+
 pub ports_good : (plan : Organization) (c : LogicCell) → HasLogicCell plan c → AllByRecursion (IsGood plan) (logic_cell_ports plan c)
 ports_good plan Clki h = (record { has = tt; logic = tt }, (record { has = tt; logic = tt }, supply_good plan))
 ports_good plan Csd h = (record { has = tt; logic = tt }, (record { has = tt; logic = tt }, (record { has = tt; logic = tt }, supply_good plan)))
-ports_good plan Wed h = (record { has = tt; logic = tt }, (record { has = tt; logic = tt }, (record { has = tt; logic = tt }, supply_good plan)))
+ports_good plan Wed h = (record { has = tt; logic = h }, (record { has = tt; logic = tt }, (record { has = tt; logic = tt }, supply_good plan)))
 ports_good plan Csi h = (record { has = tt; logic = tt }, (record { has = tt; logic = tt }, supply_good plan))
 ports_good plan Wei h = (record { has = tt; logic = tt }, (record { has = tt; logic = tt }, supply_good plan))
 ports_good plan Wln h = (record { has = tt; logic = tt }, (record { has = tt; logic = tt }, (record { has = tt; logic = tt }, supply_good plan)))
 ports_good plan Wli h = (record { has = tt; logic = tt }, (record { has = tt; logic = tt }, supply_good plan))
 ports_good plan Wrn h = (record { has = tt; logic = tt }, (record { has = tt; logic = tt }, (record { has = tt; logic = tt }, (record { has = tt; logic = tt }, supply_good plan))))
-ports_good plan Wri h = (record { has = tt; logic = tt }, (record { has = tt; logic = tt }, supply_good plan))
+ports_good plan Wri h = (record { has = tt; logic = tt }, (record { has = tt; logic = h }, supply_good plan))
 ports_good plan Rdn h = (record { has = tt; logic = tt }, (record { has = tt; logic = tt }, (record { has = tt; logic = tt }, (record { has = tt; logic = tt }, supply_good plan))))
 ports_good plan Rdi h = (record { has = tt; logic = tt }, (record { has = tt; logic = tt }, supply_good plan))
 ports_good plan Dlay h = (record { has = tt; logic = tt }, (record { has = tt; logic = tt }, supply_good plan))
-ports_good plan Senn h = (record { has = tt; logic = tt }, (record { has = tt; logic = tt }, (record { has = tt; logic = tt }, supply_good plan)))
+ports_good plan Senn h = (start_good plan plan.write_size, (record { has = tt; logic = tt }, (record { has = tt; logic = tt }, supply_good plan)))
 ports_good plan Seni h = (record { has = tt; logic = tt }, (record { has = tt; logic = tt }, supply_good plan))
 ports_good plan (Ad i) h = (record { has = h; logic = tt }, (record { has = tt; logic = tt }, (record { has = h; logic = tt }, supply_good plan)))
 ports_good plan (Ai i) h = (record { has = h; logic = tt }, (record { has = h; logic = tt }, supply_good plan))
-ports_good plan (Dd i) h = (record { has = h; logic = tt }, (record { has = tt; logic = tt }, (record { has = h; logic = tt }, supply_good plan)))
+ports_good plan (Dd i) h = let few = inputs_within plan i h in (record { has = few; logic = h }, (record { has = tt; logic = tt }, (record { has = few; logic = h }, supply_good plan)))
 ports_good plan (Dm m) h = (record { has = h; logic = tt }, (record { has = tt; logic = tt }, (record { has = h; logic = tt }, supply_good plan)))
 ports_good plan (Pn o b k) h = all_append (IsGood plan) (picks o b k) (LineB o b k ∷ supply_nets) (picks_good plan o b k (choice_within plan o b h.0)) (record { has = h; logic = tt }, supply_good plan)
 ports_good plan (Pi o b k) h = (record { has = h; logic = tt }, (record { has = h; logic = tt }, supply_good plan))
@@ -114,9 +123,9 @@ ports_good plan (Kn b) h = (record { has = tt; logic = tt }, (own_line plan b h.
 ports_good plan (Ki b) h = (record { has = h.0; logic = tt }, (record { has = h.0; logic = h.1 }, supply_good plan))
 ports_good plan (Gn b m) h =
     all_append (IsGood plan) (enable_inputs plan b m) (WenB b m ∷ supply_nets)
-    (record { has = tt; logic = tt }, all_append (IsGood plan) (bank_input plan plan.bank_bits b) (mask_input plan.masks m) (bank_good plan plan.bank_bits b refl h.0.0) (mask_good plan plan.masks m refl h.0.1))
-    (record { has = (h.0.0, h.0.1); logic = tt }, supply_good plan)
-ports_good plan (Gi b m) h = (record { has = (h.0.0, h.0.1); logic = tt }, (record { has = (h.0.0, h.0.1); logic = h.1 }, supply_good plan))
+    (record { has = tt; logic = some_written plan.write_size (enable_count plan.masks) m h.0.1 }, all_append (IsGood plan) (bank_input plan plan.bank_bits b) (mask_input plan.masks m) (bank_good plan plan.bank_bits b refl h.0.0) (mask_good plan plan.masks m refl (enables_within plan m h.0.1)))
+    (record { has = (h.0.0, enables_within plan m h.0.1); logic = tt }, supply_good plan)
+ports_good plan (Gi b m) h = let fits = enables_within plan m h.0.1 in (record { has = (h.0.0, fits); logic = tt }, (record { has = (h.0.0, fits); logic = (h.1, h.0.1) }, supply_good plan))
 
 -- each has as many ports as its role
 gate_sized : (xs : List Net) (z : Net) → 0 < length xs → length xs ≤ 3 → length (role_ports (gate_of (length xs))) ≡ length (xs ++ (z ∷ supply_nets))
@@ -199,7 +208,7 @@ module _ (plan : Organization) (p : IsBuildable plan) where
       let few : i < 2 ^ 64 = let e = (bounds plan p).address in omega (arith, e, h) in
       plain_tail i few [] refl
   cell_name_plain (Dd i) h =
-      let few : i < 2 ^ 64 = let e = (bounds plan p).words in omega (arith, e, h) in
+      let few : i < 2 ^ 64 = let e = (bounds plan p).words in let lt = inputs_within plan i h in omega (arith, e, lt) in
       plain_tail i few [] refl
   cell_name_plain (Dm i) h =
       let few : i < 2 ^ 64 = let e = (bounds plan p).masks in omega (arith, e, h) in
@@ -211,10 +220,10 @@ module _ (plan : Organization) (p : IsBuildable plan) where
   cell_name_plain (Kn b) h = plain_tail b (few_banks plan p b h.0) [] refl
   cell_name_plain (Ki b) h = plain_tail b (few_banks plan p b h.0) [] refl
   cell_name_plain (Gn b m) h =
-      let few : m < 2 ^ 64 = let e = (bounds plan p).enables in let lt = h.0.1 in omega (arith, e, lt) in
+      let few : m < 2 ^ 64 = let e = (bounds plan p).enables in let lt = enables_within plan m h.0.1 in omega (arith, e, lt) in
       let l = plain_tail m few [] refl in
       plain_tail b (few_banks plan p b h.0.0) (95 ∷ (decimal m ++ [])) l
   cell_name_plain (Gi b m) h =
-      let few : m < 2 ^ 64 = let e = (bounds plan p).enables in let lt = h.0.1 in omega (arith, e, lt) in
+      let few : m < 2 ^ 64 = let e = (bounds plan p).enables in let lt = enables_within plan m h.0.1 in omega (arith, e, lt) in
       let l = plain_tail m few [] refl in
       plain_tail b (few_banks plan p b h.0.0) (95 ∷ (decimal m ++ [])) l

@@ -10,26 +10,27 @@ use Rattle.spice_netlist.specs.Walk.{visits_in, FlatNet}
 use Rattle.row_laws.specs.Flattens.{Flattens, see_in}
 use Rattle.row_laws.proofs.FlatLaws.{flat_each}
 use Rattle.row_laws.proofs.LookLaws.{look_name, look_none, IsOneOf, AreOther, one_left, one_right}
-use Rattle.sram_netlist.specs.Organization.{Organization, power_of_two, banks_of, IsBuildable, IsGroupSize, addr_bits}
+use Rattle.sram_netlist.specs.Organization.{Organization, IsWritten, power_of_two, banks_of, IsBuildable, IsGroupSize, addr_bits}
 use Rattle.sram_netlist.specs.Nets.{Net, Clk0, Csb0, Web0, Clkb, Csq, Weq, Cs, We, Wlb, Wlen, Wrb, Wen, Rdb, Rd, Dly, Seb, Sen, Vdd, Gnd, Control, Addr, Din, Dout, Wmask, A, Na, D, M, LineB, Line, WlenB, WlenAt, SenB, SenAt, WenB, WenAt, Zb, Wl, Bl, Br, Lo, Ro}
 use Rattle.sram_netlist.specs.Instances.{LogicCell, LogicAt}
 use Rattle.cell_roles.specs.declared.role.Role.{Role}
 use Rattle.sram_netlist.specs.Membership.{IsNameable, IsChoice, IsGroup, HasLogicCell}
-use Rattle.sram_netlist.specs.Netlist.{wlen_at, sen_at, enable_at, enable_count, logic_cell_ports}
+use Rattle.sram_netlist.specs.Netlist.{wlen_at, sen_at, enable_at, enable_count, enables_of, logic_role, logic_cell_ports}
 use Rattle.sram_netlist.specs.Names.{LineKind, Column, Group, Bank, line_kind, line_kind_in, line_name, lineb_name, in_kind, in_logic, in_one, in_two, with_number, with_numbers, net_name, full_name, cell_name}
+use Rattle.sram_netlist.specs.BitCells.{BitCells}
 use Rattle.sram_netlist.specs.InstanceList.{tabulate, logic_cells}
-use Rattle.sram_netlist.proofs.Bounds.{bounds, twice_above, size_small, line_few}
+use Rattle.sram_netlist.proofs.Bounds.{bounds, written_all, twice_above, size_small, line_few}
 use Rattle.sram_netlist.proofs.ChoiceLaws.{nat_same, nat_other, above_from, behind, column, past_groups, group_is}
 use Rattle.sram_deck.specs.Deck.{subckt_instance, predecode_lines, predecode_lines_from, logic_ports, logic_cell, logic_instances}
 use Rattle.sram_rows.proofs.DigitLaws.{plain_all, plain_low}
 use Rattle.sram_rows.proofs.PlainNetNames.{name_plain, few_banks, IsSmallKind, kind_small}
 use Rattle.sram_rows.proofs.Segments.{one_tabulate}
 use Rattle.sram_rows.proofs.LogicCells.{IsInLogic, IsGood, cells_in, ports_good, ports_sized, cell_name_plain}
-use Rattle.sram_rows.proofs.LeafInstances.{HasLeaf, row_of, below, IsLeafOf, leaf_flat, by_name}
+use Rattle.sram_rows.proofs.LeafInstances.{HasLeaves, row_of, below, IsLeafOf, leaf_flat, by_name}
 use Rattle.sram_rows.proofs.SubcktInstances.{HasSubckt, IsInstanceOf, seen_is, subckt_flat, net_within}
 use Rattle.spice_netlist.specs.NetKeys.{net_key}
 use Rattle.sram_rows.proofs.PlainPorts.{logic_plain}
-use Rattle.sram_rows.proofs.LogicPorts.{port_wmask, port_addr, port_din, port_clkb, port_wlen, port_sen, port_enable, port_sel, port_line, port_d, port_supply, wlen_other, sen_other, wen_other, word_other, number_other, numbers_other}
+use Rattle.sram_rows.proofs.LogicPorts.{port_web, port_wmask, port_addr, port_din, port_clkb, port_wlen, port_sen, port_enable, port_sel, port_line, port_d, port_supply, wlen_other, sen_other, wen_other, word_other, number_other, numbers_other}
 use Rattle.sram_rows.proofs.PlainNames.{few_enables}
 
 -- a line of a group stands in the list of lines
@@ -46,7 +47,7 @@ lines_have (c ∷ cs) from g o b k sizes (inr h) lt =
     subst (λ (κ : LineKind). IsOneOf (line_name κ k) (predecode_lines_from (c ∷ cs) g)) (sym is)
     (one_right (line_name (line_kind_in cs (from + c) (suc g) o) k) (tabulate (power_of_two c) (with_numbers (codes "p") g)) (predecode_lines_from cs (suc g)) (lines_have cs (from + c) (suc g) o b k sizes.1 h lt))
 
-module _ (plan : Organization) (p : IsBuildable plan) (cell : Role → List ℕ) (own_name : List ℕ) (subckts : List ResolvedSubckt) (find : List ℕ → Option ℕ) (leaf : (r : Role) → HasLeaf subckts find (cell r) r)
+module _ (plan : Organization) (p : IsBuildable plan) (cell : Role → List ℕ) (bits : BitCells) (own_name : List ℕ) (subckts : List ResolvedSubckt) (find : List ℕ → Option ℕ) (leaf : HasLeaves plan cell bits subckts find)
     (logic : HasSubckt subckts find (own_name ++ codes "_logic") (logic_ports plan) (logic_instances plan cell)) where
   some_banks : 0 < banks_of plan
   some_banks = let t = twice_above plan.bank_bits in omega (arith, t)
@@ -81,12 +82,12 @@ module _ (plan : Organization) (p : IsBuildable plan) (cell : Role → List ℕ)
   sen_seen zero e = passed (codes "sen") (subst (λ (m : ℕ). IsOneOf (net_name plan (sen_at m 0)) (logic_ports plan)) e (port_sen plan 0 some_banks))
   sen_seen (suc n) e = own (codes "sen") (sen_other plan p (omega (arith, e)))
 
-  wen_seen : (n k : ℕ) → plan.bank_bits ≡ n → plan.masks ≡ k → by_name seen (codes "wen") ≡ in_two n k ++ codes "wen"
-  wen_seen zero zero e f =
+  wen_seen : (n k : ℕ) → plan.bank_bits ≡ n → plan.masks ≡ k → IsWritten plan → by_name seen (codes "wen") ≡ in_two n k ++ codes "wen"
+  wen_seen zero zero e f some =
       passed (codes "wen") (subst (λ (m : ℕ). IsOneOf (net_name plan (enable_at m zero 0 0)) (logic_ports plan)) e
-      (subst (λ (m : ℕ). IsOneOf (net_name plan (enable_at plan.bank_bits m 0 0)) (logic_ports plan)) f (port_enable plan 0 0 some_banks (subst (λ (m : ℕ). 0 < enable_count m) (sym f) (omega arith)))))
-  wen_seen zero (suc k) e f = own (codes "wen") (wen_other plan p (inr (omega (arith, f))))
-  wen_seen (suc n) k e f = own (codes "wen") (wen_other plan p (inl (omega (arith, e))))
+      (subst (λ (m : ℕ). IsOneOf (net_name plan (enable_at plan.bank_bits m 0 0)) (logic_ports plan)) f (port_enable plan 0 0 some_banks (subst (λ (m : ℕ). 0 < m) (sym (written_all plan.write_size (enable_count plan.masks) some)) (subst (λ (m : ℕ). 0 < enable_count m) (sym f) (omega arith))))))
+  wen_seen zero (suc k) e f some = own (codes "wen") (wen_other plan p (inr (omega (arith, f))))
+  wen_seen (suc n) k e f some = own (codes "wen") (wen_other plan p (inl (omega (arith, e))))
 
   wlen_at_seen : (n b : ℕ) → plan.bank_bits ≡ n → 0 < n → b < banks_of plan → by_name seen (with_number (codes "wlen") b) ≡ with_number (codes "wlen") b
   wlen_at_seen zero b e some lt = absurd (omega arith)
@@ -96,7 +97,7 @@ module _ (plan : Organization) (p : IsBuildable plan) (cell : Role → List ℕ)
   sen_at_seen zero b e some lt = absurd (omega arith)
   sen_at_seen (suc n) b e some lt = passed (with_number (codes "sen") b) (subst (λ (m : ℕ). IsOneOf (net_name plan (sen_at m b)) (logic_ports plan)) e (port_sen plan b lt))
 
-  wen_at_seen : (n k b m : ℕ) → plan.bank_bits ≡ n → plan.masks ≡ k → (0 < n) ⊎ (0 < k) → b < banks_of plan → m < enable_count plan.masks → by_name seen (with_numbers (codes "we") b m) ≡ with_numbers (codes "we") b m
+  wen_at_seen : (n k b m : ℕ) → plan.bank_bits ≡ n → plan.masks ≡ k → (0 < n) ⊎ (0 < k) → b < banks_of plan → m < enables_of plan → by_name seen (with_numbers (codes "we") b m) ≡ with_numbers (codes "we") b m
   wen_at_seen zero zero b m e f (inl some) lt few = absurd (omega arith)
   wen_at_seen zero zero b m e f (inr some) lt few = absurd (omega arith)
   wen_at_seen zero (suc k) b m e f some lt few = passed (with_numbers (codes "we") b m) (subst (λ (x : ℕ × ℕ). IsOneOf (net_name plan (enable_at x.0 x.1 b m)) (logic_ports plan)) (λ i. (e i, f i)) (port_enable plan b m lt few))
@@ -134,7 +135,7 @@ module _ (plan : Organization) (p : IsBuildable plan) (cell : Role → List ℕ)
   net_seen : (x : Net) → IsNameable plan x → IsInLogic plan x → by_name seen (net_name plan x) ≡ full_name plan x
   net_seen (Control Clk0) h i = passed (codes "clk0") (inl refl)
   net_seen (Control Csb0) h i = passed (codes "csb0") (inr (inl refl))
-  net_seen (Control Web0) h i = passed (codes "web0") (inr (inr (inl refl)))
+  net_seen (Control Web0) h i = passed (codes "web0") (port_web plan i)
   net_seen (Control Clkb) h i = passed (codes "clkb") (port_clkb plan)
   net_seen (Control Csq) h i = own (codes "csq") (word_other plan p (codes "csq") refl)
   net_seen (Control Weq) h i = own (codes "weq") (word_other plan p (codes "weq") refl)
@@ -148,11 +149,11 @@ module _ (plan : Organization) (p : IsBuildable plan) (cell : Role → List ℕ)
   net_seen (Control Seb) h i = own (codes "seb") (word_other plan p (codes "seb") refl)
   net_seen (Control Wlen) h i = wlen_seen plan.bank_bits refl
   net_seen (Control Sen) h i = sen_seen plan.bank_bits refl
-  net_seen (Control Wen) h i = wen_seen plan.bank_bits plan.masks refl refl
+  net_seen (Control Wen) h i = wen_seen plan.bank_bits plan.masks refl refl i
   net_seen (Addr k) h i = passed (net_name plan (Addr k)) (port_addr plan k h)
-  net_seen (Din k) h i = passed (net_name plan (Din k)) (port_din plan k h)
+  net_seen (Din k) h i = passed (net_name plan (Din k)) (port_din plan k i)
   net_seen (Wmask k) h i = passed (net_name plan (Wmask k)) (port_wmask plan k h)
-  net_seen (D k) h i = passed (net_name plan (D k)) (port_d plan k h)
+  net_seen (D k) h i = passed (net_name plan (D k)) (port_d plan k i)
   net_seen (A k) h i = own (with_number (codes "a") k) (number_other plan p (codes "a") k (few_address k h) refl)
   net_seen (Na k) h i = own (with_number (codes "n") k) (number_other plan p (codes "n") k (few_address k h) refl)
   net_seen (M k) h i = own (with_number (codes "m") k) (number_other plan p (codes "m") k (few_masks k h) refl)
@@ -163,7 +164,7 @@ module _ (plan : Organization) (p : IsBuildable plan) (cell : Role → List ℕ)
   net_seen (WenB b m) h i = own (with_numbers (codes "wx") b m) (numbers_other plan p (codes "wx") b m (few_banks plan p b h.0) (few_enables plan p m h.1) refl)
   net_seen (WlenAt b) h i = wlen_at_seen plan.bank_bits b refl i h
   net_seen (SenAt b) h i = sen_at_seen plan.bank_bits b refl i h
-  net_seen (WenAt b m) h i = wen_at_seen plan.bank_bits plan.masks b m refl refl i h.0 h.1
+  net_seen (WenAt b m) h i = wen_at_seen plan.bank_bits plan.masks b m refl refl i.0 h.0 i.1
   net_seen Vdd h i = passed (codes "vdd") (port_supply plan (codes "vdd") (inl refl))
   net_seen Gnd h i = passed (codes "gnd") (port_supply plan (codes "gnd") (inr (inl refl)))
   net_seen (Dout k) h i = absurd i
@@ -181,16 +182,16 @@ module _ (plan : Organization) (p : IsBuildable plan) (cell : Role → List ℕ)
   abbrev above : List ℕ
   above = codes "xlogic" ++ (47 ∷ [])
 
-  cell_is : (c : LogicCell) → HasLogicCell plan c → IsLeafOf plan cell above seen (logic_cell plan cell c) (LogicAt c)
+  cell_is : (c : LogicCell) → HasLogicCell plan c → IsLeafOf plan cell bits above seen (logic_cell plan cell c) (LogicAt c)
   cell_is c h = record { of = refl; named = plain_low (cell_name plan c) (cell_name_plain plan p c h); there = refl; nets = nets_seen (logic_cell_ports plan c) (ports_good plan c h); sized = ports_sized plan c p h }
 
   along : (d : ℕ) (cs : List LogicCell) → AllByRecursion (HasLogicCell plan) cs
-      → AllByRecursion (λ c. Flattens (row_of plan cell) subckts above seen (visits_in subckts (below subckts d) (resolved_instance find (logic_cell plan cell c)) (resolved_instance find (logic_cell plan cell c)).index) (LogicAt c ∷ [])) cs
+      → AllByRecursion (λ c. Flattens (row_of plan cell bits) subckts above seen (visits_in subckts (below subckts d) (resolved_instance find (logic_cell plan cell c)) (resolved_instance find (logic_cell plan cell c)).index) (LogicAt c ∷ [])) cs
   along d [] all = tt
-  along d (c ∷ cs) all = (leaf_flat plan cell subckts find leaf d above seen (logic_cell plan cell c) (LogicAt c) (cell_is c all.0), along d cs all.1)
+  along d (c ∷ cs) all = (leaf_flat plan cell bits subckts find d above seen (logic_cell plan cell c) (LogicAt c) (leaf.role_cell (logic_role plan c)) (cell_is c all.0), along d cs all.1)
 
   -- the logic row's rows
-  pub logic_flat : (d : ℕ) → Flattens (row_of plan cell) subckts [] top_see (visits_in subckts (below subckts (suc d)) (resolved_instance find instance) (resolved_instance find instance).index) (map LogicAt (logic_cells plan))
+  pub logic_flat : (d : ℕ) → Flattens (row_of plan cell bits) subckts [] top_see (visits_in subckts (below subckts (suc d)) (resolved_instance find instance) (resolved_instance find instance).index) (map LogicAt (logic_cells plan))
   logic_flat d =
-      subckt_flat subckts find (own_name ++ codes "_logic") (logic_ports plan) (logic_instances plan cell) logic top_see instance (codes "xlogic") (logic_ports plan) part_is (row_of plan cell) d [] (map LogicAt (logic_cells plan))
-      (flat_each (row_of plan cell) subckts above seen (below subckts d) (resolved_instance find) (logic_cell plan cell) LogicAt (logic_cells plan) (along d (logic_cells plan) (cells_in plan)))
+      subckt_flat subckts find (own_name ++ codes "_logic") (logic_ports plan) (logic_instances plan cell) logic top_see instance (codes "xlogic") (logic_ports plan) part_is (row_of plan cell bits) d [] (map LogicAt (logic_cells plan))
+      (flat_each (row_of plan cell bits) subckts above seen (below subckts d) (resolved_instance find) (logic_cell plan cell) LogicAt (logic_cells plan) (along d (logic_cells plan) (cells_in plan)))

@@ -2,14 +2,14 @@
 use Rattle.std.proofs.Common.{◌≡◌, inl, inr, ℕ, zero, suc, ◌+◌, ◌/◌, ◌<◌, List, [], ◌∷◌, ◌++◌, map, refl, arith}
 use Rattle.std.specs.List.{AllByRecursion}
 use Rattle.row_laws.proofs.LookLaws.{all_append}
-use Rattle.sram_netlist.specs.Organization.{Organization, bank_rows, columns_of, banks_of, words_per_row, IsBuildable}
+use Rattle.sram_netlist.specs.Organization.{Organization, inputs_of, bank_rows, columns_of, banks_of, words_per_row, IsBuildable}
 use Rattle.sram_netlist.specs.Nets.{Net, Zb}
 use Rattle.sram_netlist.specs.Instances.{LogicCell, LeafInstance, BitAt, PrechargeAt, WriteAt, SenseAt, MuxAt, TieAt, LogicAt}
 use Rattle.sram_netlist.specs.Membership.{IsNameable, IsGroup, HasLogicCell}
 use Rattle.sram_netlist.specs.Netlist.{row_lines, high_bits, lo_net, ro_net, wlen_at, sen_at, enable_at, enable_count, mask_of, supply_nets, ports, logic_cell_ports}
 use Rattle.sram_netlist.specs.InstanceList.{tabulate, tabulate_lists, row_leaves, column_cells, data_leaves, bank_leaves, logic_cells, leaf_instances}
 use Rattle.sram_rows.proofs.Segments.{all_tabulate, all_tabulate_lists, low_few}
-use Rattle.sram_rows.proofs.PlainNames.{mask_few, bit_of_column, choice_of_column, column_of_bit}
+use Rattle.sram_rows.proofs.PlainNames.{inputs_within, mask_few, bit_of_column, choice_of_column, column_of_bit}
 use Rattle.sram_rows.proofs.LogicCells.{IsGood, cells_in, ports_good}
 
 abbrev pub HaveNets : Organization → List Net → Type 0
@@ -67,8 +67,8 @@ module _ (plan : Organization) (p : IsBuildable plan) (b : ℕ) (lt_b : b < bank
   bank_has =
       all_append Have (tabulate_lists (bank_rows plan) (row_leaves plan b)) (tabulate (columns_of plan) (PrechargeAt b) ++ data_leaves plan b) (all_tabulate_lists Have (bank_rows plan) (row_leaves plan b) row_has)
       (all_append Have (tabulate (columns_of plan) (PrechargeAt b)) (data_leaves plan b) (all_tabulate Have (columns_of plan) (PrechargeAt b) (λ c lt. ((lt_b, lt), ((lt_b, lt), (tt, (tt, (tt, tt)))))))
-      (all_append Have (tabulate plan.word_size (WriteAt b)) (tabulate plan.word_size (SenseAt b) ++ column_cells plan.col_bits b (columns_of plan))
-      (all_tabulate Have plan.word_size (WriteAt b) (λ i lt. (lt, (lo_has plan.col_bits i lt, (ro_has plan.col_bits i lt, (enable_has plan plan.bank_bits plan.masks b (mask_of plan.masks plan.write_size i) lt_b (mask_few plan p i lt), (tt, (tt, tt))))))))
+      (all_append Have (tabulate (inputs_of plan) (WriteAt b)) (tabulate plan.word_size (SenseAt b) ++ column_cells plan.col_bits b (columns_of plan))
+      (all_tabulate Have (inputs_of plan) (WriteAt b) (λ i some. let lt = inputs_within plan i some in (lt, (lo_has plan.col_bits i lt, (ro_has plan.col_bits i lt, (enable_has plan plan.bank_bits plan.masks b (mask_of plan.masks plan.write_size i) lt_b (mask_few plan p i lt), (tt, (tt, tt))))))))
       (all_append Have (tabulate plan.word_size (SenseAt b)) (column_cells plan.col_bits b (columns_of plan))
       (all_tabulate Have plan.word_size (SenseAt b) (λ i lt. (lo_has plan.col_bits i lt, (ro_has plan.col_bits i lt, (lt, (sen_has plan plan.bank_bits b lt_b, (tt, (tt, tt))))))))
       (links_has plan.col_bits refl))))

@@ -3,11 +3,11 @@ use Rattle.std.proofs.Common.{◌≡◌, ◌⊎◌, inl, inr, ℕ, zero, suc, �
 use Rattle.std.specs.Prelude.{codes}
 use Rattle.std.specs.List.{AllByRecursion}
 use Rattle.std.proofs.lemmas.Nat.{div_below}
-use Rattle.sram_netlist.specs.Organization.{Organization, columns_of, bank_rows, words_per_row, IsBuildable}
+use Rattle.sram_netlist.specs.Organization.{Organization, inputs_of, columns_of, bank_rows, words_per_row, written_bits, IsBuildable}
 use Rattle.cell_roles.specs.Roles.{supplies}
-use Rattle.sram_netlist.specs.Netlist.{mask_of, enable_count}
+use Rattle.sram_netlist.specs.Netlist.{mask_of, enable_count, enables_of}
 use Rattle.sram_netlist.specs.Names.{with_number}
-use Rattle.sram_netlist.proofs.Bounds.{bounds, at_least, twice_above}
+use Rattle.sram_netlist.proofs.Bounds.{bounds, written_fits, at_least, twice_above}
 use Rattle.row_laws.proofs.LookLaws.{all_append}
 use Rattle.sram_deck.specs.Deck.{predecode_lines, all_bit_lines, column_choices, write_enables, data_inputs, data_outputs, enable_name, lo_name, ro_name, array_ports, pre_ports, data_ports, row_lines_from}
 use Rattle.sram_rows.proofs.DigitLaws.{IsPlain, plain_tail}
@@ -27,6 +27,13 @@ enable_plain (suc n) m few = plain_tail m few [] refl
 
 pub supplies_plain : AllByRecursion IsPlain supplies
 supplies_plain = (refl, (refl, tt))
+
+-- what is written is some of all
+pub inputs_within : (plan : Organization) (i : ℕ) → i < inputs_of plan → i < plan.word_size
+inputs_within plan i lt = written_fits plan.write_size plan.word_size i lt
+
+pub enables_within : (plan : Organization) (m : ℕ) → m < enables_of plan → m < enable_count plan.masks
+enables_within plan m lt = written_fits plan.write_size (enable_count plan.masks) m lt
 
 module _ (plan : Organization) (p : IsBuildable plan) where
   pub few_columns : (c : ℕ) → c < columns_of plan → c < 2 ^ 64
@@ -65,6 +72,19 @@ module _ (plan : Organization) (p : IsBuildable plan) where
   pub mask_few : (i : ℕ) → i < plan.word_size → mask_of plan.masks plan.write_size i < enable_count plan.masks
   mask_few i lt = mask_by plan.masks plan.write_size i plan.word_size p.masks lt
 
+  pub few_inputs : (i : ℕ) → i < inputs_of plan → i < 2 ^ 64
+  few_inputs i lt = few_words i (inputs_within plan i lt)
+
+  pub few_written : (m : ℕ) → m < enables_of plan → m < 2 ^ 64
+  few_written m lt = few_enables m (enables_within plan m lt)
+
+  mask_written : (s i m : ℕ) → i < written_bits s plan.word_size → m < enable_count plan.masks → m < written_bits s (enable_count plan.masks)
+  mask_written zero i m lt few = absurd (omega arith)
+  mask_written (suc s) i m lt few = few
+
+  pub written_mask_few : (i : ℕ) → i < inputs_of plan → mask_of plan.masks plan.write_size i < enables_of plan
+  written_mask_few i lt = mask_written plan.write_size i (mask_of plan.masks plan.write_size i) lt (mask_few i (inputs_within plan i lt))
+
   pub bl_plain : (c : ℕ) → c < columns_of plan → IsPlain (with_number (codes "bl") c)
   bl_plain c lt = plain_tail c (few_columns c lt) [] refl
 
@@ -101,10 +121,10 @@ module _ (plan : Organization) (p : IsBuildable plan) where
   choices_plain = all_choices IsPlain plan.col_bits sel_plain
 
   pub data_bits_plain : AllByRecursion IsPlain (data_inputs plan)
-  data_bits_plain = all_tabulate IsPlain plan.word_size (with_number (codes "d")) d_plain
+  data_bits_plain = all_tabulate IsPlain (inputs_of plan) (with_number (codes "d")) (λ i lt. d_plain i (inputs_within plan i lt))
 
   pub enables_plain : AllByRecursion IsPlain (write_enables plan)
-  enables_plain = all_tabulate IsPlain (enable_count plan.masks) (enable_name plan.masks) (λ m lt. enable_plain plan.masks m (few_enables m lt))
+  enables_plain = all_tabulate IsPlain (enables_of plan) (enable_name plan.masks) (λ m lt. enable_plain plan.masks m (few_written m lt))
 
   pub outputs_plain : AllByRecursion IsPlain (data_outputs plan)
   outputs_plain = all_tabulate IsPlain plan.word_size (with_number (codes "o")) o_plain

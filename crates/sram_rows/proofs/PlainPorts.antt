@@ -3,18 +3,18 @@ use Rattle.std.proofs.Common.{ℕ, zero, suc, ◌<◌, [], ◌∷◌, ◌++◌, 
 use Rattle.std.specs.Prelude.{codes}
 use Rattle.std.specs.List.{AllByRecursion}
 use Rattle.row_laws.proofs.LookLaws.{all_append}
-use Rattle.sram_netlist.specs.Organization.{Organization, addr_bits, IsBuildable, banks_of}
+use Rattle.sram_netlist.specs.Organization.{Organization, inputs_of, addr_bits, IsBuildable, banks_of}
 use Rattle.sram_netlist.specs.Nets.{Addr, Din, Dout, Wmask, WlenAt, SenAt, WenAt}
 use Rattle.cell_roles.specs.Roles.{supplies}
 use Rattle.sram_netlist.specs.Names.{with_index, bank_name}
-use Rattle.sram_deck.specs.Deck.{predecode_lines, all_bit_lines, column_choices, data_inputs, write_enables, data_outputs, port_bits, row_inputs, row_ports, bank_ports, logic_ports, top_ports, wlen_name, sen_name, bank_enable, bank_enables}
+use Rattle.sram_deck.specs.Deck.{web_ports, predecode_lines, all_bit_lines, column_choices, data_inputs, write_enables, data_outputs, port_bits, row_inputs, row_ports, bank_ports, logic_ports, top_ports, wlen_name, sen_name, bank_enable, bank_enables}
 use Rattle.sram_rows.proofs.DigitLaws.{IsPlain, plain_tail}
-use Rattle.sram_rows.proofs.PlainNames.{bit_lines_plain, choices_plain, data_bits_plain, enables_plain, outputs_plain, supplies_plain, d_plain, sel_plain}
+use Rattle.sram_rows.proofs.PlainNames.{inputs_within, enables_within, bit_lines_plain, choices_plain, data_bits_plain, enables_plain, outputs_plain, supplies_plain, d_plain, sel_plain}
 use Rattle.sram_rows.proofs.PlainNetNames.{name_plain, few_banks}
-use Rattle.sram_rows.proofs.LogicPorts.{all_ports, wlen_cases, sen_cases, enable_cases}
+use Rattle.sram_rows.proofs.LogicPorts.{all_web, all_ports, wlen_cases, sen_cases, enable_cases}
 use Rattle.sram_rows.proofs.RowLevel.{inputs_plain}
 use Rattle.sram_rows.proofs.Segments.{all_tabulate, line_plain, lines_plain}
-use Rattle.sram_netlist.specs.Netlist.{enable_count}
+use Rattle.sram_netlist.specs.Netlist.{enables_of}
 
 module _ (plan : Organization) (p : IsBuildable plan) where
   pub row_plain : AllByRecursion IsPlain (row_ports plan)
@@ -41,17 +41,17 @@ module _ (plan : Organization) (p : IsBuildable plan) where
   logic_plain = all_ports plan IsPlain p (record {
     clk0 = refl;
     csb0 = refl;
-    web0 = refl;
+    web0 = λ some. refl;
     wmask = λ k lt. name_plain plan p (Wmask k) lt;
     addr = λ k lt. name_plain plan p (Addr k) lt;
-    din = λ k lt. name_plain plan p (Din k) lt;
+    din = λ k lt. name_plain plan p (Din k) (inputs_within plan k lt);
     clkb = refl;
     wlen = λ b lt. wlen_cases plan IsPlain plan.bank_bits b (λ e. refl) (λ more. name_plain plan p (WlenAt b) lt);
-    enable = λ b m lt few. enable_cases plan IsPlain plan.bank_bits plan.masks b m (λ e f. refl) (name_plain plan p (WenAt b m) (lt, few));
+    enable = λ b m lt few. enable_cases plan IsPlain plan.bank_bits plan.masks b m (λ e f. refl) (name_plain plan p (WenAt b m) (lt, enables_within plan m few));
     sen = λ b lt. sen_cases plan IsPlain plan.bank_bits b (λ e. refl) (λ more. name_plain plan p (SenAt b) lt);
     sel = sel_plain plan p;
     line = line_plain;
-    d = d_plain plan p;
+    d = λ i lt. d_plain plan p i (inputs_within plan i lt);
     vdd = refl;
     gnd = refl;
   })
@@ -61,16 +61,14 @@ module _ (plan : Organization) (p : IsBuildable plan) where
     refl,
     (
       refl,
-      (
-        refl,
-        all_append IsPlain (port_bits plan.masks (codes "wmask0")) (port_bits (addr_bits plan) (codes "addr0") ++ (port_bits plan.word_size (codes "din0") ++ (port_bits plan.word_size (codes "dout0") ++ supplies)))
-            (all_tabulate IsPlain plan.masks (with_index (codes "wmask0")) (λ k lt. name_plain plan p (Wmask k) lt))
-            (all_append IsPlain (port_bits (addr_bits plan) (codes "addr0")) (port_bits plan.word_size (codes "din0") ++ (port_bits plan.word_size (codes "dout0") ++ supplies))
-            (all_tabulate IsPlain (addr_bits plan) (with_index (codes "addr0")) (λ k lt. name_plain plan p (Addr k) lt))
-            (all_append IsPlain (port_bits plan.word_size (codes "din0")) (port_bits plan.word_size (codes "dout0") ++ supplies)
-            (all_tabulate IsPlain plan.word_size (with_index (codes "din0")) (λ k lt. name_plain plan p (Din k) lt))
-            (all_append IsPlain (port_bits plan.word_size (codes "dout0")) supplies (all_tabulate IsPlain plan.word_size (with_index (codes "dout0")) (λ k lt. name_plain plan p (Dout k) lt)) supplies_plain))),
-      ),
+      all_append IsPlain (web_ports plan.write_size) (port_bits plan.masks (codes "wmask0") ++ (port_bits (addr_bits plan) (codes "addr0") ++ (port_bits (inputs_of plan) (codes "din0") ++ (port_bits plan.word_size (codes "dout0") ++ supplies)))) (all_web IsPlain plan.write_size (λ some. refl))
+          (all_append IsPlain (port_bits plan.masks (codes "wmask0")) (port_bits (addr_bits plan) (codes "addr0") ++ (port_bits (inputs_of plan) (codes "din0") ++ (port_bits plan.word_size (codes "dout0") ++ supplies)))
+          (all_tabulate IsPlain plan.masks (with_index (codes "wmask0")) (λ k lt. name_plain plan p (Wmask k) lt))
+          (all_append IsPlain (port_bits (addr_bits plan) (codes "addr0")) (port_bits (inputs_of plan) (codes "din0") ++ (port_bits plan.word_size (codes "dout0") ++ supplies))
+          (all_tabulate IsPlain (addr_bits plan) (with_index (codes "addr0")) (λ k lt. name_plain plan p (Addr k) lt))
+          (all_append IsPlain (port_bits (inputs_of plan) (codes "din0")) (port_bits plan.word_size (codes "dout0") ++ supplies)
+          (all_tabulate IsPlain (inputs_of plan) (with_index (codes "din0")) (λ k lt. name_plain plan p (Din k) (inputs_within plan k lt)))
+          (all_append IsPlain (port_bits plan.word_size (codes "dout0")) supplies (all_tabulate IsPlain plan.word_size (with_index (codes "dout0")) (λ k lt. name_plain plan p (Dout k) lt)) supplies_plain)))),
     ),
   )
 
@@ -94,7 +92,7 @@ module _ (plan : Organization) (p : IsBuildable plan) where
             refl,
             all_append IsPlain (column_choices plan.col_bits) nodes2 (choices_plain plan p)
                 (all_append IsPlain (data_inputs plan) nodes3 (data_bits_plain plan p)
-                (all_append IsPlain (bank_enables plan b) (douts ++ supplies) (all_tabulate IsPlain (enable_count plan.masks) (bank_enable plan b) (λ m few. enable_cases plan IsPlain plan.bank_bits plan.masks b m (λ e f. refl) (name_plain plan p (WenAt b m) (lt, few))))
+                (all_append IsPlain (bank_enables plan b) (douts ++ supplies) (all_tabulate IsPlain (enables_of plan) (bank_enable plan b) (λ m few. enable_cases plan IsPlain plan.bank_bits plan.masks b m (λ e f. refl) (name_plain plan p (WenAt b m) (lt, enables_within plan m few))))
                 (all_append IsPlain douts supplies (all_tabulate IsPlain plan.word_size (with_index (codes "dout0")) (λ i few. name_plain plan p (Dout i) few)) supplies_plain))),
           ),
         ),

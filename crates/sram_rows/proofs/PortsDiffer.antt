@@ -4,16 +4,16 @@ use Rattle.std.specs.Prelude.{codes}
 use Rattle.std.specs.List.{AllByRecursion}
 use Rattle.row_laws.proofs.LookLaws.{all_append}
 use Rattle.cell_roles.specs.Roles.{supplies}
-use Rattle.sram_netlist.specs.Organization.{Organization, IsBuildable, IsGroupSize, power_of_two, words_per_row, columns_of, banks_of, addr_bits}
+use Rattle.sram_netlist.specs.Organization.{Organization, IsBuildable, written_bits, inputs_of, IsGroupSize, power_of_two, words_per_row, columns_of, banks_of, addr_bits}
 use Rattle.sram_netlist.specs.Netlist.{enable_count, enable_at, wlen_at, sen_at}
 use Rattle.sram_netlist.specs.Names.{with_number, with_numbers, with_index, net_name}
 use Rattle.sram_netlist.specs.InstanceList.{tabulate, tabulate_lists}
 use Rattle.sram_netlist.proofs.Bounds.{bounds}
 use Rattle.sram_netlist.proofs.NamesTell.{letters, runs, first, rest}
-use Rattle.sram_deck.specs.Deck.{row_inputs, predecode_lines, predecode_lines_from, column_bit_lines, all_bit_lines, column_choices, enable_name, write_enables, data_inputs, data_outputs, port_bits, sen_name, bank_enables, macro_inputs, bank_control_names, row_ports, array_ports, pre_ports, data_ports, bank_ports, logic_ports, top_ports}
+use Rattle.sram_deck.specs.Deck.{web_ports, row_inputs, predecode_lines, predecode_lines_from, column_bit_lines, all_bit_lines, column_choices, enable_name, write_enables, data_inputs, data_outputs, port_bits, sen_name, bank_enables, macro_inputs, bank_control_names, row_ports, array_ports, pre_ports, data_ports, bank_ports, logic_ports, top_ports}
 use Rattle.sram_rows.proofs.DifferLaws.{among, apart, distinct, kinds_of, DifferBy, AreTold, told_none, told_one, told_both, told_more, told_lists, told_tabulate, told_pair, told_list, all_follow}
 use Rattle.sram_rows.proofs.NumberedNames.{number_letters, numbers_letters, index_letters, first_number, second_number, has_no_digit, number_is, numbers_are, index_is}
-use Rattle.sram_rows.proofs.PlainNames.{few_columns, few_words, few_enables, few_choices}
+use Rattle.sram_rows.proofs.PlainNames.{few_columns, few_words, few_inputs, few_written, few_choices}
 use Rattle.sram_rows.proofs.PlainNetNames.{few_banks}
 use Rattle.sram_rows.proofs.Segments.{few_of, few_groups, all_tabulate}
 
@@ -22,7 +22,7 @@ AreToldNames ns ks = AreTold (λ (n : List ℕ). n) ns ks
 
 -- Families of names
 
-numbered : (n : ℕ) (ls : List ℕ) (ks : List (List ℕ)) → ((k : ℕ) → k < n → k < 2 ^ 64) → has_no_digit ls ≡ true → among ks (letters ls) ≡ true → AreToldNames (tabulate n (with_number ls)) ks
+pub numbered : (n : ℕ) (ls : List ℕ) (ks : List (List ℕ)) → ((k : ℕ) → k < n → k < 2 ^ 64) → has_no_digit ls ≡ true → among ks (letters ls) ≡ true → AreToldNames (tabulate n (with_number ls)) ks
 numbered n ls ks few none e = told_tabulate (λ (n : List ℕ). n) first_number n (with_number ls) ks (λ k lt. ap (among ks) (number_letters ls k (few k lt)) ∙ e) (λ k lt. number_is ls k none (few k lt))
 
 indexed : (n : ℕ) (ls : List ℕ) (ks : List (List ℕ)) → ((k : ℕ) → k < n → k < 2 ^ 64) → ((more : List ℕ) → runs None (ls ++ (91 ∷ more)) ≡ 0 ∷ runs None more) → among ks (letters ls ++ (91 ∷ 93 ∷ [])) ≡ true → AreToldNames (port_bits n ls) ks
@@ -84,7 +84,7 @@ module _ (plan : Organization) (p : IsBuildable plan) where
   choices_told = choices_by plan.col_bits refl
 
   inputs_told : AreToldNames (data_inputs plan) (codes "d" ∷ [])
-  inputs_told = numbered plan.word_size (codes "d") (codes "d" ∷ []) (few_words plan p) refl refl
+  inputs_told = numbered (inputs_of plan) (codes "d") (codes "d" ∷ []) (few_inputs plan p) refl refl
 
   outputs_told : AreToldNames (data_outputs plan) (codes "o" ∷ [])
   outputs_told = numbered plan.word_size (codes "o") (codes "o" ∷ []) (few_words plan p) refl refl
@@ -92,12 +92,13 @@ module _ (plan : Organization) (p : IsBuildable plan) where
   abbrev enable_kinds : List (List ℕ)
   enable_kinds = codes "wen" ∷ codes "en" ∷ []
 
-  enables_by : (masks : ℕ) → ((m : ℕ) → m < enable_count masks → m < 2 ^ 64) → AreToldNames (tabulate (enable_count masks) (enable_name masks)) enable_kinds
-  enables_by zero few = told_one (λ (n : List ℕ). n) (codes "wen") enable_kinds refl
-  enables_by (suc n) few = numbered (suc n) (codes "en") enable_kinds few refl refl
+  enables_by : (w masks : ℕ) → ((m : ℕ) → m < written_bits w (enable_count masks) → m < 2 ^ 64) → AreToldNames (tabulate (written_bits w (enable_count masks)) (enable_name masks)) enable_kinds
+  enables_by zero masks few = told_none (λ (n : List ℕ). n) enable_kinds
+  enables_by (suc w) zero few = told_one (λ (n : List ℕ). n) (codes "wen") enable_kinds refl
+  enables_by (suc w) (suc n) few = numbered (suc n) (codes "en") enable_kinds few refl refl
 
   enables_told : AreToldNames (write_enables plan) enable_kinds
-  enables_told = enables_by plan.masks (few_enables plan p)
+  enables_told = enables_by plan.write_size plan.masks (few_written plan p)
 
   abbrev supply_kinds : List (List ℕ)
   supply_kinds = codes "vdd" ∷ codes "gnd" ∷ []
@@ -112,11 +113,11 @@ module _ (plan : Organization) (p : IsBuildable plan) where
   abbrev control_kinds : List (List ℕ)
   control_kinds = codes "wlen" ∷ codes "wen" ∷ codes "we_" ∷ codes "sen" ∷ []
 
-  abbrev enables_of : ℕ → ℕ → ℕ → List (List ℕ)
-  enables_of n k b = tabulate (enable_count k) (λ m. net_name plan (enable_at n k b m))
+  abbrev writes_in : ℕ → ℕ → ℕ → ℕ → List (List ℕ)
+  writes_in w n k b = tabulate (written_bits w (enable_count k)) (λ m. net_name plan (enable_at n k b m))
 
-  abbrev controls_of : ℕ → ℕ → ℕ → List (List ℕ)
-  controls_of n k b = net_name plan (wlen_at n b) ∷ (enables_of n k b ++ (net_name plan (sen_at n b) ∷ []))
+  abbrev controls_in : ℕ → ℕ → ℕ → ℕ → List (List ℕ)
+  controls_in w n k b = net_name plan (wlen_at n b) ∷ (writes_in w n k b ++ (net_name plan (sen_at n b) ∷ []))
 
   wlen_told : (n b : ℕ) → b < 2 ^ 64 → AreToldNames (net_name plan (wlen_at n b) ∷ []) (codes "wlen" ∷ [])
   wlen_told zero b few = told_one (λ (n : List ℕ). n) (codes "wlen") (codes "wlen" ∷ []) refl
@@ -134,15 +135,16 @@ module _ (plan : Organization) (p : IsBuildable plan) where
       told_tabulate (λ (n : List ℕ). n) second_number n (with_numbers (codes "we") b) write_kinds (λ m lt. ap (among write_kinds) (numbers_letters (codes "we") b m few (masks m lt)))
       (λ m lt. ap (λ (ns : List ℕ). first (rest ns)) (numbers_are (codes "we") b m refl few (masks m lt)))
 
-  writes_told : (n k b : ℕ) → b < 2 ^ 64 → ((m : ℕ) → m < enable_count k → m < 2 ^ 64) → AreToldNames (enables_of n k b) write_kinds
-  writes_told zero zero b few masks = told_one (λ (n : List ℕ). n) (codes "wen") write_kinds refl
-  writes_told zero (suc k) b few masks = masked_told (suc k) b few masks
-  writes_told (suc n) k b few masks = masked_told (enable_count k) b few masks
+  writes_told : (w n k b : ℕ) → b < 2 ^ 64 → ((m : ℕ) → m < written_bits w (enable_count k) → m < 2 ^ 64) → AreToldNames (writes_in w n k b) write_kinds
+  writes_told zero n k b few masks = told_none (λ (n : List ℕ). n) write_kinds
+  writes_told (suc w) zero zero b few masks = told_one (λ (n : List ℕ). n) (codes "wen") write_kinds refl
+  writes_told (suc w) zero (suc k) b few masks = masked_told (suc k) b few masks
+  writes_told (suc w) (suc n) k b few masks = masked_told (enable_count k) b few masks
 
-  controls_told : (n k b : ℕ) → b < 2 ^ 64 → ((m : ℕ) → m < enable_count k → m < 2 ^ 64) → AreToldNames (controls_of n k b) control_kinds
-  controls_told n k b few masks =
-      both (net_name plan (wlen_at n b) ∷ []) (enables_of n k b ++ (net_name plan (sen_at n b) ∷ [])) (codes "wlen" ∷ []) (write_kinds ++ (codes "sen" ∷ [])) (wlen_told n b few)
-      (both (enables_of n k b) (net_name plan (sen_at n b) ∷ []) write_kinds (codes "sen" ∷ []) (writes_told n k b few masks) (sen_told n b few) refl) refl
+  controls_told : (w n k b : ℕ) → b < 2 ^ 64 → ((m : ℕ) → m < written_bits w (enable_count k) → m < 2 ^ 64) → AreToldNames (controls_in w n k b) control_kinds
+  controls_told w n k b few masks =
+      both (net_name plan (wlen_at n b) ∷ []) (writes_in w n k b ++ (net_name plan (sen_at n b) ∷ [])) (codes "wlen" ∷ []) (write_kinds ++ (codes "sen" ∷ [])) (wlen_told n b few)
+      (both (writes_in w n k b) (net_name plan (sen_at n b) ∷ []) write_kinds (codes "sen" ∷ []) (writes_told w n k b few masks) (sen_told n b few) refl) refl
 
   -- each has the number of its bank, or none
   abbrev IsOfBank : ℕ → List ℕ → Type 0
@@ -151,10 +153,11 @@ module _ (plan : Organization) (p : IsBuildable plan) where
   masked_of : (n b : ℕ) → b < 2 ^ 64 → ((m : ℕ) → m < n → m < 2 ^ 64) → AllByRecursion (IsOfBank b) (tabulate n (with_numbers (codes "we") b))
   masked_of n b few masks = all_tabulate (IsOfBank b) n (with_numbers (codes "we") b) (λ m lt. ap first (numbers_are (codes "we") b m refl few (masks m lt)))
 
-  writes_of : (n k b : ℕ) → b < power_of_two n → b < 2 ^ 64 → ((m : ℕ) → m < enable_count k → m < 2 ^ 64) → AllByRecursion (IsOfBank b) (enables_of n k b)
-  writes_of zero zero b lt few masks = (omega arith, tt)
-  writes_of zero (suc k) b lt few masks = masked_of (suc k) b few masks
-  writes_of (suc n) k b lt few masks = masked_of (enable_count k) b few masks
+  writes_of : (w n k b : ℕ) → b < power_of_two n → b < 2 ^ 64 → ((m : ℕ) → m < written_bits w (enable_count k) → m < 2 ^ 64) → AllByRecursion (IsOfBank b) (writes_in w n k b)
+  writes_of zero n k b lt few masks = tt
+  writes_of (suc w) zero zero b lt few masks = (omega arith, tt)
+  writes_of (suc w) zero (suc k) b lt few masks = masked_of (suc k) b few masks
+  writes_of (suc w) (suc n) k b lt few masks = masked_of (enable_count k) b few masks
 
   wlen_of : (n b : ℕ) → b < power_of_two n → b < 2 ^ 64 → IsOfBank b (net_name plan (wlen_at n b))
   wlen_of zero b lt few = omega arith
@@ -166,10 +169,10 @@ module _ (plan : Organization) (p : IsBuildable plan) where
 
   banks_told : AreToldNames (tabulate_lists (banks_of plan) (bank_control_names plan)) control_kinds
   banks_told = told_lists (λ (n : List ℕ). n) first_number (banks_of plan) (bank_control_names plan) control_kinds
-      (λ b lt. controls_told plan.bank_bits plan.masks b (few_banks plan p b lt) (few_enables plan p))
+      (λ b lt. controls_told plan.write_size plan.bank_bits plan.masks b (few_banks plan p b lt) (few_written plan p))
       (λ b lt. let few = few_banks plan p b lt in (
         wlen_of plan.bank_bits b lt few,
-        all_append (IsOfBank b) (bank_enables plan b) (sen_name plan b ∷ []) (writes_of plan.bank_bits plan.masks b lt few (few_enables plan p)) (sen_of plan.bank_bits b lt few, tt),
+        all_append (IsOfBank b) (bank_enables plan b) (sen_name plan b ∷ []) (writes_of plan.write_size plan.bank_bits plan.masks b lt few (few_written plan p)) (sen_of plan.bank_bits b lt few, tt),
       ))
 
   -- The lists
@@ -249,11 +252,15 @@ module _ (plan : Organization) (p : IsBuildable plan) where
       (both (data_inputs plan) p3 (codes "d" ∷ []) k3 inputs_told (both (write_enables plan) outputs_tail enable_kinds outputs_kinds enables_told outputs_tail_told refl) refl) refl) refl) refl).differ
 
   -- the ports that the logic row and the memory share, before others
-  abbrev clocks : List (List ℕ)
-  clocks = codes "clk0" ∷ codes "csb0" ∷ codes "web0" ∷ []
+  abbrev clocks : ℕ → List (List ℕ)
+  clocks w = codes "clk0" ∷ codes "csb0" ∷ web_ports w
 
   abbrev clock_kinds : List (List ℕ)
   clock_kinds = codes "clk" ∷ codes "csb" ∷ codes "web" ∷ []
+
+  clocks_told : (w : ℕ) → AreToldNames (clocks w) clock_kinds
+  clocks_told zero = both (codes "clk0" ∷ codes "csb0" ∷ []) [] (codes "clk" ∷ codes "csb" ∷ []) (codes "web" ∷ []) (words (codes "clk0" ∷ codes "csb0" ∷ []) refl) (told_none (λ (n : List ℕ). n) (codes "web" ∷ [])) refl
+  clocks_told (suc w) = words (codes "clk0" ∷ codes "csb0" ∷ codes "web0" ∷ []) refl
 
   few_masks : (k : ℕ) → k < plan.masks → k < 2 ^ 64
   few_masks k lt = let e = (bounds plan p).masks in omega (arith, e, lt)
@@ -265,13 +272,13 @@ module _ (plan : Organization) (p : IsBuildable plan) where
   macro_told : (more : List (List ℕ)) (ks : List (List ℕ)) → AreToldNames more ks → apart clock_kinds (codes "wmask[]" ∷ codes "addr[]" ∷ codes "din[]" ∷ ks) ≡ true → apart (codes "wmask[]" ∷ []) (codes "addr[]" ∷ codes "din[]" ∷ ks) ≡ true
       → apart (codes "addr[]" ∷ []) (codes "din[]" ∷ ks) ≡ true → apart (codes "din[]" ∷ []) ks ≡ true → AreToldNames (macro_inputs plan more) (clock_kinds ++ (codes "wmask[]" ∷ codes "addr[]" ∷ codes "din[]" ∷ ks))
   macro_told more ks told a b c d =
-      let p2 = port_bits plan.word_size (codes "din0") ++ more in
+      let p2 = port_bits (inputs_of plan) (codes "din0") ++ more in
       let p1 = port_bits (addr_bits plan) (codes "addr0") ++ p2 in
       let p0 = port_bits plan.masks (codes "wmask0") ++ p1 in
-      both clocks p0 clock_kinds (codes "wmask[]" ∷ codes "addr[]" ∷ codes "din[]" ∷ ks) (words clocks refl)
+      both (clocks plan.write_size) p0 clock_kinds (codes "wmask[]" ∷ codes "addr[]" ∷ codes "din[]" ∷ ks) (clocks_told plan.write_size)
       (both (port_bits plan.masks (codes "wmask0")) p1 (codes "wmask[]" ∷ []) (codes "addr[]" ∷ codes "din[]" ∷ ks) (indexed plan.masks (codes "wmask0") (codes "wmask[]" ∷ []) few_masks (λ more. refl) refl)
       (both (port_bits (addr_bits plan) (codes "addr0")) p2 (codes "addr[]" ∷ []) (codes "din[]" ∷ ks) (indexed (addr_bits plan) (codes "addr0") (codes "addr[]" ∷ []) few_address (λ more. refl) refl)
-      (both (port_bits plan.word_size (codes "din0")) more (codes "din[]" ∷ []) ks (indexed plan.word_size (codes "din0") (codes "din[]" ∷ []) (few_words plan p) (λ more. refl) refl) told d) c) b) a
+      (both (port_bits (inputs_of plan) (codes "din0")) more (codes "din[]" ∷ []) ks (indexed (inputs_of plan) (codes "din0") (codes "din[]" ∷ []) (few_inputs plan p) (λ more. refl) refl) told d) c) b) a
 
   abbrev pub logic_kinds : List (List ℕ)
   logic_kinds = clock_kinds ++ (codes "wmask[]" ∷ codes "addr[]" ∷ codes "din[]" ∷ codes "clkb" ∷ (control_kinds ++ (choice_kinds ++ (line_kinds ++ (codes "d" ∷ supply_kinds)))))

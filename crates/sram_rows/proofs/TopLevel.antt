@@ -12,21 +12,22 @@ use Rattle.row_laws.specs.Flattens.{Flattens, see_in}
 use Rattle.std.proofs.lemmas.Fmt.{decimal_injective}
 use Rattle.row_laws.proofs.FlatLaws.{flat_both, flat_eachs}
 use Rattle.row_laws.proofs.LookLaws.{look, look_append, look_past, look_front, look_skip, look_map, append_long}
-use Rattle.sram_netlist.specs.Organization.{Organization, banks_of, IsBuildable}
+use Rattle.sram_netlist.specs.Organization.{Organization, inputs_of, banks_of, IsBuildable}
 use Rattle.sram_netlist.specs.Instances.{LogicAt}
 use Rattle.sram_netlist.specs.Nets.{Line}
 use Rattle.cell_roles.specs.declared.role.Role.{Role}
 use Rattle.cell_roles.specs.Roles.{supplies}
-use Rattle.sram_netlist.specs.Netlist.{wlen_at, sen_at, enable_at, enable_count}
+use Rattle.sram_netlist.specs.Netlist.{wlen_at, sen_at, enable_at, enable_count, enables_of}
 use Rattle.sram_netlist.specs.Names.{LineKind, in_kind, line_name, in_one, in_two, with_number, with_numbers, with_index, bank_name, net_name, full_name, in_bank}
+use Rattle.sram_netlist.specs.BitCells.{BitCells}
 use Rattle.sram_netlist.specs.InstanceList.{numbers_from, tabulate, tabulate_lists, logic_cells, bank_leaves, leaf_instances}
 use Rattle.sram_netlist.proofs.Bounds.{bounds}
 use Rattle.sram_netlist.proofs.ChoiceLaws.{column}
 use Rattle.sram_deck.specs.Deck.{subckt_instance, predecode_lines, column_choices, data_inputs, write_enables, data_outputs, port_bits, enable_name, bank_enable, bank_enables, wlen_name, sen_name, bank_ports, bank_instances, logic_ports, logic_instances, top_bank, top_instances}
 use Rattle.sram_rows.proofs.DigitLaws.{plain_all, plain_low}
-use Rattle.sram_rows.proofs.PlainNames.{few_words}
+use Rattle.sram_rows.proofs.PlainNames.{few_words, enables_within}
 use Rattle.sram_rows.proofs.Segments.{all_numbers, one_number, all_tabulate, all_lines, all_choices, one_tabulate, one_choice}
-use Rattle.sram_rows.proofs.LeafInstances.{HasLeaf, row_of, below, by_name}
+use Rattle.sram_rows.proofs.LeafInstances.{HasLeaves, row_of, below, by_name}
 use Rattle.sram_rows.proofs.SubcktInstances.{HasSubckt, IsInstanceOf, seen_is, seen_deep, subckt_flat, net_within}
 use Rattle.sram_rows.proofs.BankLevel.{BankSees, BankCells, bank_flat}
 use Rattle.sram_rows.proofs.LogicLevel.{logic_flat}
@@ -62,8 +63,8 @@ one_enable : (masks j k : ℕ) → j < enable_count masks → k < enable_count m
 one_enable zero j k lt lt' few e = omega arith
 one_enable (suc n) j k lt lt' few e = let tail : decimal j ++ [] ≡ decimal k ++ [] = cc in num_same [] with_number j k (omega arith) (omega arith) tail
 
-module _ (plan : Organization) (p : IsBuildable plan) (cell : Role → List ℕ) (own_name : List ℕ) (subckts : List ResolvedSubckt) (find : List ℕ → Option ℕ) (leaf : (r : Role) → HasLeaf subckts find (cell r) r)
-    (own_cells : BankCells plan cell own_name subckts find) (logic : HasSubckt subckts find (own_name ++ codes "_logic") (logic_ports plan) (logic_instances plan cell))
+module _ (plan : Organization) (p : IsBuildable plan) (cell : Role → List ℕ) (bits : BitCells) (own_name : List ℕ) (subckts : List ResolvedSubckt) (find : List ℕ → Option ℕ) (leaf : HasLeaves plan cell bits subckts find)
+    (own_cells : BankCells plan cell bits own_name subckts find) (logic : HasSubckt subckts find (own_name ++ codes "_logic") (logic_ports plan) (logic_instances plan cell))
     (bank : HasSubckt subckts find (own_name ++ codes "_bank") (bank_ports plan) (bank_instances plan own_name)) where
   abbrev douts : List (List ℕ)
   douts = port_bits plan.word_size (codes "dout0")
@@ -107,7 +108,7 @@ module _ (plan : Organization) (p : IsBuildable plan) (cell : Role → List ℕ)
     label = bank_name plan.bank_bits b
 
     enables_long : length (write_enables plan) ≡ length (bank_enables plan b)
-    enables_long = length-map (numbers_from 0 (enable_count plan.masks)) (enable_name plan.masks) ∙ sym (length-map (numbers_from 0 (enable_count plan.masks)) (bank_enable plan b))
+    enables_long = length-map (numbers_from 0 (enables_of plan)) (enable_name plan.masks) ∙ sym (length-map (numbers_from 0 (enables_of plan)) (bank_enable plan b))
 
     outputs_long : length (data_outputs plan) ≡ length douts
     outputs_long = length-map (numbers_from 0 plan.word_size) (with_number (codes "o")) ∙ sym (length-map (numbers_from 0 plan.word_size) (with_index (codes "dout0")))
@@ -149,12 +150,12 @@ module _ (plan : Organization) (p : IsBuildable plan) (cell : Role → List ℕ)
 
     past3 : (n : List ℕ) → IsFurther n → ((k : ℕ) → same_name n (with_number (codes "sel") k) ≡ false) → ((i : ℕ) → same_name n (with_number (codes "d") i) ≡ false) → look (net_within label n) (bank_ports plan) nodes n ≡ look (net_within label n) ports3 nodes3 n
     past3 n off sel d =
-        past2 n off sel ∙ look_past (net_within label n) n (data_inputs plan) ports3 (data_inputs plan) nodes3 refl (all_tabulate (λ (q : List ℕ). same_name n q ≡ false) plan.word_size (with_number (codes "d")) (λ i lt. d i))
+        past2 n off sel ∙ look_past (net_within label n) n (data_inputs plan) ports3 (data_inputs plan) nodes3 refl (all_tabulate (λ (q : List ℕ). same_name n q ≡ false) (inputs_of plan) (with_number (codes "d")) (λ i lt. d i))
 
     past4 : (n : List ℕ) → IsFurther n → ((k : ℕ) → same_name n (with_number (codes "sel") k) ≡ false) → ((i : ℕ) → same_name n (with_number (codes "d") i) ≡ false) → ((m : ℕ) → same_name n (enable_name plan.masks m) ≡ false) → look (net_within label n) (bank_ports plan) nodes n ≡ look (net_within label n) ports4 nodes4 n
     past4 n off sel d en =
         past3 n off sel d
-        ∙ look_past (net_within label n) n (write_enables plan) ports4 (bank_enables plan b) nodes4 enables_long (all_tabulate (λ (q : List ℕ). same_name n q ≡ false) (enable_count plan.masks) (enable_name plan.masks) (λ m lt. en m))
+        ∙ look_past (net_within label n) n (write_enables plan) ports4 (bank_enables plan b) nodes4 enables_long (all_tabulate (λ (q : List ℕ). same_name n q ≡ false) (enables_of plan) (enable_name plan.masks) (λ m lt. en m))
 
     past5 : (n : List ℕ) → IsFurther n → ((k : ℕ) → same_name n (with_number (codes "sel") k) ≡ false) → ((i : ℕ) → same_name n (with_number (codes "d") i) ≡ false) → ((m : ℕ) → same_name n (enable_name plan.masks m) ≡ false) → ((i : ℕ) → same_name n (with_number (codes "o") i) ≡ false)
         → look (net_within label n) (bank_ports plan) nodes n ≡ look (net_within label n) supplies supplies n
@@ -162,7 +163,7 @@ module _ (plan : Organization) (p : IsBuildable plan) (cell : Role → List ℕ)
         past4 n off sel d en
         ∙ look_past (net_within label n) n (data_outputs plan) supplies douts supplies outputs_long (all_tabulate (λ (q : List ℕ). same_name n q ≡ false) plan.word_size (with_number (codes "o")) (λ i lt. o i))
 
-    enable_seen : (m : ℕ) → m < enable_count plan.masks → by_name seen (enable_name plan.masks m) ≡ bank_enable plan b m
+    enable_seen : (m : ℕ) → m < enables_of plan → by_name seen (enable_name plan.masks m) ≡ bank_enable plan b m
     enable_seen m lt =
         let n = enable_name plan.masks m in
         is n
@@ -175,9 +176,9 @@ module _ (plan : Organization) (p : IsBuildable plan) (cell : Role → List ℕ)
         })
         (λ k. enable_cases_in (λ q. same_name q (with_number (codes "sel") k) ≡ false) plan.masks m refl refl) (λ i. enable_cases_in (λ q. same_name q (with_number (codes "d") i) ≡ false) plan.masks m refl refl)
         ∙ look_append (net_within label n) n (write_enables plan) ports4 (bank_enables plan b) nodes4 enables_long
-        ∙ look_map (look (net_within label n) ports4 nodes4 n) n (enable_name plan.masks) (bank_enable plan b) (numbers_from 0 (enable_count plan.masks)) m (one_number 0 (enable_count plan.masks) m (omega arith) (omega arith)) refl
-        (all_numbers (λ j. enable_name plan.masks j ≡ n → bank_enable plan b j ≡ bank_enable plan b m) 0 (enable_count plan.masks)
-        (λ j from lt_j e. ap (bank_enable plan b) (one_enable plan.masks j m (omega arith) lt (bounds plan p).enables e))))
+        ∙ look_map (look (net_within label n) ports4 nodes4 n) n (enable_name plan.masks) (bank_enable plan b) (numbers_from 0 (enables_of plan)) m (one_number 0 (enables_of plan) m (omega arith) (omega arith)) refl
+        (all_numbers (λ j. enable_name plan.masks j ≡ n → bank_enable plan b j ≡ bank_enable plan b m) 0 (enables_of plan)
+        (λ j from lt_j e. ap (bank_enable plan b) (one_enable plan.masks j m (enables_within plan j (omega arith)) (enables_within plan m lt) (bounds plan p).enables e))))
 
     output_seen : (i : ℕ) → i < plan.word_size → by_name seen (with_number (codes "o") i) ≡ with_index (codes "dout0") i
     output_seen i lt =
@@ -206,7 +207,7 @@ module _ (plan : Organization) (p : IsBuildable plan) (cell : Role → List ℕ)
       d = λ i lt.
           is (with_number (codes "d") i)
           ∙ ap net_key (past2 (with_number (codes "d") i) (record { line = λ h k. refl; wlen = refl; sen = refl; clkb = refl }) (λ k. refl)
-          ∙ look_front (net_within label (with_number (codes "d") i)) (with_number (codes "d") i) (data_inputs plan) ports3 nodes3 (one_tabulate plan.word_size (with_number (codes "d")) i lt));
+          ∙ look_front (net_within label (with_number (codes "d") i)) (with_number (codes "d") i) (data_inputs plan) ports3 nodes3 (one_tabulate (inputs_of plan) (with_number (codes "d")) i lt));
       enable = λ m lt. enable_seen m lt ∙ sym (enable_by plan plan.bank_bits plan.masks b m refl refl);
       o = output_seen;
       bl = λ c lt.
@@ -220,18 +221,18 @@ module _ (plan : Organization) (p : IsBuildable plan) (cell : Role → List ℕ)
       deep = seen_deep subckts find (own_name ++ codes "_bank") (bank_ports plan) (bank_instances plan own_name) bank net_key (top_bank plan own_name b) label nodes bank_is [] (λ instance path name. refl);
     }
 
-    bank_part : (d : ℕ) → Flattens (row_of plan cell) subckts [] net_key (visits_in subckts (below subckts (suc (suc (suc d)))) (resolved_instance find (top_bank plan own_name b)) (resolved_instance find (top_bank plan own_name b)).index) (bank_leaves plan b)
+    bank_part : (d : ℕ) → Flattens (row_of plan cell bits) subckts [] net_key (visits_in subckts (below subckts (suc (suc (suc d)))) (resolved_instance find (top_bank plan own_name b)) (resolved_instance find (top_bank plan own_name b)).index) (bank_leaves plan b)
     bank_part d =
-        subckt_flat subckts find (own_name ++ codes "_bank") (bank_ports plan) (bank_instances plan own_name) bank net_key (top_bank plan own_name b) label nodes bank_is (row_of plan cell) (suc (suc d)) [] (bank_leaves plan b)
-        (bank_flat plan p cell own_name subckts find leaf own_cells b seen bank_sees d)
+        subckt_flat subckts find (own_name ++ codes "_bank") (bank_ports plan) (bank_instances plan own_name) bank net_key (top_bank plan own_name b) label nodes bank_is (row_of plan cell bits) (suc (suc d)) [] (bank_leaves plan b)
+        (bank_flat plan p cell bits own_name subckts find leaf own_cells b seen bank_sees d)
 
   -- all rows
-  pub top_flat : (d : ℕ) → Flattens (row_of plan cell) subckts [] net_key (visits_by subckts (below subckts (suc (suc (suc d)))) (map (resolved_instance find) (top_instances plan own_name))) (leaf_instances plan)
+  pub top_flat : (d : ℕ) → Flattens (row_of plan cell bits) subckts [] net_key (visits_by subckts (below subckts (suc (suc (suc d)))) (map (resolved_instance find) (top_instances plan own_name))) (leaf_instances plan)
   top_flat d =
       let f = below subckts (suc (suc (suc d))) in
       let row : Instance = subckt_instance (codes "xlogic") (logic_ports plan) (own_name ++ codes "_logic") in
-      flat_both (row_of plan cell) subckts [] net_key (visits_in subckts f (resolved_instance find row) (resolved_instance find row).index) (visits_by subckts f (map (resolved_instance find) (tabulate (banks_of plan) (top_bank plan own_name)))) (map LogicAt (logic_cells plan)) (tabulate_lists (banks_of plan) (bank_leaves plan))
-      (logic_flat plan p cell own_name subckts find leaf logic (suc (suc d)))
-      (flat_eachs (row_of plan cell) subckts [] net_key f (resolved_instance find) (top_bank plan own_name) (bank_leaves plan) (numbers_from 0 (banks_of plan))
-      (all_numbers (λ b. Flattens (row_of plan cell) subckts [] net_key (visits_in subckts f (resolved_instance find (top_bank plan own_name b)) (resolved_instance find (top_bank plan own_name b)).index) (bank_leaves plan b)) 0 (banks_of plan)
+      flat_both (row_of plan cell bits) subckts [] net_key (visits_in subckts f (resolved_instance find row) (resolved_instance find row).index) (visits_by subckts f (map (resolved_instance find) (tabulate (banks_of plan) (top_bank plan own_name)))) (map LogicAt (logic_cells plan)) (tabulate_lists (banks_of plan) (bank_leaves plan))
+      (logic_flat plan p cell bits own_name subckts find leaf logic (suc (suc d)))
+      (flat_eachs (row_of plan cell bits) subckts [] net_key f (resolved_instance find) (top_bank plan own_name) (bank_leaves plan) (numbers_from 0 (banks_of plan))
+      (all_numbers (λ b. Flattens (row_of plan cell bits) subckts [] net_key (visits_in subckts f (resolved_instance find (top_bank plan own_name b)) (resolved_instance find (top_bank plan own_name b)).index) (bank_leaves plan b)) 0 (banks_of plan)
       (λ b from lt. bank_part b (omega arith) d)))

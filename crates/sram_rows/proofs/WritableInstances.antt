@@ -1,25 +1,28 @@
 -- The instances of each written subcircuit can be written.
-use Rattle.std.proofs.Common.{◌≡◌, inl, ℕ, zero, suc, ◌/◌, ◌%◌, List, [], ◌∷◌, ◌++◌, map, refl, sym, subst, arith}
+use Rattle.std.proofs.Common.{◌≡◌, inl, ℕ, zero, suc, ◌<◌, ◌^◌, ◌/◌, ◌%◌, List, [], ◌∷◌, ◌++◌, map, refl, sym, subst, arith}
 use Rattle.std.specs.Prelude.{codes}
 use Rattle.std.specs.List.{AllByRecursion}
+use Rattle.std.specs.Fmt.{decimal}
 use Rattle.std.proofs.lemmas.List.{length-append}
 use Rattle.netlist.specs.declared.deck.Instance.{Instance}
 use Rattle.spice_text.specs.Writable.{IsName, IsNameByte, BeginsWithX, IsWritableInstance, instance_name, Differ}
 use Rattle.row_laws.proofs.LookLaws.{all_append, all_map}
 use Rattle.cell_roles.specs.declared.role.Role.{Role}
-use Rattle.cell_roles.specs.declared.role.Role.TheVariants.{Bitcell, Precharge, Mux, Tie, Sense, Write, Driver}
+use Rattle.cell_roles.specs.declared.role.Role.TheVariants.{Precharge, Mux, Tie, Sense, Write, Driver}
 use Rattle.cell_roles.specs.Roles.{supplies}
-use Rattle.sram_netlist.specs.Organization.{Organization, IsBuildable, words_per_row, bank_rows, columns_of, banks_of}
+use Rattle.sram_netlist.specs.Organization.{Organization, inputs_of, IsBuildable, words_per_row, bank_rows, columns_of, banks_of}
 use Rattle.sram_netlist.specs.Nets.{Net}
 use Rattle.sram_netlist.specs.Instances.{LogicCell, Ad, Ai, Dd, Dm, Pn, Pi, Ln, Li, Kn, Ki, Gn, Gi, Clki, Csd, Wed, Csi, Wei, Wln, Wli, Wrn, Wri, Rdn, Rdi, Dlay, Senn, Seni}
 use Rattle.sram_netlist.specs.Netlist.{mask_of, logic_cell_ports, row_gate, logic_role}
 use Rattle.sram_netlist.specs.Names.{LineKind, Column, Group, Bank, line_kind, gate_name, inv_name, cell_name, bank_name, net_name}
 use Rattle.sram_netlist.specs.InstanceList.{tabulate, logic_cells}
+use Rattle.sram_netlist.specs.BitCells.{BitCells, Alike, Apart, row_name}
 use Rattle.sram_deck.specs.Deck.{row_inputs, row_bit, row_instances, array_row, array_instances, pre_column, pre_instances, data_write, data_sense, data_mux, data_tie, data_links, data_instances, bank_instances, logic_cell, logic_instances, top_bank, top_instances}
+use Rattle.sram_rows.specs.Writing.{AreBitNames}
 use Rattle.sram_rows.proofs.DigitLaws.{IsPlain, plain_low, plain_name, plain_tail, name_bytes}
 use Rattle.sram_rows.proofs.DifferLaws.{DifferBy, differ_names, all_follow}
 use Rattle.sram_rows.proofs.InstancesDiffer.{name_of_instance}
-use Rattle.sram_rows.proofs.PlainNames.{few_columns, few_rows, few_words, few_enables, lo_plain, ro_plain, bl_plain, br_plain, d_plain, o_plain, sel_plain, enable_plain, mask_few, bit_of_column, choice_of_column, supplies_plain, array_plain, pre_plain, data_plain, row_nodes_plain}
+use Rattle.sram_rows.proofs.PlainNames.{few_columns, few_rows, few_words, inputs_within, few_enables, lo_plain, ro_plain, bl_plain, br_plain, d_plain, o_plain, sel_plain, enable_plain, mask_few, bit_of_column, choice_of_column, supplies_plain, array_plain, pre_plain, data_plain, row_nodes_plain}
 use Rattle.sram_rows.proofs.PlainPorts.{logic_plain, bank_name_plain, bank_nodes_plain}
 use Rattle.sram_rows.proofs.PlainNetNames.{name_plain}
 use Rattle.sram_rows.proofs.LogicCells.{IsGood, cells_in, ports_good, cell_name_plain}
@@ -93,12 +96,17 @@ bank_begins : (k b : ℕ) → BeginsWithX (bank_name k b)
 bank_begins zero b = inl refl
 bank_begins (suc k) b = inl refl
 
-module _ (plan : Organization) (p : IsBuildable plan) (cell : Role → List ℕ) (n : List ℕ) (cells : (r : Role) → IsName (cell r)) (name : IsName n) where
+-- the name of a row's subcircuit
+pub row_behind : (bits : BitCells) (n : List ℕ) (r : ℕ) → r < 2 ^ 64 → IsName n → IsName (row_name bits n r)
+row_behind (Alike of) n r few name = name_behind n (codes "_row") name (name_bytes (codes "_row") refl)
+row_behind (Apart of) n r few name = name_behind (n ++ codes "_row") (decimal r ++ []) (name_behind n (codes "_row") name (name_bytes (codes "_row") refl)) (name_bytes (decimal r ++ []) (plain_tail r few [] refl))
+
+module _ (plan : Organization) (p : IsBuildable plan) (cell : Role → List ℕ) (bits : BitCells) (n : List ℕ) (cells : (r : Role) → IsName (cell r)) (bit_names : AreBitNames plan bits) (name : IsName n) where
   abbrev ArePlain : List Instance → Type 0
   ArePlain is = AllByRecursion IsPlainInstance is
 
-  pub row_plain_instances : ArePlain (row_instances plan cell)
-  row_plain_instances = (
+  pub row_plain_instances : (r : ℕ) → r < bank_rows plan → ArePlain (row_instances plan cell bits r)
+  row_plain_instances r lt_r = (
     record {
       name = refl;
       begins = inl refl;
@@ -107,16 +115,16 @@ module _ (plan : Organization) (p : IsBuildable plan) (cell : Role → List ℕ)
     },
     (
       record { name = refl; begins = inl refl; nodes = (refl, (refl, (refl, supplies_plain))); refers = cells Driver },
-      all_tabulate IsPlainInstance (columns_of plan) (row_bit cell) (λ c lt. record { name = plain_tail c (few_columns plan p c lt) [] refl; begins = inl refl; nodes = (bl_plain plan p c lt, (br_plain plan p c lt, (refl, supplies_plain))); refers = cells Bitcell }),
+      all_tabulate IsPlainInstance (columns_of plan) (row_bit bits r) (λ c lt. record { name = plain_tail c (few_columns plan p c lt) [] refl; begins = inl refl; nodes = (bl_plain plan p c lt, (br_plain plan p c lt, (refl, supplies_plain))); refers = bit_names r c lt_r lt }),
     ),
   )
 
-  pub array_plain_instances : ArePlain (array_instances plan n)
-  array_plain_instances = all_tabulate IsPlainInstance (bank_rows plan) (array_row plan n) (λ r lt. record {
+  pub array_plain_instances : ArePlain (array_instances plan bits n)
+  array_plain_instances = all_tabulate IsPlainInstance (bank_rows plan) (array_row plan bits n) (λ r lt. record {
     name = plain_tail r (few_rows plan p r lt) [] refl;
     begins = inl refl;
     nodes = row_nodes_plain plan p r;
-    refers = name_behind n (codes "_row") name (name_bytes (codes "_row") refl);
+    refers = row_behind bits n r (few_rows plan p r lt) name;
   })
 
   pub pre_plain_instances : ArePlain (pre_instances plan cell)
@@ -136,8 +144,8 @@ module _ (plan : Organization) (p : IsBuildable plan) (cell : Role → List ℕ)
 
   pub data_plain_instances : ArePlain (data_instances plan cell)
   data_plain_instances =
-      all_append IsPlainInstance (tabulate plan.word_size (data_write plan cell)) (tabulate plan.word_size (data_sense plan cell) ++ data_links plan cell plan.col_bits)
-      (all_tabulate IsPlainInstance plan.word_size (data_write plan cell) (λ i lt. let few = few_words plan p i lt in let m = mask_of plan.masks plan.write_size i in record {
+      all_append IsPlainInstance (tabulate (inputs_of plan) (data_write plan cell)) (tabulate plan.word_size (data_sense plan cell) ++ data_links plan cell plan.col_bits)
+      (all_tabulate IsPlainInstance (inputs_of plan) (data_write plan cell) (λ i some. let lt = inputs_within plan i some in let few = few_words plan p i lt in let m = mask_of plan.masks plan.write_size i in record {
         name = plain_tail i few [] refl;
         begins = inl refl;
         nodes = (d_plain plan p i lt, (lo_plain plan.col_bits i few, (ro_plain plan.col_bits i few, (enable_plain plan.masks m (few_enables plan p m (mask_few plan p i lt)), supplies_plain))));

@@ -1,5 +1,5 @@
 -- The rows of the reference netlist, and that flat rows equal them.
-use Rattle.std.specs.Prelude.{◌≡◌, ◌≢◌, ◌↔◌, ℕ, ◌<◌, List, [], ◌∷◌, ◌++◌, map, length, None, Some, slice_index_or}
+use Rattle.std.specs.Prelude.{◌≡◌, ◌≢◌, ◌↔◌, ℕ, ◌<◌, List, [], ◌∷◌, ◌++◌, map, length, None, Some, slice_index_or, Contains}
 use Rattle.std.specs.List.{flat_map, AllByRecursion}
 use Rattle.netlist.specs.declared.deck.Subckt.{Subckt}
 use Rattle.netlist.specs.declared.rows.RowPin.{RowPin}
@@ -12,22 +12,25 @@ use Rattle.spice_netlist.specs.Resolved.{names_of}
 use Rattle.spice_netlist.specs.Numbers.{PinLabel, label_of_row, number_at}
 use Rattle.spice_netlist.specs.Faults.{AreFlatRows, IsFlatFault}
 use Rattle.cell_roles.specs.declared.role.Role.{Role}
-use Rattle.cell_roles.specs.Roles.{all_roles, role_ports}
-use Rattle.sram_netlist.specs.Organization.{Organization, IsBuildable, addr_bits}
-use Rattle.sram_netlist.specs.Nets.{Net, Vdd, Control, Clk0, Csb0, Web0, Addr, Din, Dout, Wmask}
-use Rattle.sram_netlist.specs.Instances.{LeafInstance}
-use Rattle.sram_netlist.specs.Netlist.{role, ports, supply_nets}
+use Rattle.cell_roles.specs.declared.role.Role.TheVariants.{Bitcell}
+use Rattle.cell_roles.specs.Roles.{role_ports}
+use Rattle.sram_netlist.specs.Organization.{Organization, IsBuildable, inputs_of, bank_rows, columns_of, addr_bits}
+use Rattle.sram_netlist.specs.Nets.{Net, Vdd, Control, Clk0, Csb0, Addr, Din, Dout, Wmask}
+use Rattle.sram_netlist.specs.Instances.{LeafInstance, BitAt}
+use Rattle.sram_netlist.specs.Netlist.{web_nets, role, ports, supply_nets}
 use Rattle.sram_netlist.specs.Names.{leaf_path, net_name}
+use Rattle.sram_netlist.specs.BitCells.{BitCells, bit_cell}
 use Rattle.sram_netlist.specs.InstanceList.{tabulate, leaf_instances}
 use Rattle.sram_deck.specs.Deck.{written_subckts}
 
 -- The rows of the netlist
 
--- the nets on the macro's ports: clk0 csb0 web0 wmask0[..] addr0[..] din0[..] dout0[..] vdd gnd
+-- the nets on the macro's ports: clk0 csb0 web0 wmask0[..] addr0[..] din0[..] dout0[..] vdd gnd, of which a read-only memory has no
+-- web0 and din0
 abbrev pub macro_nets : Organization → List Net
 macro_nets plan =
-    Control Clk0 ∷ Control Csb0 ∷ Control Web0 ∷ (tabulate plan.masks Wmask
-    ++ (tabulate (addr_bits plan) Addr ++ (tabulate plan.word_size Din ++ (tabulate plan.word_size Dout ++ supply_nets))))
+    Control Clk0 ∷ Control Csb0 ∷ (web_nets plan.write_size ++ (tabulate plan.masks Wmask
+    ++ (tabulate (addr_bits plan) Addr ++ (tabulate (inputs_of plan) Din ++ (tabulate plan.word_size Dout ++ supply_nets)))))
 
 -- a pin of the netlist: the path of its instance, the name of its cell, its own, and its net
 pub record NetlistPin : Type 0 where
@@ -47,14 +50,19 @@ pins_with_nets path cell (pin ∷ pins) [] = []
 pins_with_nets path cell (pin ∷ pins) (net ∷ nets) =
     record { path = path; cell = cell; pin = pin; net = net } ∷ pins_with_nets path cell pins nets
 
--- the pins of a leaf instance; cell is the name of a role's cell, which counts in lower case
-abbrev pub leaf_pins : Organization → (Role → List ℕ) → LeafInstance → List NetlistPin
-leaf_pins plan cell leaf =
-    pins_with_nets (leaf_path plan leaf) (lower (cell (role plan leaf))) (role_ports (role plan leaf)) (ports plan leaf)
+-- the name of a leaf instance's cell: cell is the name of a role's cell, bits of the cells of the bits
+abbrev pub cell_at : Organization → (Role → List ℕ) → BitCells → LeafInstance → List ℕ
+cell_at plan cell bits (BitAt bank r c) = bit_cell bits r c
+cell_at plan cell bits leaf = cell (role plan leaf)
+
+-- the pins of a leaf instance; names of cells count in lower case
+abbrev pub leaf_pins : Organization → (Role → List ℕ) → BitCells → LeafInstance → List NetlistPin
+leaf_pins plan cell bits leaf =
+    pins_with_nets (leaf_path plan leaf) (lower (cell_at plan cell bits leaf)) (role_ports (role plan leaf)) (ports plan leaf)
 
 -- the macro's ports, and then the pins of each leaf instance
-abbrev pub netlist_pins : Organization → (Role → List ℕ) → List NetlistPin
-netlist_pins plan cell = map (port_pin plan) (macro_nets plan) ++ flat_map (leaf_pins plan cell) (leaf_instances plan)
+abbrev pub netlist_pins : Organization → (Role → List ℕ) → BitCells → List NetlistPin
+netlist_pins plan cell bits = map (port_pin plan) (macro_nets plan) ++ flat_map (leaf_pins plan cell bits) (leaf_instances plan)
 
 abbrev pub label_of_pin : NetlistPin → PinLabel
 label_of_pin p = record { path = p.path; leaf = p.cell; pin = p.pin }
@@ -70,39 +78,53 @@ pub record RowsEqual (rows : List RowPin) (pins : List NetlistPin) : Type 0 wher
 
 -- What is asked of the subcircuits of a kit's leaf cells
 
--- of those with the name of the role's cell the first has the role's ports
-pub record HasRoleCell (leaves : List Subckt) (cell : Role → List ℕ) (r : Role) : Type 0 where
+-- of those with this name the first has the role's ports
+pub record HasCellOf (leaves : List Subckt) (name : List ℕ) (r : Role) : Type 0 where
   pub index : ℕ
-  pub there : index_of (names_of leaves) (lower (cell r)) ≡ Some index
+  pub there : index_of (names_of leaves) (lower name) ≡ Some index
   pub ported : map lower (slice_index_or (map (λ s. s.ports) leaves) index []) ≡ role_ports r
 
--- they have each role's cell, and none of them has a name that will be written
-pub record AreLeavesFor (plan : Organization) (cell : Role → List ℕ) (leaves : List Subckt) (n : List ℕ) : Type 0 where
+abbrev pub HasRoleCell : List Subckt → (Role → List ℕ) → Role → Type 0
+HasRoleCell leaves cell r = HasCellOf leaves (cell r) r
+
+-- the cell of a bit has the ports of a bitcell, and is one of the cells that end a walk
+pub record HasBitCell (leaves : List Subckt) (ends : List (List ℕ)) (name : List ℕ) : Type 0 where
+  pub is : HasCellOf leaves name Bitcell
+  pub ends_there : Contains ends name
+
+-- They have each role's cell and the cells of the bits, all of which end a walk; names that end a walk are theirs; and none of them has
+-- a name that will be written.
+pub record AreLeavesFor (plan : Organization) (cell : Role → List ℕ) (bits : BitCells) (ends : List (List ℕ)) (leaves : List Subckt) (n : List ℕ) : Type 0 where
   pub roles : (r : Role) → HasRoleCell leaves cell r
-  pub free : AllByRecursion (λ name. index_of (names_of leaves) name ≡ None) (names_of (written_subckts plan cell n))
+  pub ended : (r : Role) → Contains ends (cell r)
+  pub of_bits : (r c : ℕ) → r < bank_rows plan → c < columns_of plan → HasBitCell leaves ends (bit_cell bits r c)
+  pub known : (name : List ℕ) → Contains ends name → (k : ℕ) × (index_of (names_of leaves) (lower name) ≡ Some k)
+  pub free : AllByRecursion (λ name. index_of (names_of leaves) name ≡ None) (names_of (written_subckts plan cell bits n))
 
 -- The law
 
--- with the cells of the roles as leaves, the top has flat rows, they equal the netlist, and no fault but want of memory applies
-pub record DeckIsNetlist (plan : Organization) (cell : Role → List ℕ) (subckts : List Subckt) (top : List ℕ) : Type 0 where
-  pub some : (rows : List RowPin) × AreFlatRows subckts top (map cell all_roles) rows
-  pub rows : (rows : List RowPin) → AreFlatRows subckts top (map cell all_roles) rows
-      → RowsEqual rows (netlist_pins plan cell)
-  pub faults : (fault : FlatFault) → fault ≢ Memory → IsFlatFault subckts top (map cell all_roles) fault → ⊥
+-- with these cells as leaves, the top has flat rows, they equal the netlist, and no fault but want of memory applies
+pub record DeckIsNetlist (plan : Organization) (cell : Role → List ℕ) (bits : BitCells) (ends : List (List ℕ)) (subckts : List Subckt) (top : List ℕ) : Type 0 where
+  pub some : (rows : List RowPin) × AreFlatRows subckts top ends rows
+  pub rows : (rows : List RowPin) → AreFlatRows subckts top ends rows
+      → RowsEqual rows (netlist_pins plan cell bits)
+  pub faults : (fault : FlatFault) → fault ≢ Memory → IsFlatFault subckts top ends fault → ⊥
 
 -- the written subcircuits behind those of the leaf cells, as they are built and as they are read back; top is the output name,
 -- without regard to case
 abbrev pub RowsEqualNetlist : Type 0
-RowsEqualNetlist = (plan : Organization) (cell : Role → List ℕ) (leaves : List Subckt) (n top : List ℕ)
-    → IsBuildable plan → AreLeavesFor plan cell leaves n → lower top ≡ lower n
-    → DeckIsNetlist plan cell (leaves ++ written_subckts plan cell n) top
-    × DeckIsNetlist plan cell (leaves ++ map lowered_subckt (written_subckts plan cell n)) top
+RowsEqualNetlist = (plan : Organization) (cell : Role → List ℕ) (bits : BitCells) (ends : List (List ℕ)) (leaves : List Subckt) (n top : List ℕ)
+    → IsBuildable plan → AreLeavesFor plan cell bits ends leaves n → lower top ≡ lower n
+    → DeckIsNetlist plan cell bits ends (leaves ++ written_subckts plan cell bits n) top
+    × DeckIsNetlist plan cell bits ends (leaves ++ map lowered_subckt (written_subckts plan cell bits n)) top
 
 -- there are a plan and leaf cells that meet what is asked of them
 pub record SomeAreLeavesFor : Type 0 where
   pub plan : Organization
   pub cell : Role → List ℕ
+  pub bits : BitCells
+  pub ends : List (List ℕ)
   pub leaves : List Subckt
   pub name : List ℕ
   pub is_buildable : IsBuildable plan
-  pub are_leaves : AreLeavesFor plan cell leaves name
+  pub are_leaves : AreLeavesFor plan cell bits ends leaves name

@@ -22,7 +22,7 @@ pub fn written_subckts_are_read()
     ensures { WrittenSubcktsAreRead }
 {}
 
-/// The name of a role's cell that is among subcircuits that were read can be written, if its characters are printed and no spaces.
+/// The name of a leaf cell that is among subcircuits that were read can be written, if its characters are printed and no spaces.
 pub fn cells_are_names()
     ensures { CellsAreNames }
 {}

@@ -1,4 +1,5 @@
 pub mod SubcktLaws
+pub mod ControlLaws
 pub mod LineLaws
 pub mod KindLaws
 pub mod EnableLaws

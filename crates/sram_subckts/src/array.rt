@@ -1,28 +1,37 @@
-ghost use Rattle.std.specs.Prelude.{◌≡◌, ◌++◌, codes, IfOk, OnOk};
+ghost use Rattle.std.specs.Prelude.{◌≡◌, ◌++◌, List, codes, IfOk, OnOk};
 ghost use Rattle.std.specs.List.{AllByRecursion};
 ghost use Rattle.sram_netlist.specs.InstanceList.{tabulate};
 ghost use Rattle.sram_netlist.specs.Numbers.{ArePlanNumbers};
 ghost use Rattle.sram_plan.specs.PlanNumbers.{numbers_of, organization};
 ghost use Rattle.sram_deck.specs.Deck.{made_subckt, array_ports, array_row, array_instances, pre_ports, pre_column, pre_instances};
+ghost use Rattle.tech_rules.specs.declared.tech.RoleName.{RoleName};
 ghost use Rattle.port_lists.specs.Cells.{cell_in};
+ghost use Rattle.port_lists.specs.Contents.{bit_cells};
 
 use cell_roles::Role;
 use netlist::{Instance, Subckt};
 use or_geom::{Memory, Name};
-use port_lists::{NameList, Spelling, groups_of, leaf_instance, part_name, spell, subckt_of};
+use port_lists::{
+    Contents, NameList, Spelling, groups_of, leaf_instance, part_name, row_name, spell, subckt_of,
+};
 use sram_plan::Plan;
 use std::alloc::Global;
 use tech_rules::RoleName;
 
 /// The subcircuit of the array: its rows. `name` is the macro's.
-pub fn array_subckt(alloc: Global, plan: &Plan, name: &Name) -> Result<Subckt, Memory>
+pub fn array_subckt(
+    alloc: Global,
+    plan: &Plan,
+    name: &Name,
+    contents: Contents<'_>,
+) -> Result<Subckt, Memory>
     requires { ArePlanNumbers (numbers_of plan.now) }
-    ensures { IfOk result (λ s. s ≡ made_subckt (name.now ++ codes "_array") (array_ports (organization plan.now)) (array_instances (organization plan.now) name.now)) }
+    ensures { IfOk result (λ s. (roles : List RoleName) → s ≡ made_subckt (name.now ++ codes "_array") (array_ports (organization plan.now)) (array_instances (organization plan.now) (bit_cells roles (organization plan.now) contents.entry) name.now)) }
 {
     let groups = groups_of(alloc, plan)?;
     let ports = array_port_list(alloc, plan, &groups)?;
     let mut instances = Vec::new(alloc);
-    add_rows(alloc, plan, &groups, name, &mut instances)?;
+    add_rows(alloc, plan, &groups, name, contents, &mut instances)?;
     Ok(subckt_of(alloc, part_name(alloc, name, b"_array")?, ports, instances))
 }
 
@@ -46,14 +55,15 @@ fn add_rows(
     plan: &Plan,
     groups: &[u32],
     name: &Name,
+    contents: Contents<'_>,
     instances: &mut Vec<Instance>,
 ) -> Result<(), Memory>
     requires numbers { ArePlanNumbers (numbers_of plan.now) }
     requires groups { groups.now ≡ (organization plan.now).groups }
-    ensures { OnOk result (instances.new.items ≡ instances.old.items ++ array_instances (organization plan.now) name.now) }
+    ensures { OnOk result ((roles : List RoleName) → instances.new.items ≡ instances.old.items ++ array_instances (organization plan.now) (bit_cells roles (organization plan.now) contents.entry) name.now) }
 {
     for row in 0..plan.rows {
-        instances.push(row_instance(alloc, plan, groups, name, row)?)?;
+        instances.push(row_instance(alloc, plan, groups, name, contents, row)?)?;
     }
     Ok(())
 }
@@ -64,11 +74,12 @@ fn row_instance(
     plan: &Plan,
     groups: &[u32],
     name: &Name,
+    contents: Contents<'_>,
     row: u32,
 ) -> Result<Instance, Memory>
     requires numbers { ArePlanNumbers (numbers_of plan.now) }
     requires groups { groups.now ≡ (organization plan.now).groups }
-    ensures { IfOk result (λ i. i ≡ array_row (organization plan.now) name.now row) }
+    ensures { IfOk result (λ i. (roles : List RoleName) → i ≡ array_row (organization plan.now) (bit_cells roles (organization plan.now) contents.entry) name.now row) }
 {
     let mut nodes = NameList::new(alloc);
     nodes.add_row_lines(groups, row)?;
@@ -78,7 +89,7 @@ fn row_instance(
     Ok(Instance {
         name: spell(alloc, Spelling::Numbered(b"xr", row))?,
         nodes: nodes.into_items(),
-        of: part_name(alloc, name, b"_row")?,
+        of: row_name(alloc, plan, contents, name, row)?,
     })
 }
 

@@ -8,7 +8,7 @@ use crate::data::data_port_list;
 use netlist::{Instance, Subckt};
 use or_geom::{Memory, Name};
 use port_lists::{NameList, Spelling, groups_of, part_name, subckt_of};
-use sram_plan::Plan;
+use sram_plan::{Plan, inputs_of};
 use std::alloc::Global;
 
 /// The subcircuit of a bank: the array, the precharge and the data. `name` is the macro's.
@@ -39,7 +39,7 @@ fn bank_port_list(alloc: Global, plan: &Plan, groups: &[u32]) -> Result<NameList
         Spelling::Word(b"clkb"),
     ])?;
     ports.add_column_choices(plan)?;
-    ports.add_numbered(b"d", plan.word_size)?;
+    ports.add_numbered(b"d", inputs_of(plan))?;
     ports.add_write_enables(plan)?;
     ports.add_numbered(b"o", plan.word_size)?;
     ports.add_supplies()?;

@@ -1,5 +1,5 @@
 ghost use Rattle.std.specs.Prelude.{◌≡◌, ◌++◌, codes, IfOk, OnOk};
-ghost use Rattle.sram_netlist.specs.Organization.{columns_of};
+ghost use Rattle.sram_netlist.specs.Organization.{columns_of, inputs_of};
 ghost use Rattle.sram_netlist.specs.Netlist.{mask_of};
 ghost use Rattle.sram_netlist.specs.InstanceList.{tabulate};
 ghost use Rattle.sram_netlist.specs.Numbers.{ArePlanNumbers};
@@ -12,12 +12,12 @@ use cell_roles::Role;
 use netlist::{Instance, Subckt};
 use or_geom::{Memory, Name};
 use port_lists::{NameList, Spelling, leaf_instance, part_name, subckt_of};
-use sram_plan::Plan;
+use sram_plan::{Plan, inputs_of};
 use std::alloc::Global;
 use tech_rules::RoleName;
 
-/// The subcircuit of the data: a write and a sense cell for each bit of the word, and a multiplexer, or a tie where a row has
-/// one word, for each column. `roles` names the leaf cells, and `name` is the macro's.
+/// The subcircuit of the data: a write cell for each bit that is written, a sense cell for each bit of the word, and a
+/// multiplexer, or a tie where a row has one word, for each column. `roles` names the leaf cells, and `name` is the macro's.
 pub fn data_subckt(
     alloc: Global,
     plan: &Plan,
@@ -43,7 +43,7 @@ pub fn data_port_list(alloc: Global, plan: &Plan) -> Result<NameList, Memory>
     let mut ports = NameList::new(alloc);
     ports.add_all_bit_lines(plan)?;
     ports.add_column_choices(plan)?;
-    ports.add_numbered(b"d", plan.word_size)?;
+    ports.add_numbered(b"d", inputs_of(plan))?;
     ports.add_write_enables(plan)?;
     ports.add(Spelling::Word(b"sen"))?;
     ports.add_numbered(b"o", plan.word_size)?;
@@ -85,7 +85,7 @@ fn write_enable(plan: &Plan, bit: u32) -> Spelling
     }
 }
 
-/// The write cells, bit by bit.
+/// The write cells, one for each bit that is written.
 fn add_writes(
     alloc: Global,
     plan: &Plan,
@@ -93,9 +93,9 @@ fn add_writes(
     instances: &mut Vec<Instance>,
 ) -> Result<(), Memory>
     requires { ArePlanNumbers (numbers_of plan.now) }
-    ensures { OnOk result (instances.new.items ≡ instances.old.items ++ tabulate plan.now.word_size (data_write (organization plan.now) (cell_in roles.now))) }
+    ensures { OnOk result (instances.new.items ≡ instances.old.items ++ tabulate (inputs_of (organization plan.now)) (data_write (organization plan.now) (cell_in roles.now))) }
 {
-    for bit in 0..plan.word_size {
+    for bit in 0..inputs_of(plan) {
         let nodes = [
             Spelling::Numbered(b"d", bit),
             left_line(plan, bit),

@@ -1,8 +1,9 @@
-//! Makes the subcircuits of a memory: a row, the array, the precharge, the data, a bank, the logic row and the macro.
+//! Makes the subcircuits of a memory: its rows, the array, the precharge, the data, a bank, the logic row and the macro.
 #![tactic(auto)]
 
 mod array;
 mod bank;
+mod control;
 mod data;
 mod decoder;
 mod enables;

@@ -1,19 +1,20 @@
 ghost use Rattle.std.specs.Prelude.{◌≡◌, ◌++◌, ◌∷◌, ◌≤◌, [], map, codes, IfOk, OnOk};
-ghost use Rattle.sram_netlist.specs.Organization.{addr_bits, total_bits};
-ghost use Rattle.sram_netlist.specs.Instances.{Clki, Csd, Wed, Csi, Wei, Wln, Wli, Wrn, Wri, Rdn, Rdi, Dlay, Senn, Seni, Dd, Dm};
-ghost use Rattle.sram_netlist.specs.InstanceList.{tabulate, tabulate_lists, fixed_cells, address_cells, choice_gates, groups_gates, banks_cells, enable_cells, logic_cells};
+ghost use Rattle.sram_netlist.specs.Organization.{addr_bits, inputs_of};
+ghost use Rattle.sram_netlist.specs.Instances.{Dd, Dm};
+ghost use Rattle.sram_netlist.specs.InstanceList.{tabulate, tabulate_lists, address_cells, choice_gates, groups_gates, banks_cells, enable_cells, logic_cells};
 ghost use Rattle.sram_netlist.specs.Numbers.{ArePlanNumbers};
 ghost use Rattle.sram_plan.specs.PlanNumbers.{numbers_of, organization};
 ghost use Rattle.sram_deck.specs.Deck.{made_subckt, logic_cell, logic_ports, logic_instances};
 ghost use Rattle.port_lists.specs.Cells.{cell_in};
 
+use crate::control::add_control;
 use crate::decoder::{add_column_lines, add_group_lines};
 use crate::enables::{add_bank_choices, add_write_enable_gates};
 use cell_roles::Role;
 use netlist::{Instance, Subckt};
 use or_geom::{Memory, Name};
 use port_lists::{NameList, Spelling, add_gate, groups_of, part_name, subckt_of};
-use sram_plan::Plan;
+use sram_plan::{Plan, inputs_of};
 use std::alloc::Global;
 use tech_rules::RoleName;
 
@@ -46,7 +47,7 @@ pub fn logic_port_list(alloc: Global, plan: &Plan, groups: &[u32]) -> Result<Nam
     ports.add_all_bank_controls(plan)?;
     ports.add_column_choices(plan)?;
     ports.add_predecode_lines(groups)?;
-    ports.add_numbered(b"d", plan.word_size)?;
+    ports.add_numbered(b"d", inputs_of(plan))?;
     ports.add_supplies()?;
     Ok(ports)
 }
@@ -63,7 +64,7 @@ fn add_cells(
     requires groups { groups.now ≡ (organization plan.now).groups }
     ensures { OnOk result (instances.new.items ≡ instances.old.items ++ map (logic_cell (organization plan.now) (cell_in roles.now)) (logic_cells (organization plan.now))) }
 {
-    add_fixed(alloc, plan, roles, instances)?;
+    add_control(alloc, plan, roles, instances)?;
     add_address(alloc, plan, roles, instances)?;
     add_column_lines(alloc, plan, roles, instances)?;
     add_group_lines(alloc, plan, roles, groups, instances)?;
@@ -72,228 +73,6 @@ fn add_cells(
     add_bank_choices(alloc, plan, roles, instances)?;
     add_write_enable_gates(alloc, plan, roles, instances)?;
     Ok(())
-}
-
-/// The cells that each memory has once.
-fn add_fixed(
-    alloc: Global,
-    plan: &Plan,
-    roles: &[RoleName],
-    instances: &mut Vec<Instance>,
-) -> Result<(), Memory>
-    ensures { OnOk result (instances.new.items ≡ instances.old.items ++ map (logic_cell (organization plan.now) (cell_in roles.now)) fixed_cells) }
-{
-    add_latches(alloc, plan, roles, instances)?;
-    add_complements(alloc, plan, roles, instances)?;
-    add_word_line_enable(alloc, plan, roles, instances)?;
-    add_write_enable(alloc, plan, roles, instances)?;
-    add_read(alloc, plan, roles, instances)?;
-    add_sense_enable(alloc, plan, roles, instances)?;
-    Ok(())
-}
-
-/// The inverted clock, and the latches of select and write.
-fn add_latches(
-    alloc: Global,
-    plan: &Plan,
-    roles: &[RoleName],
-    instances: &mut Vec<Instance>,
-) -> Result<(), Memory>
-    ensures { OnOk result (instances.new.items ≡ instances.old.items ++ map (logic_cell (organization plan.now) (cell_in roles.now)) (Clki ∷ Csd ∷ Wed ∷ [])) }
-{
-    add_gate(
-        alloc,
-        roles,
-        Role::Inv,
-        Spelling::Word(b"xclki"),
-        &[Spelling::Word(b"clk0"), Spelling::Word(b"clkb")],
-        instances,
-    )?;
-    add_gate(
-        alloc,
-        roles,
-        Role::Dff,
-        Spelling::Word(b"xcsd"),
-        &[
-            Spelling::Word(b"csb0"),
-            Spelling::Word(b"clk0"),
-            Spelling::Word(b"csq"),
-        ],
-        instances,
-    )?;
-    add_gate(
-        alloc,
-        roles,
-        Role::Dff,
-        Spelling::Word(b"xwed"),
-        &[
-            Spelling::Word(b"web0"),
-            Spelling::Word(b"clk0"),
-            Spelling::Word(b"weq"),
-        ],
-        instances,
-    )
-}
-
-/// The complements of what these latches hold.
-fn add_complements(
-    alloc: Global,
-    plan: &Plan,
-    roles: &[RoleName],
-    instances: &mut Vec<Instance>,
-) -> Result<(), Memory>
-    ensures { OnOk result (instances.new.items ≡ instances.old.items ++ map (logic_cell (organization plan.now) (cell_in roles.now)) (Csi ∷ Wei ∷ [])) }
-{
-    add_gate(
-        alloc,
-        roles,
-        Role::Inv,
-        Spelling::Word(b"xcsi"),
-        &[Spelling::Word(b"csq"), Spelling::Word(b"cs")],
-        instances,
-    )?;
-    add_gate(
-        alloc,
-        roles,
-        Role::Inv,
-        Spelling::Word(b"xwei"),
-        &[Spelling::Word(b"weq"), Spelling::Word(b"we")],
-        instances,
-    )
-}
-
-/// The gates of the word line enable.
-fn add_word_line_enable(
-    alloc: Global,
-    plan: &Plan,
-    roles: &[RoleName],
-    instances: &mut Vec<Instance>,
-) -> Result<(), Memory>
-    ensures { OnOk result (instances.new.items ≡ instances.old.items ++ map (logic_cell (organization plan.now) (cell_in roles.now)) (Wln ∷ Wli ∷ [])) }
-{
-    add_gate(
-        alloc,
-        roles,
-        Role::Nand2,
-        Spelling::Word(b"xwln"),
-        &[
-            Spelling::Word(b"cs"),
-            Spelling::Word(b"clkb"),
-            Spelling::Word(b"wlb"),
-        ],
-        instances,
-    )?;
-    add_gate(
-        alloc,
-        roles,
-        Role::Inv,
-        Spelling::Word(b"xwli"),
-        &[Spelling::Word(b"wlb"), Spelling::Word(b"wlen")],
-        instances,
-    )
-}
-
-/// The gates of the write enable.
-fn add_write_enable(
-    alloc: Global,
-    plan: &Plan,
-    roles: &[RoleName],
-    instances: &mut Vec<Instance>,
-) -> Result<(), Memory>
-    ensures { OnOk result (instances.new.items ≡ instances.old.items ++ map (logic_cell (organization plan.now) (cell_in roles.now)) (Wrn ∷ Wri ∷ [])) }
-{
-    add_gate(
-        alloc,
-        roles,
-        Role::Nand3,
-        Spelling::Word(b"xwrn"),
-        &[
-            Spelling::Word(b"cs"),
-            Spelling::Word(b"we"),
-            Spelling::Word(b"clkb"),
-            Spelling::Word(b"wrb"),
-        ],
-        instances,
-    )?;
-    add_gate(
-        alloc,
-        roles,
-        Role::Inv,
-        Spelling::Word(b"xwri"),
-        &[Spelling::Word(b"wrb"), Spelling::Word(b"wen")],
-        instances,
-    )
-}
-
-/// The gates that tell a read.
-fn add_read(
-    alloc: Global,
-    plan: &Plan,
-    roles: &[RoleName],
-    instances: &mut Vec<Instance>,
-) -> Result<(), Memory>
-    ensures { OnOk result (instances.new.items ≡ instances.old.items ++ map (logic_cell (organization plan.now) (cell_in roles.now)) (Rdn ∷ Rdi ∷ [])) }
-{
-    add_gate(
-        alloc,
-        roles,
-        Role::Nand3,
-        Spelling::Word(b"xrdn"),
-        &[
-            Spelling::Word(b"cs"),
-            Spelling::Word(b"weq"),
-            Spelling::Word(b"clkb"),
-            Spelling::Word(b"rdb"),
-        ],
-        instances,
-    )?;
-    add_gate(
-        alloc,
-        roles,
-        Role::Inv,
-        Spelling::Word(b"xrdi"),
-        &[Spelling::Word(b"rdb"), Spelling::Word(b"rd")],
-        instances,
-    )
-}
-
-/// The gates of the sense enable, which comes a phase after the word line.
-fn add_sense_enable(
-    alloc: Global,
-    plan: &Plan,
-    roles: &[RoleName],
-    instances: &mut Vec<Instance>,
-) -> Result<(), Memory>
-    ensures { OnOk result (instances.new.items ≡ instances.old.items ++ map (logic_cell (organization plan.now) (cell_in roles.now)) (Dlay ∷ Senn ∷ Seni ∷ [])) }
-{
-    add_gate(
-        alloc,
-        roles,
-        Role::Delay,
-        Spelling::Word(b"xdly"),
-        &[Spelling::Word(b"clkb"), Spelling::Word(b"dly")],
-        instances,
-    )?;
-    add_gate(
-        alloc,
-        roles,
-        Role::Nand2,
-        Spelling::Word(b"xsen"),
-        &[
-            Spelling::Word(b"rd"),
-            Spelling::Word(b"dly"),
-            Spelling::Word(b"seb"),
-        ],
-        instances,
-    )?;
-    add_gate(
-        alloc,
-        roles,
-        Role::Inv,
-        Spelling::Word(b"xsei"),
-        &[Spelling::Word(b"seb"), Spelling::Word(b"sen")],
-        instances,
-    )
 }
 
 /// The cells of an address bit: it is latched, and inverted.
@@ -353,9 +132,9 @@ fn add_data_latches(
     roles: &[RoleName],
     instances: &mut Vec<Instance>,
 ) -> Result<(), Memory>
-    ensures { OnOk result (instances.new.items ≡ instances.old.items ++ map (logic_cell (organization plan.now) (cell_in roles.now)) (tabulate plan.now.word_size Dd)) }
+    ensures { OnOk result (instances.new.items ≡ instances.old.items ++ map (logic_cell (organization plan.now) (cell_in roles.now)) (tabulate (inputs_of (organization plan.now)) Dd)) }
 {
-    for bit in 0..plan.word_size {
+    for bit in 0..inputs_of(plan) {
         let nodes = [
             Spelling::Indexed(b"din0", bit),
             Spelling::Word(b"clk0"),

@@ -1,38 +1,48 @@
-ghost use Rattle.std.specs.Prelude.{◌≡◌, ◌⊎◌, ◌++◌, ◌∷◌, codes, length, IfOk, OnOk};
+ghost use Rattle.std.specs.Prelude.{◌≡◌, ◌<◌, ◌⊎◌, ◌++◌, ◌∷◌, codes, length, IfOk, OnOk};
 ghost use Rattle.cell_roles.specs.Roles.{supplies};
-ghost use Rattle.sram_netlist.specs.Organization.{columns_of};
+ghost use Rattle.sram_netlist.specs.Organization.{bank_rows, columns_of};
 ghost use Rattle.sram_netlist.specs.Netlist.{row_gate};
 ghost use Rattle.sram_netlist.specs.InstanceList.{tabulate};
 ghost use Rattle.sram_netlist.specs.Numbers.{ArePlanNumbers};
 ghost use Rattle.sram_plan.specs.PlanNumbers.{numbers_of, organization};
-ghost use Rattle.sram_deck.specs.Deck.{subckt_instance, made_subckt, row_inputs, row_ports, row_driver, row_bit, row_instances};
+ghost use Rattle.sram_deck.specs.Deck.{subckt_instance, row_inputs, row_ports, row_driver, row_bit, row_subckt};
 ghost use Rattle.port_lists.specs.Cells.{cell_in};
+ghost use Rattle.port_lists.specs.Contents.{IsContents, bit_cells};
 
 use cell_roles::Role;
 use netlist::{Instance, Subckt};
 use or_geom::{Memory, Name};
-use port_lists::{NameList, Spelling, cell_of, groups_of, leaf_instance, part_name, subckt_of};
+use port_lists::{
+    Contents, NameList, Spelling, bit_cell, cell_instance, cell_of, groups_of, leaf_instance,
+    row_name, subckt_of,
+};
 use sram_plan::Plan;
 use std::alloc::Global;
 use tech_rules::RoleName;
 
-/// The subcircuit of a row: its gate, its driver and its bitcells. `roles` names the leaf cells, and `name` is the macro's.
+/// The subcircuit of a row: its gate, its driver and the cells of its bits. `roles` names the leaf cells, and `name` is the
+/// macro's.
 pub fn row_subckt(
     alloc: Global,
     plan: &Plan,
     roles: &[RoleName],
     name: &Name,
+    contents: Contents<'_>,
+    row: u32,
 ) -> Result<Subckt, Memory>
-    requires { ArePlanNumbers (numbers_of plan.now) }
-    ensures { IfOk result (λ s. s ≡ made_subckt (name.now ++ codes "_row") (row_ports (organization plan.now)) (row_instances (organization plan.now) (cell_in roles.now))) }
+    requires numbers { ArePlanNumbers (numbers_of plan.now) }
+    requires contents { IsContents (organization plan.now) contents }
+    requires row { row < bank_rows (organization plan.now) }
+    ensures { IfOk result (λ s. s ≡ row_subckt (organization plan.now) (cell_in roles.now) (bit_cells roles.now (organization plan.now) contents.entry) name.now row) }
 {
     let groups = groups_of(alloc, plan)?;
     let ports = row_port_list(alloc, plan, &groups)?;
     let mut instances = Vec::new(alloc);
     instances.push(row_gate_instance(alloc, &groups, roles)?)?;
     instances.push(row_driver_instance(alloc, roles)?)?;
-    add_bitcells(alloc, plan, roles, &mut instances)?;
-    Ok(subckt_of(alloc, part_name(alloc, name, b"_row")?, ports, instances))
+    add_bits(alloc, plan, roles, contents, row, &mut instances)?;
+    let name = row_name(alloc, plan, contents, name, row)?;
+    Ok(subckt_of(alloc, name, ports, instances))
 }
 
 /// The ports of a row.
@@ -89,15 +99,19 @@ fn row_driver_instance(alloc: Global, roles: &[RoleName]) -> Result<Instance, Me
     leaf_instance(alloc, roles, Role::Driver, Spelling::Word(b"xdrv"), &nodes)
 }
 
-/// The bitcells of a row, column by column.
-fn add_bitcells(
+/// The cells of a row's bits, column by column.
+fn add_bits(
     alloc: Global,
     plan: &Plan,
     roles: &[RoleName],
+    contents: Contents<'_>,
+    row: u32,
     instances: &mut Vec<Instance>,
 ) -> Result<(), Memory>
-    requires { ArePlanNumbers (numbers_of plan.now) }
-    ensures { OnOk result (instances.new.items ≡ instances.old.items ++ tabulate (columns_of (organization plan.now)) (row_bit (cell_in roles.now))) }
+    requires numbers { ArePlanNumbers (numbers_of plan.now) }
+    requires contents { IsContents (organization plan.now) contents }
+    requires row { row < bank_rows (organization plan.now) }
+    ensures { OnOk result (instances.new.items ≡ instances.old.items ++ tabulate (columns_of (organization plan.now)) (row_bit (bit_cells roles.now (organization plan.now) contents.entry) row)) }
 {
     for column in 0..plan.columns {
         let nodes = [
@@ -106,7 +120,8 @@ fn add_bitcells(
             Spelling::Word(b"wl"),
         ];
         let name = Spelling::Numbered(b"xb", column);
-        instances.push(leaf_instance(alloc, roles, Role::Bitcell, name, &nodes)?)?;
+        let cell = bit_cell(plan, roles, contents, row, column);
+        instances.push(cell_instance(alloc, cell, name, &nodes)?)?;
     }
     Ok(())
 }

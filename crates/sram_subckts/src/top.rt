@@ -13,7 +13,7 @@ use or_geom::{Memory, Name};
 use port_lists::{
     NameList, Spelling, groups_of, part_name, sense_enable, spell, subckt_of, word_line_enable,
 };
-use sram_plan::Plan;
+use sram_plan::{Plan, inputs_of};
 use std::alloc::Global;
 
 /// The subcircuit of the macro: the logic row and the banks.
@@ -86,7 +86,7 @@ fn bank_instance(
     nodes.add(sense_enable(plan, bank))?;
     nodes.add(Spelling::Word(b"clkb"))?;
     nodes.add_column_choices(plan)?;
-    nodes.add_numbered(b"d", plan.word_size)?;
+    nodes.add_numbered(b"d", inputs_of(plan))?;
     nodes.add_bank_enables(plan, bank)?;
     nodes.add_indexed(b"dout0", plan.word_size)?;
     nodes.add_supplies()?;

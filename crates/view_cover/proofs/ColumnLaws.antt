@@ -1,5 +1,5 @@
 -- The column channel's wires lie within bank 0, and those on the second metal end where its columns do.
-use Rattle.std.proofs.Common.{◌≡◌, inl, inr, ℕ, zero, suc, ◌+◌, ◌<◌, ◌≤◌, ℤ, pos, ◌+ℤ◌, ◌≤ℤ◌, ◌<ℤ◌, sym, subst, ◌∙◌, arith}
+use Rattle.std.proofs.Common.{◌≡◌, inl, inr, ℕ, zero, suc, ◌<◌, ℤ, pos, ◌+ℤ◌, ◌≤ℤ◌, ◌<ℤ◌, sym, subst, ◌∙◌, arith}
 use Rattle.std.specs.Prelude.{slice_index}
 use Rattle.std.proofs.lemmas.Int.{ints}
 use Rattle.std.proofs.lemmas.Option.{slice_get_within}
@@ -25,7 +25,8 @@ use Rattle.macro_layout.specs.Floorplan.{Tracks, rail_count, rail_x, column_chan
 use Rattle.macro_layout.specs.Cells.{column_leaf}
 use Rattle.macro_layout.specs.Pins.{IsRailOf, rail_nets}
 use Rattle.macro_layout.specs.Channels.{IsPinFrom, MeetsColumnTop, MeetsColumnBottom, IsColumnChannel, IsChannelWire}
-use Rattle.view_cover.proofs.PlaceLaws.{LiesWithin, box_within, StandsIn, width_within}
+use Rattle.view_cover.specs.Bits.{LiesWithin}
+use Rattle.view_cover.proofs.PlaceLaws.{box_within, StandsIn, width_within}
 use Rattle.view_cover.proofs.FitLaws.{AreGiven, rises, reaches, track_fits, track_above, rail_before, rail_from}
 use Rattle.view_cover.proofs.LeafLaws.{sense_stands, mux_stands, tie_stands, InBank, array_upper, pin_within, begins_within}
 use Rattle.view_cover.proofs.KindLaws.{IsPlain, via_cut, wide_box, not_third, not_fourth, rails_count, pin_cases, wire_behind, behind_wire, chain, home}

@@ -1,5 +1,5 @@
 -- What lies between bounds is covered by the boxes of a view.
-use Rattle.std.proofs.Common.{◌≡◌, ◌≢◌, ◌⊎◌, inl, inr, ℕ, zero, suc, ◌<◌, ℤ, pos, ◌+ℤ◌, ◌-ℤ◌, ◌≤ℤ◌, ◌<ℤ◌, refl, arith}
+use Rattle.std.proofs.Common.{◌≡◌, ◌≢◌, ◌⊎◌, inl, inr, ℕ, zero, suc, ℤ, pos, ◌+ℤ◌, ◌-ℤ◌, ◌≤ℤ◌, ◌<ℤ◌, refl, arith}
 use Rattle.std.specs.Prelude.{Contains}
 use Rattle.std.proofs.lemmas.Int.{ints, by_lt_z}
 use Rattle.or_geom.specs.declared.shape.Rect.{Rect}
@@ -8,7 +8,7 @@ use Rattle.sram_plan.specs.declared.view.Abstract.{Abstract}
 use Rattle.sram_plan.specs.declared.view.SignalPin.{SignalPin}
 use Rattle.macro_views.specs.Lef.{signal_box, supply_box, whole_box, before_supplies, behind_signals, blocked_box}
 use Rattle.macro_views.specs.Boxes.{BoxHasCell, IsCoveredOn}
-use Rattle.view_cover.proofs.PlaceLaws.{LiesWithin}
+use Rattle.view_cover.specs.Bits.{LiesWithin}
 
 -- the unit cell lies between these sides
 record IsCellAt (x1 y1 x2 y2 x y : ℤ) : Type 0 where

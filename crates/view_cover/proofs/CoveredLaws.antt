@@ -7,6 +7,6 @@ use Rattle.view_cover.proofs.WholeLaws.{layout_is}
 use Rattle.view_cover.proofs.KitLaws.{kit_fits, kit_layers}
 
 pub lef_covers_layout : LefCoversLayout
-lef_covers_layout kit wire plan tracks floorplan view is wired slices stands of metal s lt on in_macro =
-    layout_is kit.tech.layers (IsFlatShape kit.tech.layers kit.lib.structs) plan (layout_kit kit) wire tracks floorplan view
-    (record { sizes = wire-AreSizes kit.tech wire is.tech wired; stands = stands; fits = kit_fits kit wire is wired; sense = slices.sense; write = slices.write }) (kit_layers kit wire is wired) of s metal lt on in_macro
+lef_covers_layout kit wire plan bits tracks floorplan view is wired inside slices stands of metal s lt on in_macro =
+    layout_is kit.tech.layers (IsFlatShape kit.tech.layers kit.lib.structs) plan (layout_kit kit) bits wire tracks floorplan view
+    (record { sizes = wire-AreSizes kit.tech wire is.tech wired; stands = stands; fits = kit_fits kit wire is wired; sense = slices.sense; write = slices.write }) (kit_layers kit wire plan bits is wired inside) of s metal lt on in_macro

@@ -1,5 +1,5 @@
 -- What leaf cells have to be, and the numbers of a floorplan that they give: heights one upon another, and banks side by side.
-use Rattle.std.proofs.Common.{◌≡◌, ◌⊎◌, inl, inr, ℕ, zero, suc, ◌+◌, ◌*◌, ◌<◌, ◌≤◌, ℤ, pos, ◌+ℤ◌, ◌-ℤ◌, ◌*ℤ◌, ◌≤ℤ◌, List, [], ◌∷◌, ◌++◌, refl, sym, ap, subst, ◌∙◌, arith}
+use Rattle.std.proofs.Common.{◌≡◌, ℕ, ◌+◌, ◌*◌, ◌<◌, ◌≤◌, ℤ, pos, ◌+ℤ◌, ◌*ℤ◌, ◌≤ℤ◌, sym, subst, arith}
 use Rattle.std.specs.Int.{int_max}
 use Rattle.std.proofs.lemmas.Int.{ints, clamps}
 use Rattle.cell_roles.specs.declared.role.Role.{Role}
@@ -8,16 +8,14 @@ use Rattle.tech_rules.specs.declared.tech.Wire.{Wire}
 use Rattle.tech_rules.specs.Drawing.{pitch}
 use Rattle.tech_rules.specs.Facts.{AreSizes}
 use Rattle.channel_router.specs.Wires.{channel_height, track_y}
-use Rattle.sram_netlist.specs.Organization.{Organization, words_per_row, bank_rows, columns_of, banks_of}
-use Rattle.sram_netlist.specs.Instances.{LogicCell, LogicAt}
-use Rattle.sram_netlist.specs.Netlist.{role, row_gate}
+use Rattle.sram_netlist.specs.Organization.{Organization, IsWritten, words_per_row, bank_rows, columns_of, banks_of}
+use Rattle.sram_netlist.specs.Netlist.{role}
 use Rattle.sram_netlist.specs.InstanceList.{logic_cells}
 use Rattle.macro_layout.specs.LayoutKit.{LayoutKit}
 use Rattle.macro_layout.specs.Places.{Floorplan, bit_width, bit_height, drive_width, columns_x, total_width}
-use Rattle.macro_layout.specs.Floorplan.{Tracks, rail_count, rail_x, column_role, column_channel_y, upper_y, IsFloorplan}
-use Rattle.macro_layout.specs.Wires.{trunk_x}
-use Rattle.view_cover.proofs.NumberLaws.{banks_before, banks_right, pitches_before, pitch_before, pitch_more}
-use Rattle.view_cover.proofs.PlaceLaws.{LiesInCell}
+use Rattle.macro_layout.specs.Floorplan.{Tracks, rail_count, rail_x, column_role, write_height, column_channel_y, upper_y, IsFloorplan}
+use Rattle.view_cover.proofs.NumberLaws.{banks_right, pitches_before, pitch_before, pitch_more}
+use Rattle.view_cover.specs.Bits.{LiesInCell}
 
 -- the cells of the logic row
 abbrev pub IsLogicRole : Role → Type 0
@@ -50,7 +48,7 @@ pub record AreGiven (plan : Organization) (kit : LayoutKit) (wire : Wire) (track
   pub stands : IsFloorplan plan kit wire tracks f
   pub fits : FitsWires kit wire
   pub sense : kit.width Sense ≤ words_per_row plan * kit.width Bitcell
-  pub write : kit.width Write ≤ words_per_row plan * kit.width Bitcell
+  pub write : IsWritten plan → kit.width Write ≤ words_per_row plan * kit.width Bitcell
 
 -- where the banks end or the logic row does, whichever is further right
 abbrev pub contents_end : Organization → LayoutKit → Floorplan → ℤ
@@ -58,25 +56,25 @@ contents_end plan kit f = int_max (pos (banks_of plan) *ℤ f.bank_width) (f.log
 
 -- Heights
 
--- the rows' lower ends, and room for a wire in each
+-- the rows' lower ends, and room for a wire in each but the write cells', which there may be none of
 pub record Rises (w inv write sense channel column array precharge upper : ℤ) : Type 0 where
   pub wire : pos 1 ≤ℤ w
   pub to_inv : w ≤ℤ inv
   pub to_write : inv ≤ℤ write
-  pub to_sense : (write +ℤ w) ≤ℤ sense
+  pub to_sense : write ≤ℤ sense
   pub to_channel : (sense +ℤ w) ≤ℤ channel
   pub to_column : channel ≤ℤ column
   pub to_array : (column +ℤ w) ≤ℤ array
   pub to_precharge : array ≤ℤ precharge
   pub to_upper : (precharge +ℤ w) ≤ℤ upper
 
-rises_from : (hi hw hs hc rows hp : ℕ) (w main channel wy sy cy ay py : ℤ) → pos 1 ≤ℤ w → w ≤ℤ pos hi → w ≤ℤ pos hw → w ≤ℤ pos hs → w ≤ℤ pos hc → w ≤ℤ pos hp → pos 0 ≤ℤ main → pos 0 ≤ℤ channel
+rises_from : (hi hw hs hc rows hp : ℕ) (w main channel wy sy cy ay py : ℤ) → pos 1 ≤ℤ w → w ≤ℤ pos hi → w ≤ℤ pos hs → w ≤ℤ pos hc → w ≤ℤ pos hp → pos 0 ≤ℤ main → pos 0 ≤ℤ channel
     → wy ≡ pos hi +ℤ main → sy ≡ wy +ℤ pos hw → cy ≡ (sy +ℤ pos hs) +ℤ channel → ay ≡ cy +ℤ pos hc → py ≡ ay +ℤ pos rows → Rises w (pos hi) wy sy (sy +ℤ pos hs) cy ay py (py +ℤ pos hp)
-rises_from hi hw hs hc rows hp w main channel wy sy cy ay py one a b c d e m n p q r s t = record {
+rises_from hi hw hs hc rows hp w main channel wy sy cy ay py one a c d e m n p q r s t = record {
   wire = one;
   to_inv = a;
   to_write = omega (arith, ints, m, p);
-  to_sense = omega (arith, ints, b, q);
+  to_sense = omega (arith, ints, q);
   to_channel = omega (arith, ints, c);
   to_column = omega (arith, ints, n, r);
   to_array = omega (arith, ints, d, s);
@@ -138,8 +136,8 @@ module _ (plan : Organization) (kit : LayoutKit) (wire : Wire) (tracks : Tracks)
   pub rises : Rises wire.width (pos (kit.height Inv)) f.write_y f.sense_y (column_channel_y kit f) f.column_y f.array_y f.precharge_y (upper_y kit f)
   rises =
       let s = g.stands in
-      rises_from (kit.height Inv) (kit.height Write) (kit.height Sense) (kit.height (column_role plan.col_bits)) (bank_rows plan * bit_height kit) (kit.height Precharge) wire.width (channel_height wire tracks.main) (channel_height wire tracks.column) f.write_y f.sense_y f.column_y f.array_y f.precharge_y
-      g.sizes.width.from (g.fits.tall Inv) (g.fits.tall Write) (g.fits.tall Sense) (g.fits.tall (column_role plan.col_bits)) (g.fits.tall Precharge) (height_low wire tracks.main g.sizes) (height_low wire tracks.column g.sizes) s.write_y s.sense_y s.column_y s.array_y s.precharge_y
+      rises_from (kit.height Inv) (write_height plan kit) (kit.height Sense) (kit.height (column_role plan.col_bits)) (bank_rows plan * bit_height kit) (kit.height Precharge) wire.width (channel_height wire tracks.main) (channel_height wire tracks.column) f.write_y f.sense_y f.column_y f.array_y f.precharge_y
+      g.sizes.width.from (g.fits.tall Inv) (g.fits.tall Sense) (g.fits.tall (column_role plan.col_bits)) (g.fits.tall Precharge) (height_low wire tracks.main g.sizes) (height_low wire tracks.column g.sizes) s.write_y s.sense_y s.column_y s.array_y s.precharge_y
 
   pub reaches : Reaches (pitch wire) f.row_x (columns_x plan kit f) f.bank_width (pos (banks_of plan) *ℤ f.bank_width) (contents_end plan kit f)
   reaches =

@@ -1,5 +1,5 @@
 -- Kinds of wires by where they may end, the count of rails, and the places of pins.
-use Rattle.std.proofs.Common.{◌≡◌, ◌≢◌, ◌⊎◌, inl, inr, ℕ, zero, suc, ◌+◌, ◌<◌, ◌≤◌, ℤ, pos, negsuc, ◌+ℤ◌, ◌*ℤ◌, ◌≤ℤ◌, ◌<ℤ◌, List, [], ◌∷◌, ◌++◌, length, refl, ap, ◌∙◌, arith}
+use Rattle.std.proofs.Common.{◌≡◌, ◌≢◌, ◌⊎◌, inl, inr, ℕ, zero, suc, ◌+◌, ◌<◌, ℤ, pos, negsuc, ◌+ℤ◌, ◌*ℤ◌, ◌≤ℤ◌, ◌<ℤ◌, List, [], ◌∷◌, ◌++◌, length, refl, ap, ◌∙◌, arith}
 use Rattle.std.specs.Prelude.{slice_index}
 use Rattle.std.proofs.lemmas.Int.{ints}
 use Rattle.std.proofs.lemmas.List.{length-append, length-map}
@@ -16,7 +16,8 @@ use Rattle.macro_layout.specs.Places.{Floorplan, bank_x}
 use Rattle.macro_layout.specs.Floorplan.{line_count, choice_count, rail_count}
 use Rattle.macro_layout.specs.Pins.{line_nets, choice_nets, rail_nets}
 use Rattle.macro_layout.specs.Stated.{IsShifted}
-use Rattle.view_cover.proofs.PlaceLaws.{LiesWithin, box_within, wider_within, shifted_within}
+use Rattle.view_cover.specs.Bits.{LiesWithin}
+use Rattle.view_cover.proofs.PlaceLaws.{box_within, wider_within, shifted_within}
 
 -- Kinds of wires
 

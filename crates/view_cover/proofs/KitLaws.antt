@@ -1,5 +1,5 @@
 -- The leaf cells of a kit fit its wires, and its metals are the first layers with their numbers.
-use Rattle.std.proofs.Common.{◌≡◌, ◌≢◌, ◌⊎◌, inl, inr, ℕ, zero, suc, ◌+◌, ◌*◌, ◌<◌, ◌≤◌, ℤ, pos, ◌+ℤ◌, ◌-ℤ◌, ◌≤ℤ◌, ◌<ℤ◌, List, [], ◌∷◌, Option, None, Some, refl, sym, ap, subst, ◌∙◌, arith}
+use Rattle.std.proofs.Common.{◌≡◌, ℕ, zero, suc, ◌<◌, ℤ, pos, ◌+ℤ◌, ◌-ℤ◌, ◌≤ℤ◌, ◌<ℤ◌, List, Option, None, Some, refl, sym, ap, subst, ◌∙◌, arith}
 use Rattle.std.specs.Prelude.{slice_get, slice_index, Contains, IfSome}
 use Rattle.std.specs.List.{AllByRecursion}
 use Rattle.std.proofs.lemmas.Int.{ints}
@@ -9,10 +9,16 @@ use Rattle.or_geom.specs.declared.shape.Shape.{Shape}
 use Rattle.or_geom.proofs.ListLaws.{all_contained, contained_at}
 use Rattle.cell_roles.specs.declared.role.Role.{Role}
 use Rattle.cell_roles.specs.declared.role.Role.TheVariants.{Bitcell, Precharge, Mux, Tie, Sense, Write, RowNand2, RowNand3, Driver, Nand2, Nand3, Inv, Dff, Delay}
+use Rattle.cell_roles.specs.declared.leaf_role.LeafRole.TheVariants.{Common}
 use Rattle.tech_rules.specs.declared.tech.Wire.{Wire}
 use Rattle.tech_rules.specs.WireRules.{first_bad_index}
 use Rattle.cell_hierarchy.specs.FlatSet.{IsFlatShape}
 use Rattle.channel_router.specs.Apart.{AreSevenLayers}
+use Rattle.sram_netlist.specs.Organization.{Organization}
+use Rattle.sram_netlist.specs.Instances.{LeafInstance, BitAt, NandAt, DriverAt, PrechargeAt, WriteAt, SenseAt, MuxAt, TieAt, LogicAt}
+use Rattle.sram_netlist.specs.Netlist.{role}
+use Rattle.sram_netlist.specs.Membership.{HasLeafInstance}
+use Rattle.sram_netlist.specs.BitCells.{BitCells}
 use Rattle.leaf_shapes.specs.declared.demand.Metal.{Metal}
 use Rattle.leaf_shapes.specs.declared.demand.Metal.TheVariants.{M1, M2, M3, M4}
 use Rattle.leaf_shapes.specs.declared.fit.CellSize.{CellSize}
@@ -24,16 +30,16 @@ use Rattle.leaf_shapes.specs.Fits.{IsAcross, IsUpward, FitsCell}
 use Rattle.leaf_tables.specs.declared.kit.Kit.{Kit}
 use Rattle.leaf_tables.specs.declared.kit.Leaf.{Leaf}
 use Rattle.leaf_tables.specs.Alignment.{height_in, width_in}
-use Rattle.leaf_tables.specs.Kits.{IsKit, source_of}
+use Rattle.leaf_tables.specs.Kits.{IsKit}
 use Rattle.leaf_tables.specs.Leaves.{size_of}
-use Rattle.macro_layout.specs.LayoutKit.{LayoutKit}
+use Rattle.macro_layout.specs.Places.{leaf_cell}
 use Rattle.macro_cells.specs.LeafSides.{side_of, leaf_width, leaf_height}
-use Rattle.macro_cells.specs.LayoutOfKit.{layout_kit, unit_square, pin_shape}
-use Rattle.view_cover.proofs.PlaceLaws.{LiesWithin, LiesInCell}
+use Rattle.macro_cells.specs.LayoutOfKit.{layout_kit, pin_shape}
+use Rattle.view_cover.specs.Bits.{LiesInCell, AreBitsInside}
 use Rattle.view_cover.proofs.LayerLaws.{IsFirst, flat_numbered, numbered_first, cut_first}
 use Rattle.view_cover.proofs.FitLaws.{IsLogicRole, FitsWires}
 use Rattle.macro_cells.proofs.DemandLaws.{wire_there, seven_in_kit}
-use Rattle.view_cover.proofs.RoleLaws.{metal_there, HasRole, role_leaf, width_is, height_is, shape_inside, IsPinAt, demand_at, shape_of, pin_inside, square_or, IsFoundPin, found_pin, cell_is}
+use Rattle.view_cover.proofs.RoleLaws.{metal_there, role_leaf, width_is, kit_sides, drawn_inside, IsPinAt, demand_at, shape_of, pin_inside, square_or, found_pin}
 use Rattle.view_cover.proofs.WholeLaws.{AreLayers}
 use Rattle.leaf_tables.proofs.RoleLaws.{in_kit}
 
@@ -274,27 +280,40 @@ module _ (kit : Kit) (is : IsKit kit) where
   allowed : first_bad_index kit.tech is.wire ≡ None
   allowed = subst (λ (w : Option Wire). IfSome w (λ (x : Wire). first_bad_index kit.tech x ≡ None)) is.wired is.tech.allowed
 
+  on_metal : (metal : ℕ) (s : Shape) → metal < 4 → s.layer ≡ slice_index is.wire.metals metal → Contains is.wire.metals s.layer
+  on_metal metal s lt on = subst (Contains is.wire.metals) (sym on) (metal_there is.wire metal (wire_there kit is).four lt)
+
   leaf_inside : (role : Role) (metal : ℕ) (s : Shape) → metal < 4 → IsFlatShape kit.tech.layers kit.lib.structs ((layout_kit kit).cell role) s → s.layer ≡ slice_index is.wire.metals metal → LiesInCell (leaf_width kit role) (leaf_height kit role) s.rect
   leaf_inside role metal s lt flat on =
       let l = role_leaf kit is role in
-      let h = in_kit kit role l.leaf is l.there in
-      let named = cell_is kit.tech.roles role h.cell h.sized.flat.plays in
-      let listed = (h.sized.flat.flat.shapes_exact s).1 (subst (λ (c : List ℕ). IsFlatShape kit.tech.layers kit.lib.structs c s) named flat) in
-      shape_inside kit is role l.leaf s l.there listed (subst (Contains is.wire.metals) (sym on) (metal_there is.wire metal (wire_there kit is).four lt))
+      drawn_inside kit is.wire (Common role) (leaf_width kit role) (leaf_height kit role) (kit_sides kit is role l.leaf l.there) s flat (on_metal metal s lt on)
 
-  layers : AreLayers kit.tech.layers is.wire (layout_kit kit) (IsFlatShape kit.tech.layers kit.lib.structs)
-  layers = record {
+  -- a bit's cell stands in the place of a bitcell
+  instance_inside : (plan : Organization) (bits : BitCells) → AreBitsInside kit is.wire plan bits → (leaf : LeafInstance) → HasLeafInstance plan leaf → (metal : ℕ) (s : Shape) → metal < 4
+      → IsFlatShape kit.tech.layers kit.lib.structs (leaf_cell plan (layout_kit kit) bits leaf) s → s.layer ≡ slice_index is.wire.metals metal → LiesInCell (leaf_width kit (role plan leaf)) (leaf_height kit (role plan leaf)) s.rect
+  instance_inside plan bits fits_place (BitAt b r c) has = λ metal s lt flat on. fits_place r c has.1.0 has.1.1 s flat (on_metal metal s lt on)
+  instance_inside plan bits fits_place (NandAt b r) has = leaf_inside (role plan (NandAt b r))
+  instance_inside plan bits fits_place (DriverAt b r) has = leaf_inside Driver
+  instance_inside plan bits fits_place (PrechargeAt b c) has = leaf_inside Precharge
+  instance_inside plan bits fits_place (WriteAt b i) has = leaf_inside Write
+  instance_inside plan bits fits_place (SenseAt b i) has = leaf_inside Sense
+  instance_inside plan bits fits_place (MuxAt b c) has = leaf_inside Mux
+  instance_inside plan bits fits_place (TieAt b c) has = leaf_inside Tie
+  instance_inside plan bits fits_place (LogicAt cell) has = leaf_inside (role plan (LogicAt cell))
+
+  layers : (plan : Organization) (bits : BitCells) → AreBitsInside kit is.wire plan bits → AreLayers kit.tech.layers is.wire plan (layout_kit kit) bits (IsFlatShape kit.tech.layers kit.lib.structs)
+  layers plan bits fits_place = record {
     seven = seven_in_kit kit is;
     metals = metals_first;
     cuts = cut_first kit.tech is.wire (wire_there kit is).three (wire_there kit is).four allowed;
-    leaves = leaf_inside;
+    leaves = instance_inside plan bits fits_place;
   }
 
-same_wire : (kit : Kit) (wire : Wire) (is : IsKit kit) → kit.tech.wire ≡ Some wire → is.wire ≡ wire
+pub same_wire : (kit : Kit) (wire : Wire) (is : IsKit kit) → kit.tech.wire ≡ Some wire → is.wire ≡ wire
 same_wire kit wire is wired = same_Some is.wire wire (sym is.wired ∙ wired)
 
 pub kit_fits : (kit : Kit) (wire : Wire) → IsKit kit → kit.tech.wire ≡ Some wire → FitsWires (layout_kit kit) wire
 kit_fits kit wire is wired = subst (FitsWires (layout_kit kit)) (same_wire kit wire is wired) (fits kit is)
 
-pub kit_layers : (kit : Kit) (wire : Wire) → IsKit kit → kit.tech.wire ≡ Some wire → AreLayers kit.tech.layers wire (layout_kit kit) (IsFlatShape kit.tech.layers kit.lib.structs)
-kit_layers kit wire is wired = subst (λ (w : Wire). AreLayers kit.tech.layers w (layout_kit kit) (IsFlatShape kit.tech.layers kit.lib.structs)) (same_wire kit wire is wired) (layers kit is)
+pub kit_layers : (kit : Kit) (wire : Wire) (plan : Organization) (bits : BitCells) → IsKit kit → kit.tech.wire ≡ Some wire → AreBitsInside kit wire plan bits → AreLayers kit.tech.layers wire plan (layout_kit kit) bits (IsFlatShape kit.tech.layers kit.lib.structs)
+kit_layers kit wire plan bits is wired = subst (λ (w : Wire). AreBitsInside kit w plan bits → AreLayers kit.tech.layers w plan (layout_kit kit) bits (IsFlatShape kit.tech.layers kit.lib.structs)) (same_wire kit wire is wired) (layers kit is plan bits)

@@ -1,6 +1,6 @@
 -- The metals and cuts of a kit are the first layers with their numbers.
-use Rattle.std.proofs.Common.{◌≡◌, ◌≢◌, ◌⊎◌, inl, inr, ℕ, zero, suc, ◌+◌, ◌<◌, ◌≤◌, ℤ, List, [], ◌∷◌, ◌++◌, map, take, length, get_or, Bool, true, false, cond, Option, None, Some, refl, sym, ap, subst, ◌∙◌, arith}
-use Rattle.std.specs.Prelude.{slice_get, slice_index, Contains, ◌||◌, ◌&&◌, find, not, if◌then◌else◌, unwrap_or, option_map}
+use Rattle.std.proofs.Common.{◌≡◌, inl, inr, ℕ, zero, suc, ◌<◌, ℤ, List, [], ◌∷◌, map, take, length, get_or, Bool, true, false, Option, None, Some, refl, sym, ap, subst, ◌∙◌, arith}
+use Rattle.std.specs.Prelude.{slice_get, slice_index, Contains, ◌||◌, find, not, if◌then◌else◌, unwrap_or, option_map}
 use Rattle.std.specs.List.{list_any}
 use Rattle.std.specs.Option.{option_or}
 use Rattle.std.specs.Ordering.{int_eq}
@@ -20,7 +20,7 @@ use Rattle.gds_library.specs.declared.library.Structure.{Structure}
 use Rattle.tech_rules.specs.declared.tech.Layer.{Layer}
 use Rattle.tech_rules.specs.declared.tech.Tech.{Tech}
 use Rattle.tech_rules.specs.declared.tech.Wire.{Wire}
-use Rattle.tech_rules.specs.WireRules.{has_numbers, is_hidden, is_bad_metal, is_bad_cut, breaks_cut_rules, joins, first_bad_cut, first_bad_index}
+use Rattle.tech_rules.specs.WireRules.{has_numbers, is_hidden, is_bad_metal, breaks_cut_rules, joins, first_bad_cut, first_bad_index}
 use Rattle.element_drawing.specs.Drawing.{IsDrawing}
 use Rattle.element_drawing.specs.OwnShapes.{layer_with_numbers, on_layer, AreOn, AreShapesOf, AreOwnShapes}
 use Rattle.cell_chains.specs.Chains.{elements_of}

@@ -1,12 +1,12 @@
 -- Leaf instances stand within a macro's contents: those of a bank within the bank, below its upper edge.
-use Rattle.std.proofs.Common.{◌≡◌, ◌⊎◌, inl, inr, ℕ, zero, suc, ◌+◌, ◌*◌, ◌<◌, ◌≤◌, ◌%◌, ℤ, pos, ◌+ℤ◌, ◌*ℤ◌, ◌≤ℤ◌, ◌<ℤ◌, List, [], ◌∷◌, ◌++◌, length, refl, sym, ap, subst, ◌∙◌, arith}
+use Rattle.std.proofs.Common.{◌≡◌, inl, ℕ, zero, suc, ◌+◌, ◌*◌, ◌<◌, ◌≤◌, ◌%◌, ℤ, pos, ◌+ℤ◌, ◌*ℤ◌, ◌≤ℤ◌, ◌<ℤ◌, List, [], ◌∷◌, ◌++◌, length, refl, sym, ap, subst, ◌∙◌, arith}
 use Rattle.std.specs.Prelude.{◌==◌}
 use Rattle.std.proofs.Math.Nat.{mul_assoc}
 use Rattle.std.proofs.lemmas.Int.{ints}
 use Rattle.or_geom.specs.declared.shape.Rect.{Rect}
 use Rattle.or_geom.specs.declared.place.Place.{Place}
 use Rattle.cell_roles.specs.declared.role.Role.{Role}
-use Rattle.cell_roles.specs.declared.role.Role.TheVariants.{Bitcell, Precharge, Mux, Tie, Sense, Write, RowNand2, RowNand3, Driver, Nand2, Nand3, Inv, Dff, Delay}
+use Rattle.cell_roles.specs.declared.role.Role.TheVariants.{Bitcell, Precharge, Mux, Tie, Sense, Write, Driver, Inv}
 use Rattle.tech_rules.specs.declared.tech.Wire.{Wire}
 use Rattle.tech_rules.specs.Drawing.{pitch}
 use Rattle.sram_netlist.specs.Organization.{Organization, words_per_row, bank_rows, columns_of, banks_of}
@@ -15,14 +15,16 @@ use Rattle.sram_netlist.specs.Instances.{LogicCell, LeafInstance, Clki, Csd, Wed
 use Rattle.sram_netlist.specs.Netlist.{role, row_gate, gate_of, logic_role, enable_inputs}
 use Rattle.sram_netlist.specs.InstanceList.{logic_cells}
 use Rattle.sram_netlist.specs.Membership.{HasLeafInstance}
+use Rattle.sram_netlist.proofs.Bounds.{written_fits, some_written, written_all}
 use Rattle.macro_layout.specs.LayoutKit.{LayoutKit}
-use Rattle.macro_layout.specs.Places.{Floorplan, upright, mirrored_at, in_row_at, bank_x, bit_width, bit_height, gate_width, drive_width, columns_x, column_x, total_width, StandsInRow, IsPlaceOf}
+use Rattle.macro_layout.specs.Places.{Floorplan, upright, in_row_at, bank_x, bit_width, bit_height, gate_width, drive_width, columns_x, column_x, total_width, IsPlaceOf}
 use Rattle.macro_layout.specs.Floorplan.{Tracks, column_role, column_channel_y, upper_y}
 use Rattle.macro_layout.specs.Wires.{row_y}
 use Rattle.macro_layout.specs.Channels.{IsPinFrom}
 use Rattle.view_cover.proofs.NumberLaws.{one_more, all_of, some_of, banks_before, banks_right}
-use Rattle.view_cover.proofs.PlaceLaws.{LiesWithin, StandsIn, image_within, width_within, row_at}
-use Rattle.view_cover.proofs.FitLaws.{IsLogicRole, FitsWires, AreGiven, contents_end, Rises, Reaches, rises, reaches, logic_ends}
+use Rattle.view_cover.specs.Bits.{LiesWithin}
+use Rattle.view_cover.proofs.PlaceLaws.{StandsIn, image_within, row_at}
+use Rattle.view_cover.proofs.FitLaws.{IsLogicRole, FitsWires, AreGiven, contents_end, rises, reaches, logic_ends}
 
 -- Roles
 
@@ -206,7 +208,10 @@ module _ (plan : Organization) (kit : LayoutKit) (wire : Wire) (tracks : Tracks)
 
   write_stands : (b i : ℕ) (place : Place) → HasLeafInstance plan (WriteAt b i) → IsPlaceOf plan kit f (WriteAt b i) place → InBank b f.sense_y (kit.width Write) (kit.height Write) place
   write_stands b i place has at =
-      upright_in b (kit.width Write) (kit.height Write) (column_x plan kit f (i * words_per_row plan)) f.write_y f.sense_y place at (column_from ((i * words_per_row plan) * bit_width kit)) (slice_to i (kit.width Write) has.1 g.write) write_low (let is = g.stands.sense_y in omega (arith, ints, is))
+      let written = some_written plan.write_size plan.word_size i has.1 in
+      let tall = written_all plan.write_size (kit.height Write) written in
+      upright_in b (kit.width Write) (kit.height Write) (column_x plan kit f (i * words_per_row plan)) f.write_y f.sense_y place at (column_from ((i * words_per_row plan) * bit_width kit))
+      (slice_to i (kit.width Write) (written_fits plan.write_size plan.word_size i has.1) (g.write written)) write_low (let is = g.stands.sense_y in omega (arith, ints, is, tall))
 
   column_up : (role : Role) → column_role plan.col_bits ≡ role → (f.column_y +ℤ pos (kit.height role)) ≤ℤ f.array_y
   column_up role is = subst (λ (r : Role). (f.column_y +ℤ pos (kit.height r)) ≤ℤ f.array_y) is (by f.column_y f.array_y (kit.height (column_role plan.col_bits)) g.stands.array_y) where

@@ -13,3 +13,4 @@ pub mod WholeLaws
 pub mod RoleLaws
 pub mod KitLaws
 pub mod CoveredLaws
+pub mod BitLaws

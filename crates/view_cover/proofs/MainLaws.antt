@@ -1,5 +1,5 @@
 -- The main channel's wires lie within the macro's contents, but for a port's trunk, which begins at the left side.
-use Rattle.std.proofs.Common.{◌≡◌, ◌⊎◌, inl, inr, ℕ, ◌+◌, ◌*◌, ◌<◌, ◌≤◌, ℤ, pos, ◌+ℤ◌, ◌*ℤ◌, ◌≤ℤ◌, ◌<ℤ◌, List, length, refl, sym, subst, arith}
+use Rattle.std.proofs.Common.{◌≡◌, ◌⊎◌, inl, inr, ℕ, ◌<◌, ℤ, pos, ◌+ℤ◌, ◌*ℤ◌, ◌≤ℤ◌, ◌<ℤ◌, List, length, refl, sym, subst, arith}
 use Rattle.std.specs.Prelude.{slice_index}
 use Rattle.std.proofs.lemmas.Int.{ints}
 use Rattle.std.proofs.lemmas.Option.{slice_get_within}
@@ -22,7 +22,8 @@ use Rattle.macro_layout.specs.Places.{Floorplan, bank_x, total_width}
 use Rattle.macro_layout.specs.Floorplan.{Tracks, rail_count, rail_x, upper_y}
 use Rattle.macro_layout.specs.Pins.{IsRailOf, rail_nets, port_nets}
 use Rattle.macro_layout.specs.Channels.{IsPinFrom, IsRoutedBy, IsChannelWire, IsTrunkAt, MeetsMainTopOfBanks, MeetsMainBottom, IsMainChannel}
-use Rattle.view_cover.proofs.PlaceLaws.{LiesWithin, box_within, width_within}
+use Rattle.view_cover.specs.Bits.{LiesWithin}
+use Rattle.view_cover.proofs.PlaceLaws.{box_within, width_within}
 use Rattle.view_cover.proofs.FitLaws.{AreGiven, contents_end, track_fits, track_above, rail_before, rail_from, logic_ends}
 use Rattle.view_cover.proofs.LeafLaws.{bank_from, bank_to, write_upper, pin_within, begins_within, logic_is, leaf_stands, logic_stands}
 use Rattle.view_cover.proofs.KindLaws.{IsPlain, via_cut, wide_box, not_third, not_fourth, rails_count, pin_cases, wire_behind, behind_wire, chain}

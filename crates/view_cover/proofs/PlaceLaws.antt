@@ -1,5 +1,5 @@
 -- Rectangles within bounds, and what stands in a place.
-use Rattle.std.proofs.Common.{◌≡◌, ◌⊎◌, inl, inr, ℕ, ℤ, pos, ◌+ℤ◌, ◌-ℤ◌, ◌≤ℤ◌, Bool, true, false, cond, sym, ap, subst, ◌∙◌, arith}
+use Rattle.std.proofs.Common.{◌≡◌, ◌⊎◌, inl, inr, ℕ, ℤ, pos, ◌+ℤ◌, ◌≤ℤ◌, Bool, true, false, cond, sym, ap, subst, ◌∙◌, arith}
 use Rattle.std.proofs.lemmas.Int.{ints, clamps}
 use Rattle.or_geom.specs.declared.shape.Rect.{Rect}
 use Rattle.or_geom.specs.declared.shape.Shape.{Shape}
@@ -8,13 +8,7 @@ use Rattle.or_geom.specs.Place.{placed, IsImage}
 use Rattle.tech_rules.specs.Drawing.{IsBox}
 use Rattle.macro_layout.specs.Places.{upright, mirrored_at}
 use Rattle.macro_layout.specs.Stated.{IsShifted}
-
--- the rectangle lies between these sides
-pub record LiesWithin (left low right high : ℤ) (r : Rect) : Type 0 where
-  pub from : left ≤ℤ r.x1
-  pub above : low ≤ℤ r.y1
-  pub to : r.x2 ≤ℤ right
-  pub below : r.y2 ≤ℤ high
+use Rattle.view_cover.specs.Bits.{LiesWithin, LiesInCell}
 
 pub box_within : (layer : ℕ) (x1 y1 x2 y2 left low right high : ℤ) (s : Shape) → IsBox layer x1 y1 x2 y2 s → left ≤ℤ x1 → low ≤ℤ y1 → x2 ≤ℤ right → y2 ≤ℤ high → LiesWithin left low right high s.rect
 box_within layer x1 y1 x2 y2 left low right high s is a b c d = record {
@@ -39,10 +33,6 @@ shifted_within dx left low right high s t moved is =
     let x2 = moved.x2 in
     let y2 = moved.y2 in
     record { from = omega (arith, ints, f, x1); above = omega (arith, ints, a, y1); to = omega (arith, ints, g, x2); below = omega (arith, ints, b, y2) }
-
--- the rectangle lies in a cell of these sides
-abbrev pub LiesInCell : ℕ → ℕ → Rect → Type 0
-LiesInCell width height = LiesWithin (pos 0) (pos 0) (pos width) (pos height)
 
 -- a cell of these sides stands in the place, upright or mirrored, from left to right and below the upper bound
 pub record StandsIn (left right high : ℤ) (width height : ℕ) (place : Place) : Type 0 where

@@ -1,20 +1,20 @@
 -- The leaf of each role of a kit, and the shapes of its pins.
-use Rattle.std.proofs.Common.{◌≡◌, ◌≢◌, ◌⊎◌, inl, inr, ℕ, zero, suc, ◌<◌, ◌≤◌, ℤ, pos, negsuc, ◌+ℤ◌, ◌≤ℤ◌, ◌<ℤ◌, Bool, true, false, cond, List, [], ◌∷◌, length, find, Option, None, Some, option_map, option_and_then, refl, sym, ap, subst, ◌∙◌, arith}
-use Rattle.std.specs.Prelude.{slice_get, slice_index, Contains, IfSome, ◌==◌, if◌then◌else◌}
-use Rattle.std.specs.List.{AllByRecursion}
+use Rattle.std.proofs.Common.{◌≡◌, inl, ℕ, suc, ◌<◌, ℤ, pos, negsuc, ◌≤ℤ◌, ◌<ℤ◌, Bool, true, false, cond, List, [], ◌∷◌, length, find, Option, None, Some, option_map, option_and_then, refl, sym, ap, subst, ◌∙◌, arith}
+use Rattle.std.specs.Prelude.{slice_get, slice_index, Contains, ◌==◌, if◌then◌else◌}
 use Rattle.std.specs.Str.{bytes_eq}
 use Rattle.std.proofs.lemmas.Bool.Decides.{Decides-eqb}
 use Rattle.std.proofs.lemmas.Int.{ints}
-use Rattle.std.proofs.lemmas.Option.{same_Some, slice_get-get_or, slice_get_within, get_or_from_slice_get}
+use Rattle.std.proofs.lemmas.Option.{same_Some, slice_get_within, get_or_from_slice_get}
 use Rattle.or_geom.specs.declared.shape.Rect.{Rect}
 use Rattle.or_geom.specs.declared.shape.Shape.{Shape}
-use Rattle.or_geom.proofs.ListLaws.{contained_at}
 use Rattle.cell_roles.specs.declared.role.Role.{Role}
-use Rattle.cell_roles.specs.Roles.{all_roles, role_name}
+use Rattle.cell_roles.specs.declared.leaf_role.LeafRole.{LeafRole}
+use Rattle.cell_roles.specs.declared.leaf_role.LeafRole.TheVariants.{Common}
+use Rattle.cell_roles.specs.Roles.{all_roles}
+use Rattle.cell_roles.specs.LeafRoles.{leaf_role_name}
 use Rattle.tech_rules.specs.declared.tech.RoleName.{RoleName}
 use Rattle.tech_rules.specs.declared.tech.Wire.{Wire}
-use Rattle.tech_rules.specs.Facts.{IsWire}
-use Rattle.channel_router.specs.Apart.{AreSevenLayers}
+use Rattle.cell_hierarchy.specs.FlatSet.{IsFlatShape}
 use Rattle.leaf_shapes.specs.declared.pins.LeafPin.{LeafPin}
 use Rattle.leaf_shapes.specs.Demands.{PinDemand, role_demands}
 use Rattle.leaf_shapes.specs.Pins.{IsPinFor}
@@ -23,11 +23,11 @@ use Rattle.leaf_tables.specs.declared.kit.Kit.{Kit}
 use Rattle.leaf_tables.specs.declared.kit.Leaf.{Leaf}
 use Rattle.leaf_tables.specs.Alignment.{role_number, leaf_in}
 use Rattle.leaf_tables.specs.Kits.{IsKit, source_of}
-use Rattle.leaf_tables.specs.Leaves.{IsLeaf, cell_named_for, drawing_in, size_of}
-use Rattle.port_lists.specs.Cells.{cell_in}
+use Rattle.leaf_tables.specs.Leaves.{LeafSource, IsLeaf, cell_named_for, drawing_in, size_of}
+use Rattle.port_lists.specs.Cells.{named_cell, cell_in}
 use Rattle.macro_cells.specs.LeafSides.{side_of, leaf_width, leaf_height}
-use Rattle.macro_cells.specs.LayoutOfKit.{layout_kit, unit_square, shape_or_square, pin_shape, pin_on, port_name, layer_of_metal, shape_on}
-use Rattle.view_cover.proofs.PlaceLaws.{LiesWithin, LiesInCell}
+use Rattle.macro_cells.specs.LayoutOfKit.{unit_square, shape_or_square, pin_shape, pin_on, port_name, layer_of_metal, shape_on}
+use Rattle.view_cover.specs.Bits.{LiesWithin, LiesInCell}
 use Rattle.leaf_tables.proofs.RoleLaws.{role_there, layer_at, metal_listed, in_kit}
 use Rattle.macro_cells.proofs.DemandLaws.{wire_there}
 
@@ -41,7 +41,7 @@ metal_there wire k four lt = layer_at wire.metals k (omega (arith, four, lt))
 pub record HasRole (kit : Kit) (is : IsKit kit) (role : Role) : Type 0 where
   pub leaf : Leaf
   pub there : leaf_in kit.leaves role ≡ Some leaf
-  pub has : IsLeaf (source_of kit is.wire) role leaf
+  pub has : IsLeaf (source_of kit is.wire) (Common role) leaf
 
 pub role_leaf : (kit : Kit) (is : IsKit kit) (role : Role) → HasRole kit is role
 role_leaf kit is role =
@@ -70,13 +70,22 @@ height_is kit is role leaf there =
 within_sides : (w h w2 h2 : ℤ) (outer r : Rect) → outer.x1 ≡ pos 0 → outer.y1 ≡ pos 0 → outer.x2 ≡ w → outer.y2 ≡ h → w2 ≡ w → h2 ≡ h → outer.x1 ≤ℤ r.x1 → outer.y1 ≤ℤ r.y1 → r.x2 ≤ℤ outer.x2 → r.y2 ≤ℤ outer.y2 → LiesWithin (pos 0) (pos 0) w2 h2 r
 within_sides w h w2 h2 outer r a b c d e k l m n o = record { from = omega (arith, ints, a, l); above = omega (arith, ints, b, m); to = omega (arith, ints, c, e, n); below = omega (arith, ints, d, k, o) }
 
+-- a leaf of the role with these sides
+pub record HasSides (source : LeafSource) (role : LeafRole) (w h : ℕ) : Type 0 where
+  pub leaf : Leaf
+  pub is : IsLeaf source role leaf
+  pub width : pos w ≡ leaf.width
+  pub height : pos h ≡ leaf.height
+
+abbrev pub kit_sides : (kit : Kit) (is : IsKit kit) (role : Role) (leaf : Leaf) → leaf_in kit.leaves role ≡ Some leaf → HasSides (source_of kit is.wire) (Common role) (leaf_width kit role) (leaf_height kit role)
+kit_sides kit is role leaf there = record { leaf = leaf; is = in_kit kit role leaf is there; width = width_is kit is role leaf there; height = height_is kit is role leaf there }
+
 -- a shape of the leaf's cell on a metal lies in the cell
-pub shape_inside : (kit : Kit) (is : IsKit kit) (role : Role) (leaf : Leaf) (s : Shape) (there : leaf_in kit.leaves role ≡ Some leaf) → Contains (in_kit kit role leaf is there).lists.shapes s → Contains is.wire.metals s.layer → LiesInCell (leaf_width kit role) (leaf_height kit role) s.rect
-shape_inside kit is role leaf s there listed metal =
-    let o = (in_kit kit role leaf is there).sized.outline in
+shape_inside : (source : LeafSource) (role : LeafRole) (w h : ℕ) (l : HasSides source role w h) (s : Shape) → Contains l.is.lists.shapes s → Contains source.wire.metals s.layer → LiesInCell w h s.rect
+shape_inside source role w h l s listed metal =
+    let o = l.is.sized.outline in
     let inside = o.inside s listed (inl metal) in
-    within_sides leaf.width leaf.height (pos (leaf_width kit role)) (pos (leaf_height kit role)) o.shape.rect s.rect o.is.left o.is.low o.is.right o.is.high (width_is kit is role leaf there) (height_is kit is role leaf there)
-    inside.left inside.low inside.right inside.high
+    within_sides l.leaf.width l.leaf.height (pos w) (pos h) o.shape.rect s.rect o.is.left o.is.low o.is.right o.is.high l.width l.height inside.left inside.low inside.right inside.high
 
 -- Pins
 
@@ -107,7 +116,7 @@ shape_of pin = record { layer = pin.layer; rect = pin.rect }
 
 pub pin_inside : (kit : Kit) (is : IsKit kit) (role : Role) (leaf : Leaf) (there : leaf_in kit.leaves role ≡ Some leaf) (demand : PinDemand) (pin : LeafPin) → IsPinAt kit is role leaf there demand pin → LiesInCell (leaf_width kit role) (leaf_height kit role) pin.rect
 pin_inside kit is role leaf there demand pin p =
-    shape_inside kit is role leaf (shape_of pin) there p.drawn.is.bound.binds.listed (subst (Contains is.wire.metals) (sym p.drawn.is.has.0) (metal_listed is.wire demand.metal (wire_there kit is).four))
+    shape_inside (source_of kit is.wire) (Common role) (leaf_width kit role) (leaf_height kit role) (kit_sides kit is role leaf there) (shape_of pin) p.drawn.is.bound.binds.listed (subst (Contains is.wire.metals) (sym p.drawn.is.has.0) (metal_listed is.wire demand.metal (wire_there kit is).four))
 
 -- What a layout takes for a pin
 
@@ -158,9 +167,20 @@ found_pin kit is role port metal r e =
 
 -- The cell's name
 
-pub cell_is : (entries : List RoleName) (role : Role) (cell : List ℕ) → cell_named_for entries role ≡ Some cell → cell_in entries role ≡ cell
-cell_is [] role cell e = absurd cc
-cell_is (r ∷ rs) role cell e = step (bytes_eq r.role (role_name role)) (cell_is rs role cell) e where
-  step : (b : Bool) → (cell_named_for rs role ≡ Some cell → cell_in rs role ≡ cell) → option_map (λ (entry : RoleName). entry.cell) (cond b (Some r) (find (λ (entry : RoleName). bytes_eq entry.role (role_name role)) rs)) ≡ Some cell → (if b then r.cell else cell_in rs role) ≡ cell
+pub leaf_cell_is : (entries : List RoleName) (role : LeafRole) (cell : List ℕ) → cell_named_for entries role ≡ Some cell → named_cell entries (leaf_role_name role) ≡ cell
+leaf_cell_is [] role cell e = absurd cc
+leaf_cell_is (r ∷ rs) role cell e = step (bytes_eq r.role (leaf_role_name role)) (leaf_cell_is rs role cell) e where
+  step : (b : Bool) → (cell_named_for rs role ≡ Some cell → named_cell rs (leaf_role_name role) ≡ cell) → option_map (λ (entry : RoleName). entry.cell) (cond b (Some r) (find (λ (entry : RoleName). bytes_eq entry.role (leaf_role_name role)) rs)) ≡ Some cell → (if b then r.cell else named_cell rs (leaf_role_name role)) ≡ cell
   step true later is = same_Some r.cell cell is
   step false later is = later is
+
+pub cell_is : (entries : List RoleName) (role : Role) (cell : List ℕ) → cell_named_for entries (Common role) ≡ Some cell → cell_in entries role ≡ cell
+cell_is entries role = leaf_cell_is entries (Common role)
+
+-- what the cell draws on a metal lies in the leaf's sides
+pub drawn_inside : (kit : Kit) (wire : Wire) (role : LeafRole) (w h : ℕ) → HasSides (source_of kit wire) role w h → (s : Shape) → IsFlatShape kit.tech.layers kit.lib.structs (named_cell kit.tech.roles (leaf_role_name role)) s → Contains wire.metals s.layer → LiesInCell w h s.rect
+drawn_inside kit wire role w h l s flat metal =
+    let plays = l.is.sized.flat in
+    let named = leaf_cell_is kit.tech.roles role l.is.cell plays.plays in
+    let listed = (plays.flat.shapes_exact s).1 (subst (λ (c : List ℕ). IsFlatShape kit.tech.layers kit.lib.structs c s) named flat) in
+    shape_inside (source_of kit wire) role w h l s listed metal

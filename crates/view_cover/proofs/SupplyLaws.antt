@@ -5,14 +5,13 @@ use Rattle.or_geom.specs.declared.shape.Shape.{Shape}
 use Rattle.cell_roles.specs.declared.role.Role.TheVariants.{Inv, Bitcell}
 use Rattle.tech_rules.specs.declared.tech.Wire.{Wire}
 use Rattle.tech_rules.specs.Drawing.{pitch}
-use Rattle.channel_router.specs.Channel.{places}
 use Rattle.sram_netlist.specs.Organization.{Organization, bank_rows}
 use Rattle.macro_layout.specs.LayoutKit.{LayoutKit}
 use Rattle.macro_layout.specs.Places.{Floorplan, columns_x, bit_height}
 use Rattle.macro_layout.specs.Floorplan.{Tracks, column_channel_y, upper_y}
 use Rattle.macro_layout.specs.Wires.{trunk_x, ground_x, IsSupplyTrunk, IsBar, row_y, IsPowerBarAt, IsGroundBarAt, IsPowerWire, IsGroundWire}
 use Rattle.view_cover.proofs.FitLaws.{AreGiven, rises, reaches}
-use Rattle.view_cover.proofs.LeafLaws.{array_upper, channel_upper, sense_upper, inv_upper}
+use Rattle.view_cover.proofs.LeafLaws.{array_upper, channel_upper, inv_upper}
 use Rattle.view_cover.proofs.KindLaws.{IsWide, IsCut, via_cut, wide_box, not_first, chain}
 use Rattle.view_cover.proofs.NumberLaws.{all_of}
 
@@ -73,8 +72,8 @@ module _ (plan : Organization) (kit : LayoutKit) (wire : Wire) (tracks : Tracks)
       let r = rises plan kit wire tracks f g in let a = r.to_inv in let b = inv_upper plan kit wire tracks f g in
       place x y f.logic_x (pos (kit.height Inv) -ℤ wire.width) h.0 h.1 logic_from (omega (arith, ints, a)) (omega (arith, ints, b))
   power_place x y (inr (inl h)) =
-      let r = rises plan kit wire tracks f g in let a = r.wire in let b = r.to_inv in let c = r.to_write in let d = r.to_sense in let e = sense_upper plan kit wire tracks f g in
-      place x y (columns_x plan kit f) f.write_y h.0 h.1 columns_from (omega (arith, ints, a, b, c)) (omega (arith, ints, d, e))
+      let r = rises plan kit wire tracks f g in let a = r.wire in let b = r.to_inv in let c = r.to_write in let d = r.to_sense in let e = r.to_channel in let u = channel_upper plan kit wire tracks f g in
+      place x y (columns_x plan kit f) f.write_y h.1 h.2 columns_from (omega (arith, ints, a, b, c)) (omega (arith, ints, d, e, u))
   power_place x y (inr (inr (inl h))) =
       let r = rises plan kit wire tracks f g in let a = r.wire in let b = r.to_inv in let c = r.to_write in let d = r.to_sense in let e = r.to_channel in let u = channel_upper plan kit wire tracks f g in
       place x y (columns_x plan kit f) (column_channel_y kit f -ℤ wire.width) h.0 h.1 columns_from (omega (arith, ints, a, b, c, d, e)) (omega (arith, ints, u))

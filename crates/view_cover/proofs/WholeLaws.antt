@@ -1,28 +1,31 @@
 -- Each shape of a layout on a metal is covered by the view's boxes.
-use Rattle.std.proofs.Common.{◌≡◌, ◌≢◌, ◌⊎◌, inl, inr, ℕ, ◌<◌, ◌≤◌, ℤ, pos, ◌+ℤ◌, ◌-ℤ◌, ◌*ℤ◌, ◌≤ℤ◌, List, refl, sym, ap, subst, ◌∙◌, arith}
+use Rattle.std.proofs.Common.{◌≡◌, ◌≢◌, ◌⊎◌, inl, inr, ℕ, ◌<◌, ◌≤◌, ℤ, pos, ◌+ℤ◌, ◌*ℤ◌, ◌≤ℤ◌, List, sym, ap, subst, ◌∙◌, arith}
 use Rattle.std.specs.Prelude.{slice_get, slice_index, Some}
 use Rattle.std.proofs.lemmas.Bool.{cases_lt}
 use Rattle.std.proofs.lemmas.Int.{ints}
 use Rattle.or_geom.specs.declared.shape.Rect.{Rect}
 use Rattle.or_geom.specs.declared.shape.Shape.{Shape}
-use Rattle.cell_roles.specs.declared.role.Role.{Role}
 use Rattle.tech_rules.specs.declared.tech.Layer.{Layer}
 use Rattle.tech_rules.specs.declared.tech.Wire.{Wire}
 use Rattle.tech_rules.specs.Drawing.{pitch}
 use Rattle.cell_builder.specs.Flat.{IsShapeTaken}
 use Rattle.channel_router.specs.Apart.{AreSevenLayers}
 use Rattle.sram_netlist.specs.Organization.{Organization}
+use Rattle.sram_netlist.specs.Instances.{LeafInstance}
 use Rattle.sram_netlist.specs.Netlist.{role}
+use Rattle.sram_netlist.specs.Membership.{HasLeafInstance}
+use Rattle.sram_netlist.specs.BitCells.{BitCells}
 use Rattle.sram_plan.specs.declared.view.Abstract.{Abstract}
 use Rattle.macro_layout.specs.LayoutKit.{LayoutKit}
-use Rattle.macro_layout.specs.Places.{Floorplan}
+use Rattle.macro_layout.specs.Places.{Floorplan, leaf_cell}
 use Rattle.macro_layout.specs.Floorplan.{Tracks, upper_y}
 use Rattle.macro_layout.specs.Layout.{IsOfLeaf}
-use Rattle.macro_layout.specs.Stated.{IsOnFirstLayer, IsWireInBanks, IsInMacro}
-use Rattle.macro_layout.specs.Wires.{trunk_x, ground_x, IsSupplyTrunk, IsPowerWire, IsGroundWire, IsWireInMacro}
+use Rattle.macro_layout.specs.Stated.{IsOnFirstLayer, IsInMacro}
+use Rattle.macro_layout.specs.Wires.{trunk_x, ground_x, IsSupplyTrunk, IsWireInMacro}
 use Rattle.macro_views.specs.Boxes.{IsCoveredOn}
 use Rattle.view_cover.specs.View.{IsViewOf}
-use Rattle.view_cover.proofs.PlaceLaws.{LiesWithin, LiesInCell, image_within}
+use Rattle.view_cover.specs.Bits.{LiesWithin, LiesInCell}
+use Rattle.view_cover.proofs.PlaceLaws.{image_within}
 use Rattle.view_cover.proofs.LayerLaws.{IsFirst}
 use Rattle.view_cover.proofs.FitLaws.{AreGiven, contents_end}
 use Rattle.view_cover.proofs.LeafLaws.{leaf_stands}
@@ -33,13 +36,13 @@ use Rattle.view_cover.proofs.SupplyLaws.{IsSupplyKind, power_wire, ground_wire}
 use Rattle.view_cover.proofs.CoverLaws.{IsSpread, inner_covered, wide_covered, trunk_covered, port_covered}
 
 -- A technology's metals and cuts are first with their numbers and differ, and a leaf's shapes on metals lie in its cell.
-pub record AreLayers (layers : List Layer) (wire : Wire) (kit : LayoutKit) (Flat : List ℕ → Shape → Type 0) : Type 0 where
+pub record AreLayers (layers : List Layer) (wire : Wire) (plan : Organization) (kit : LayoutKit) (bits : BitCells) (Flat : List ℕ → Shape → Type 0) : Type 0 where
   pub seven : AreSevenLayers wire
   pub metals : (metal : ℕ) → metal < 4 → IsFirst layers (slice_index wire.metals metal)
   pub cuts : (cut : ℕ) → cut < 3 → IsFirst layers (slice_index wire.cuts cut)
-  pub leaves : (role : Role) (metal : ℕ) (s : Shape) → metal < 4 → Flat (kit.cell role) s → s.layer ≡ slice_index wire.metals metal → LiesInCell (kit.width role) (kit.height role) s.rect
+  pub leaves : (leaf : LeafInstance) → HasLeafInstance plan leaf → (metal : ℕ) (s : Shape) → metal < 4 → Flat (leaf_cell plan kit bits leaf) s → s.layer ≡ slice_index wire.metals metal → LiesInCell (kit.width (role plan leaf)) (kit.height (role plan leaf)) s.rect
 
-module _ (layers : List Layer) (Flat : List ℕ → Shape → Type 0) (plan : Organization) (kit : LayoutKit) (wire : Wire) (tracks : Tracks) (f : Floorplan) (view : Abstract) (g : AreGiven plan kit wire tracks f) (l : AreLayers layers wire kit Flat) (v : IsViewOf plan kit wire tracks f view) where
+module _ (layers : List Layer) (Flat : List ℕ → Shape → Type 0) (plan : Organization) (kit : LayoutKit) (bits : BitCells) (wire : Wire) (tracks : Tracks) (f : Floorplan) (view : Abstract) (g : AreGiven plan kit wire tracks f) (l : AreLayers layers wire plan kit bits Flat) (v : IsViewOf plan kit wire tracks f view) where
   spread_from : (w s end : ℤ) → (view : Abstract) → pos 1 ≤ℤ w → pos 1 ≤ℤ s → view.wire ≡ w → view.space ≡ s → view.pitch ≡ w +ℤ s → view.supply_x ≡ end +ℤ s → view.width ≡ (end +ℤ s) +ℤ (pos 2 *ℤ (w +ℤ s)) → IsSpread view end
   spread_from w s end view a b c d e h i = record {
     wire = omega (arith, ints, a, c);
@@ -154,16 +157,16 @@ module _ (layers : List Layer) (Flat : List ℕ → Shape → Type 0) (plan : Or
     | inr supply ↦ supply_is _ s metal lt on o supply
   ]
 
-  leaf_is : (s : Shape) (metal : ℕ) → metal < 4 → s.layer ≡ slice_index wire.metals metal → IsOfLeaf plan kit f IsShapeTaken Flat s → IsCoveredOn view metal s.rect
+  leaf_is : (s : Shape) (metal : ℕ) → metal < 4 → s.layer ≡ slice_index wire.metals metal → IsOfLeaf plan kit bits f IsShapeTaken Flat s → IsCoveredOn view metal s.rect
   leaf_is s metal lt on o =
       let t = o.taken in
       let r = role plan o.leaf in
-      let inside = l.leaves r metal t.inner lt t.has (sym t.moved.layer ∙ on) in
+      let inside = l.leaves o.leaf o.has metal t.inner lt t.has (sym t.moved.layer ∙ on) in
       let stands = leaf_stands plan kit wire tracks f g o.leaf o.place o.has o.stands in
       inner_covered view (contents_end plan kit f) metal s.rect spread
       (as_view (contents_end plan kit f) s.rect (image_within (pitch wire) (contents_end plan kit f) (upper_y kit f) (kit.width r) (kit.height r) o.place t.inner.rect s.rect stands inside t.moved.image))
 
-  pub layout_is : (s : Shape) (metal : ℕ) → metal < 4 → s.layer ≡ slice_index wire.metals metal → IsInMacro layers Flat plan kit wire tracks f s → IsCoveredOn view metal s.rect
+  pub layout_is : (s : Shape) (metal : ℕ) → metal < 4 → s.layer ≡ slice_index wire.metals metal → IsInMacro layers Flat plan kit bits wire tracks f s → IsCoveredOn view metal s.rect
   layout_is s metal lt on (inl o) = macro_is s metal lt on o o.drawn
   layout_is s metal lt on (inr (inl o)) = plain_is _ s metal lt on o (banks_wire plan kit wire tracks f g o.wire o.drawn)
   layout_is s metal lt on (inr (inr o)) = leaf_is s metal lt on o

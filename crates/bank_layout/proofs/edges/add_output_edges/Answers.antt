@@ -2,7 +2,7 @@
 use Rattle.std.proofs.Common.{◌≡◌, ℕ, ◌*◌, ℤ, pos, ◌+ℤ◌, w64, to_z, of_z, ap, ◌∙◌, arith}
 use Rattle.std.proofs.lemmas.Int.{ints, to_z-of_z}
 use Rattle.port_lists.proofs.TabulateLaws.{grown_as, all_of}
-use Rattle.sram_netlist.specs.Organization.{words_per_row}
+use Rattle.sram_netlist.specs.Organization.{inputs_of, words_per_row}
 use Rattle.sram_plan.specs.PlanNumbers.{organization}
 use Rattle.part_edges.specs.PartPins.{edge_at}
 use Rattle.bank_layout.specs.BankEdges.{output_edge}
@@ -20,5 +20,5 @@ loop-bit-preserved c =
 
 pub returns : goal.returns
 returns c =
-    let far : c.loop-bit.bit ≡ c.args.plan.now.word_size = omega arith in
-    rw (to_z-of_z w64 c.args.first c.ranges.first) at (all_of _ _ c.loop-bit.bit c.args.plan.now.word_size (output_edge (to_z w64 (of_z w64 c.args.first)) (words_per_row (organization c.args.plan.now)) c.args.width) c.loop-bit.invariant far)
+    let far : c.loop-bit.bit ≡ inputs_of (organization c.args.plan.now) = omega arith in
+    rw (to_z-of_z w64 c.args.first c.ranges.first) at (all_of _ _ c.loop-bit.bit (inputs_of (organization c.args.plan.now)) (output_edge (to_z w64 (of_z w64 c.args.first)) (words_per_row (organization c.args.plan.now)) c.args.width) c.loop-bit.invariant far)

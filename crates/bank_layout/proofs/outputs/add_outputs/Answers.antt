@@ -2,7 +2,7 @@
 use Rattle.std.proofs.Common.{◌≡◌, ℕ, ◌*◌, ℤ, pos, ◌+ℤ◌, w64, to_z, of_z, subst, ap, ◌∙◌, arith}
 use Rattle.std.proofs.lemmas.Int.{ints, to_z-of_z}
 use Rattle.or_geom.specs.Adds.{Adds}
-use Rattle.sram_netlist.specs.Organization.{words_per_row}
+use Rattle.sram_netlist.specs.Organization.{inputs_of, words_per_row}
 use Rattle.sram_plan.specs.PlanNumbers.{organization}
 use Rattle.bank_layout.specs.Outputs.{IsOutputBelow}
 use Rattle.bank_layout.proofs.DrawLaws.{output_more}
@@ -25,6 +25,6 @@ loop-bit-preserved c =
 
 pub returns : goal.returns
 returns c =
-    let all : c.loop-bit.bit ≡ c.args.plan.now.word_size = omega arith in
+    let all : c.loop-bit.bit ≡ inputs_of (organization c.args.plan.now) = omega arith in
     subst (λ (n : ℕ). Adds c.args.shapes.now.items c.loop-bit.shapes.items (IsOutputBelow c.args.wire.now c.args.first (words_per_row (organization c.args.plan.now)) c.args.width c.args.top n)) all
     (rw (to_z-of_z w64 c.args.first c.ranges.first, to_z-of_z w64 c.args.top c.ranges.top) at c.loop-bit.invariant)

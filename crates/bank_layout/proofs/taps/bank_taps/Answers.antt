@@ -34,7 +34,7 @@ pub add_choice_taps-requires-clause-low : goal.add_choice_taps-requires-clause-l
 add_choice_taps-requires-clause-low c =
     let near = c.requires.near in
     let tall = c.requires.sides.sense_height.to in
-    let write = c.requires.sides.write_height.to in
+    let write = c.requires.sides.write_height in
     let stands = c.requires.stands in
     record {
       above = omega (arith, ints, near.sense_y.above, near.sense_y.below, near.write_y.above, near.write_y.below, tall, write, stands);

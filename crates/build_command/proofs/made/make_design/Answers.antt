@@ -1,27 +1,5 @@
-use Rattle.std.proofs.Common.{sym, subst}
-use Rattle.std.proofs.lemmas.Result.{err_from_is_err_and}
-use Rattle.command_steps.specs.Writing.{HaveAsciiNames}
-use Rattle.build_command.specs.declared.made.Made.{Made}
-use Rattle.build_command.specs.Made.{IsDesignMade}
-use Rattle.build_command.proofs.NameLaws.{views_ascii}
-use Rattle.build_command.proofs.StepLaws.{memory_instead, memory_reads, memory_words}
+use Rattle.build_command.proofs.GoodLaws.{design_written}
 use Rattle.build_command.proofs.made.make_design.Goals as goal
 
-pub returns-in-Ok-clause-names : goal.returns-in-Ok-clause-names
-returns-in-Ok-clause-names g c =
-    subst (λ (made : Made). HaveAsciiNames made.views) (sym c.in_ok-made_of-in-Ok.ensures) (views_ascii c.args.design.config c.in-Ok.built c.requires.good.config)
-
-pub returns-in_err-made_of-in-Ok-clause-made : goal.returns-in_err-made_of-in-Ok-clause-made
-returns-in_err-made_of-in-Ok-clause-made g c =
-    let p = err_from_is_err_and c.from_residual.result c.from_residual.ensures.1 in
-    rw p.1 (memory_instead (IsDesignMade c.args.design) p.0 p.2)
-
-pub returns-in_err-made_of-in-Ok-clause-read : goal.returns-in_err-made_of-in-Ok-clause-read
-returns-in_err-made_of-in-Ok-clause-read g c =
-    let p = err_from_is_err_and c.from_residual.result c.from_residual.ensures.1 in
-    rw p.1 (memory_reads p.0 p.2)
-
-pub returns-in_err-made_of-in-Ok-clause-words : goal.returns-in_err-made_of-in-Ok-clause-words
-returns-in_err-made_of-in-Ok-clause-words g c =
-    let p = err_from_is_err_and c.from_residual.result c.from_residual.ensures.1 in
-    rw p.1 (memory_words p.0 p.2)
+pub make_ordered-requires-clause-held : goal.make_ordered-requires-clause-held
+make_ordered-requires-clause-held g c = λ lifetimes within. design_written c.args.design c.requires.good

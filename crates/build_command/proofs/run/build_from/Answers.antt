@@ -1,8 +1,10 @@
-use Rattle.build_command.proofs.RunLaws.{build_put, build_refused}
+use Rattle.std.proofs.Common.{refl}
+use Rattle.build_command.specs.Words.Making.{build}
+use Rattle.build_command.proofs.RunLaws.{work_put, work_refused}
 use Rattle.build_command.proofs.run.build_from.Goals as goal
 
 pub returns-in-Ok : goal.returns-in-Ok
-returns-in-Ok g c = build_put c.args.config.now c.in-Ok.made c.put_out.result _ _ _ _ c.in-Ok.ensures.read c.in-Ok.ensures.done c.put_out.ensures
+returns-in-Ok g c = work_put (build c.args.config.now) refl c.in-Ok.made c.put_out.result _ _ _ _ c.in-Ok.ensures.read c.in-Ok.ensures.done c.put_out.ensures
 
 pub returns-in-Err : goal.returns-in-Err
-returns-in-Err g c = build_refused c.args.config.now c.in-Err.refusal c.refuse.result _ _ _ _ c.in-Err.ensures.read c.in-Err.ensures.words c.refuse.ensures
+returns-in-Err g c = work_refused (build c.args.config.now) refl c.in-Err.refusal c.refuse.result _ _ _ _ tt c.in-Err.ensures.read c.in-Err.ensures.words c.refuse.ensures

@@ -1,4 +1,4 @@
-use Rattle.std.proofs.Common.{◌≡◌, ◌+◌, ◌≤◌, List, IfOk, ap, sym, subst, ◌∙◌, arith}
+use Rattle.std.proofs.Common.{List, IfOk, ap, sym, subst, ◌∙◌, arith}
 use Rattle.std.specs.List.{AllByRecursion}
 use Rattle.or_geom.specs.Place.{IsNearPoint}
 use Rattle.cell_builder.specs.declared.cell.PlacedInstance.{PlacedInstance}
@@ -6,7 +6,6 @@ use Rattle.cell_builder.specs.declared.cell.DrawnCell.{DrawnCell}
 use Rattle.netlist.specs.declared.deck.Subckt.{Subckt}
 use Rattle.sram_netlist.specs.InstanceList.{logic_cells}
 use Rattle.sram_plan.specs.PlanNumbers.{organization}
-use Rattle.macro_layout.specs.Places.{total_width}
 use Rattle.macro_cells.specs.LayoutOfKit.{layout_kit}
 use Rattle.part_edges.specs.PartPins.{PartPin, part_pins, AreEdgesOf}
 use Rattle.control_logic.proofs.RowLaws.{near_row}

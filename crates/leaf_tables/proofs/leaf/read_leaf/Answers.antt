@@ -6,4 +6,4 @@ use Rattle.leaf_tables.proofs.leaf.read_leaf.Goals as goal
 
 pub unreachable-requires : goal.unreachable-requires
 unreachable-requires c =
-    has_cell c.args.tech.now c.args.role c.requires.tables (subst (λ (entries : List RoleName). cell_named_for entries c.args.role ≡ None) c.as_slice.ensures (sym c.in_default.ensures))
+    has_cell c.args.tech.now c.args.role c.requires.cell (subst (λ (entries : List RoleName). cell_named_for entries c.args.role ≡ None) c.as_slice.ensures (sym c.in_default.ensures))

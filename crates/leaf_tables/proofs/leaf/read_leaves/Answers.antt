@@ -5,6 +5,9 @@ use Rattle.leaf_tables.specs.Steps.{source_in}
 use Rattle.leaf_tables.proofs.LeafLaws.{leaves_lack, leaves_more}
 use Rattle.leaf_tables.proofs.leaf.read_leaves.Goals as goal
 
+pub read_leaf-requires-clause-cell : goal.read_leaf-requires-clause-cell
+read_leaf-requires-clause-cell c = (c.requires.tables c.role_at-role.result).cell
+
 pub returns-in-Err-clause-fault : goal.returns-in-Err-clause-fault
 returns-in-Err-clause-fault c =
     let role = c.role_at-role.result in

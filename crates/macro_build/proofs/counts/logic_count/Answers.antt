@@ -10,5 +10,6 @@ groups_count-requires-clause-small c = groups_small c.args.plan.now.groups c.req
 pub returns : goal.returns
 returns c =
     let plan = c.args.plan.now in
-    logic_total (organization plan) plan.groups c.from.result c.line_count.result c.groups_count.result c.from-2.result c.from-3.result c.line_count-2.result c.enable_cell_count.result refl
-    (c.from.ensures ∙ bits_are (numbers_of plan) c.requires) c.line_count.ensures.count c.groups_count.ensures.count c.from-2.ensures c.from-3.ensures c.line_count-2.ensures.count c.enable_cell_count.ensures.count
+    logic_total (organization plan) plan.groups c.fixed_count.result c.from.result c.line_count.result c.groups_count.result c.from-2.result c.from-3.result c.line_count-2.result c.enable_cell_count.result refl
+    c.fixed_count.ensures.count (c.from.ensures ∙ bits_are (numbers_of plan) c.requires) c.line_count.ensures.count c.groups_count.ensures.count (c.from-2.ensures ∙ c.inputs_of.ensures) c.from-3.ensures
+    c.line_count-2.ensures.count c.enable_cell_count.ensures.count

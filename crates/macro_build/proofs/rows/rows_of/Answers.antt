@@ -1,9 +1,9 @@
-use Rattle.std.proofs.Common.{◌≡◌, ◌∙◌, List, ℕ, map, ap, subst}
+use Rattle.std.proofs.Common.{◌≡◌, ◌∙◌, List, ℕ, subst}
 use Rattle.netlist.specs.declared.deck.Subckt.{Subckt}
-use Rattle.cell_roles.specs.declared.role.Role.{Role}
 use Rattle.spice_netlist.specs.Faults.{AreFlatRows, IsFlatFault}
-use Rattle.port_lists.specs.Cells.{cell_in}
-use Rattle.macro_build.specs.Built.{all_subckts, leaf_names}
+use Rattle.port_lists.specs.Held.{held_of}
+use Rattle.sram_macro.specs.Leaves.{leaf_names}
+use Rattle.macro_build.specs.Built.{all_subckts}
 use Rattle.macro_build.proofs.NetlistLaws.{netlist_of}
 use Rattle.macro_build.proofs.rows.rows_of.Goals as goal
 
@@ -12,7 +12,7 @@ returns-in-Ok c =
     let kit = c.args.kit.now in
     let name = c.args.name.now in
     let rows = c.in-Ok.rows.pins in
-    let leaves : c.deref.result.now ≡ leaf_names kit = c.deref.ensures.value ∙ (c.in_ok-leaves.ensures ∙ ap (λ (roles : List Role). map (cell_in kit.tech.roles) roles) c.all.ensures) in
+    let leaves : c.deref.result.now ≡ leaf_names kit (held_of c.args.contents) = c.deref.ensures.value ∙ c.in_ok-leaves.ensures in
     subst (λ (l : List (List ℕ)). AreFlatRows (all_subckts kit c.args.made.now) name l rows) leaves
     (subst (λ (l : List Subckt). AreFlatRows l name c.deref.result.now rows) c.in_ok-deck.ensures c.in-Ok.ensures.rows)
 
@@ -20,9 +20,10 @@ pub unreachable-requires : goal.unreachable-requires
 unreachable-requires c =
     let kit = c.args.kit.now in
     let name = c.args.name.now in
+    let held = held_of c.args.contents in
     let fault = c.in-Err.fault in
-    let leaves : c.deref.result.now ≡ leaf_names kit = c.deref.ensures.value ∙ (c.in_ok-leaves.ensures ∙ ap (λ (roles : List Role). map (cell_in kit.tech.roles) roles) c.all.ensures) in
-    let is : IsFlatFault (all_subckts kit c.args.made.now) name (leaf_names kit) fault =
+    let leaves : c.deref.result.now ≡ leaf_names kit held = c.deref.ensures.value ∙ c.in_ok-leaves.ensures in
+    let is : IsFlatFault (all_subckts kit c.args.made.now) name (leaf_names kit held) fault =
     subst (λ (l : List (List ℕ)). IsFlatFault (all_subckts kit c.args.made.now) name l fault) leaves
     (subst (λ (l : List Subckt). IsFlatFault l name c.deref.result.now fault) c.in_ok-deck.ensures c.in-Err.ensures.fault) in
-    (netlist_of c.rows_equal_netlist.ensures kit c.args.plan.now name c.args.made.now c.requires.plan c.requires.made).faults fault (λ e. c.in_default.not-Memory e) is
+    (netlist_of c.rows_equal_netlist.ensures kit c.args.plan.now held name c.args.made.now c.requires.plan c.requires.made).faults fault (λ e. c.in_default.not-Memory e) is

@@ -6,6 +6,7 @@ use Rattle.cell_hierarchy.proofs.FlatLaws.{labels_are_few}
 use Rattle.cell_hierarchy.proofs.FlatShapeLaws.{shapes_are_few}
 use Rattle.cell_hierarchy.proofs.OneListsLaws.{shapes_of_lists}
 use Rattle.cell_hierarchy.proofs.OneSetLaws.{one_set}
+use Rattle.port_lists.specs.Held.{held_of}
 use Rattle.macro_build.specs.Built.{IsBuildFault}
 use Rattle.macro_build.proofs.CheckLaws.{flatten_cause}
 use Rattle.macro_build.proofs.NearLaws.{flat_near}
@@ -38,6 +39,7 @@ pub returns-in_err-flatten-clause-fault : goal.returns-in_err-flatten-clause-fau
 returns-in_err-flatten-clause-fault c =
     let kit = c.args.kit.now in
     let plan = c.args._plan.now in
+    let held = held_of c.args._contents in
     let name = c.args.name.now in
     let p = err_from_is_err_and c.from_residual.result c.from_residual.ensures.1 in
-    rw p.1 (subst (IsBuildFault kit plan name) (sym p.2) (flatten_cause kit plan name c.args.made.now c.in_err-flatten.field-0.0 c.requires.made c.in_err-flatten.ensures.fault))
+    rw p.1 (subst (IsBuildFault kit plan held name) (sym p.2) (flatten_cause kit plan held name c.args.made.now c.in_err-flatten.field-0.0 c.requires.made c.in_err-flatten.ensures.fault))

@@ -1,9 +1,10 @@
 use Rattle.cell_hierarchy.specs.Plain.{lists_of}
+use Rattle.port_lists.specs.Held.{held_of}
 use Rattle.macro_build.proofs.CheckLaws.{first_differing}
 use Rattle.macro_build.proofs.sound.net_difference.Goals as goal
 
 pub returns : goal.returns
 returns g c =
     let found = c.in_ok-compare.field-0 in
-    first_differing c.args.kit.now c.args.name.now c.args.made.now (lists_of c.args.flat.now) c.in_ok-nets.nets.labels c.in_ok-rows.rows.pins found
+    first_differing c.args.kit.now (held_of c.args.contents) c.args.name.now c.args.made.now (lists_of c.args.flat.now) c.in_ok-nets.nets.labels c.in_ok-rows.rows.pins found
     (record { nets = c.in_ok-nets.ensures; netlist = c.in_ok-rows.ensures }) c.in_ok-compare.ensures.none c.in_ok-compare.ensures.first

@@ -1,4 +1,4 @@
--- The gate, the driver and the bitcells are those that are stated.
+-- The gate, the driver and the cells of the bits are those that are stated.
 use Rattle.std.proofs.Common.{pos, ap, ◌∙◌}
 use Rattle.std.specs.Prelude.{codes}
 use Rattle.cell_roles.specs.declared.role.Role.{Role}
@@ -7,12 +7,12 @@ use Rattle.sram_netlist.specs.Netlist.{row_gate}
 use Rattle.port_lists.specs.Cells.{cell_in}
 use Rattle.macro_layout.specs.Places.{upright}
 use Rattle.macro_cells.specs.LeafSides.{leaf_width}
-use Rattle.macro_cells.proofs.PlaceLaws.{cell_from_two, at_same}
+use Rattle.macro_cells.proofs.PlaceLaws.{of_same_name, cell_from_two, at_same}
 use Rattle.macro_cells.proofs.row.row_cell.Goals as goal
 
 pub returns : goal.returns
 returns c =
     let gate = c.gate_of_row-gate.ensures ∙ ap row_gate (c.deref.ensures.value ∙ c.in_ok-groups.ensures) in
-    cell_from_two _ _ _ _ _ _ _ _ _ _ _ c.in_ok-bare_cell.ensures c.new-instances.ensures.items c.in_ok-push.ensures.items c.in_ok-push-2.ensures.items c.in_ok-add_bitcells.ensures
+    cell_from_two _ _ _ _ _ _ _ _ _ _ _ (of_same_name _ _ _ _ c.unwired_cell.ensures (c.in_ok-row_name.ensures c.args.kit.now.tech.roles)) c.new-instances.ensures.items c.in_ok-push.ensures.items c.in_ok-push-2.ensures.items c.in_ok-add_bits.ensures
     (c.in_ok-leaf_at.ensures ∙ ap (λ (r : Role). instance_at (codes "xnand") (cell_in c.args.kit.now.tech.roles r) (upright (pos 0) (pos 0))) gate)
     (at_same _ _ _ _ _ _ c.in_ok-leaf_at-2.ensures (c.leaf_width-gate_width.ensures.is ∙ ap (leaf_width c.args.kit.now) gate))

@@ -1,7 +1,8 @@
 -- The bar of a row that has one.
-use Rattle.std.proofs.Common.{arith}
+use Rattle.std.proofs.Common.{◌≡◌, ◌%◌, ◌*◌, pos, ◌+ℤ◌, arith}
 use Rattle.std.proofs.lemmas.Int.{ints}
-use Rattle.macro_wires.proofs.BarLaws.{row_drawn, bar_as}
+use Rattle.macro_layout.specs.Wires.{IsBar}
+use Rattle.macro_wires.proofs.BarLaws.{adds_where, bar_as}
 use Rattle.macro_wires.proofs.shapes.add_row_bar.Goals as goal
 
 pub returns : goal.returns
@@ -10,5 +11,5 @@ returns c =
     let y = c.requires.low in
     let far = c.extent.ensures.value in
     let few = c.extent.ensures.few in
-    row_drawn c.args.wire.now c.args.trunk c.args.from.x c.args.from.y c.args.height c.args.odd c.args.row _ _ c.if-row-odd.false
+    adds_where (c.args.row % 2 ≡ c.args.odd) (IsBar c.args.wire.now c.args.trunk c.args.from.x (c.args.from.y +ℤ pos (c.args.row * c.args.height))) _ _ c.if-row-odd.false
     (bar_as c.args.wire.now _ _ _ _ _ _ _ _ c.in_ok-add_bar.ensures (omega (arith, ints, x.above, x.below)) (omega (arith, ints)) (omega (arith, ints, y.above, y.below, far, few)))

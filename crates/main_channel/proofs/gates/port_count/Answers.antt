@@ -16,5 +16,8 @@ overflow_add-result-3 c = let few = few_ports (organization c.args.plan.now) c.r
 pub overflow_add-result-4 : goal.overflow_add-result-4
 overflow_add-result-4 c = let few = few_ports (organization c.args.plan.now) c.requires.plan in let bits = c.requires.addr_bits in omega (arith, few, bits)
 
+pub overflow_add-result-5 : goal.overflow_add-result-5
+overflow_add-result-5 c = let few = few_ports (organization c.args.plan.now) c.requires.plan in let bits = c.requires.addr_bits in omega (arith, few, bits)
+
 pub returns-clause-few : goal.returns-clause-few
 returns-clause-few c = let few = few_ports (organization c.args.plan.now) c.requires.plan in let bits = c.requires.addr_bits in omega (arith, few, bits)

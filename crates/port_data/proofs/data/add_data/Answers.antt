@@ -1,5 +1,5 @@
 -- The data on the floorplan of a main channel without tracks, and so on each.
-use Rattle.std.proofs.Common.{◌≡◌, ◌≤◌, ◌<◌, List, Some, ap, sym, subst, ◌∙◌, pos, ℕ, ◌*◌, to_z, of_z, w64, arith}
+use Rattle.std.proofs.Common.{◌≡◌, List, ap, sym, subst, ◌∙◌, pos, ℕ, ◌*◌, to_z, of_z, w64, arith}
 use Rattle.std.specs.Prelude.{◌-ℤ◌}
 use Rattle.std.specs.List.{AllByRecursion}
 use Rattle.std.proofs.lemmas.Int.{ints}
@@ -13,14 +13,12 @@ use Rattle.cell_builder.specs.declared.cell.PlacedInstance.{PlacedInstance}
 use Rattle.cell_builder.specs.declared.cell.DrawnCell.{DrawnCell}
 use Rattle.cell_builder.specs.CellList.{with_drawn}
 use Rattle.sram_netlist.specs.Organization.{columns_of}
-use Rattle.sram_deck.specs.Deck.{data_instances}
 use Rattle.sram_plan.specs.PlanNumbers.{organization}
 use Rattle.port_lists.specs.Cells.{cell_in}
-use Rattle.macro_layout.specs.Places.{bit_width}
 use Rattle.macro_layout.specs.Floorplan.{IsFloorplan}
 use Rattle.macro_layout.specs.Cells.{data_cell}
 use Rattle.macro_cells.specs.LayoutOfKit.{layout_kit}
-use Rattle.macro_wires.specs.FloorplanNumbers.{floorplan_of, IsFloorplanLength}
+use Rattle.macro_wires.specs.FloorplanNumbers.{floorplan_of}
 use Rattle.macro_wires.proofs.JoinerLaws.{apart}
 use Rattle.part_edges.specs.Additions.{with_subckt}
 use Rattle.part_edges.specs.PartPins.{PartPin, part_pins, AreEdgesOf}

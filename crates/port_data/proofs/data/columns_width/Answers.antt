@@ -1,5 +1,5 @@
 -- The width of all columns.
-use Rattle.std.proofs.Common.{◌≡◌, ◌≤◌, ◌*◌, ℕ, ℤ, pos, ◌≤ℤ◌, sym, subst, ap, ◌∙◌, to_z, of_z, w64, arith}
+use Rattle.std.proofs.Common.{◌≡◌, ◌*◌, ℕ, pos, ap, ◌∙◌, to_z, of_z, w64, arith}
 use Rattle.std.proofs.lemmas.Int.{ints}
 use Rattle.sram_plan.specs.PlanNumbers.{numbers_of}
 use Rattle.port_lists.proofs.NumberLaws.{columns_are}

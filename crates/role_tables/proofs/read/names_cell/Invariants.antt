@@ -1,8 +1,8 @@
 use Rattle.std.proofs.Common.{◌≡◌}
 use Rattle.or_geom.proofs.GatheringLaws.{IsAmongLeft}
-use Rattle.cell_roles.specs.Roles.{role_name}
+use Rattle.cell_roles.specs.LeafRoles.{leaf_role_name}
 use Rattle.tech_rules.specs.declared.tech.RoleName.{RoleName}
 use Rattle.role_tables.proofs.read.names_cell.Given as goal
 
 abbrev pub invariant-loop-entry : goal.invariant-loop-entry
-invariant-loop-entry l = IsAmongLeft (λ (entry : RoleName). entry.role ≡ role_name l.role) l.entries l.entry-index
+invariant-loop-entry l = IsAmongLeft (λ (entry : RoleName). entry.role ≡ leaf_role_name l.role) l.entries l.entry-index

@@ -3,7 +3,7 @@ use Rattle.std.specs.Prelude.{◌==◌}
 use Rattle.std.proofs.lemmas.Bool.{true≢false}
 use Rattle.std.proofs.lemmas.Result.{err_from_is_err_and}
 use Rattle.or_geom.specs.Gathering.{SomeHas}
-use Rattle.cell_roles.specs.Roles.{role_name}
+use Rattle.cell_roles.specs.LeafRoles.{leaf_role_name}
 use Rattle.tech_rules.specs.declared.tech.RoleName.{RoleName}
 use Rattle.tech_rules.specs.declared.tech.RoleRows.{RoleRows}
 use Rattle.role_tables.specs.Fault.{IsRowsFault}
@@ -17,7 +17,7 @@ returns-in_err-rows-clause-err c =
     let role = c.args.role in
     let texts : c.texts_of-texts.result.now ≡ texts_of c.args.tech.now.tables role = c.texts_of-texts.ensures ∙ ap (λ (l : List RoleRows). texts_of l role) c.as_slice.ensures in
     let bad = subst (λ (l : List (List ℕ)). IsRowsFault role l c.in_err-rows.field-0.0) texts c.in_err-rows.ensures.err in
-    let cell = subst (λ (l : List RoleName). SomeHas (λ (entry : RoleName). entry.role ≡ role_name role) l) c.as_slice-2.ensures (c.names_cell.ensures.0 c.if-not-names_cell.false) in
+    let cell = subst (λ (l : List RoleName). SomeHas (λ (entry : RoleName). entry.role ≡ leaf_role_name role) l) c.as_slice-2.ensures (c.names_cell.ensures.0 c.if-not-names_cell.false) in
     let some : texts_of c.args.tech.now.tables role ≢ [] = λ none.
     let test : (length c.texts_of-texts.result.now == 0) ≡ true = ap (λ (l : List (List ℕ)). length l == 0) (texts ∙ none) in
     true≢false (sym test ∙ sym c.is_empty.ensures ∙ c.if-is_empty.false) in

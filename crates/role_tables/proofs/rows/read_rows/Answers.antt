@@ -4,7 +4,7 @@ use Rattle.or_geom.specs.Gathering.{SomeHas}
 use Rattle.cell_roles.specs.Tables.{TableRow}
 use Rattle.role_tables.specs.Fault.{IsBadText}
 use Rattle.role_tables.specs.Point.{MatchOnePoint}
-use Rattle.role_tables.specs.Table.{IsWritten, AreRoleRows}
+use Rattle.role_tables.specs.Table.{IsWrittenAs, AreRoleRows}
 use Rattle.role_tables.proofs.RowsLaws.{row_more, index_fits, first_bad}
 use Rattle.role_tables.proofs.rows.read_rows.Goals as goal
 
@@ -24,7 +24,7 @@ loop-i-preserved c =
     let rows = c.loop-i.rows.items in
     let row = c.in-Some.row in
     let pushed = c.push.ensures.items ∙ ap (λ (b : Bool). if b then rows ++ row ∷ [] else rows) (sym c.in_ok-map_err.ensures.variant) in
-    let written = subst (λ (t : List ℕ). IsWritten c.args.role t row) c.as_bytes.ensures c.in-Some.ensures.some in
+    let written = subst (λ (t : List ℕ). IsWrittenAs c.args.role t row) c.as_bytes.ensures c.in-Some.ensures.some in
     let apart = subst (λ (l : List TableRow). SomeHas (MatchOnePoint row) l → ⊥) c.deref.ensures.value c.in-Some.ensures.apart in
     subst (λ (l : List TableRow). AreRoleRows c.args.role (take (c.loop-i.i + 1) c.args.texts.now) l) (sym pushed)
     (row_more c.args.role c.args.texts.now c.loop-i.i c.index-texts-i.result rows row c.loop-i-test.true c.index-texts-i.is c.loop-i.invariant written apart)

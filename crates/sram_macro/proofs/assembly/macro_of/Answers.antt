@@ -10,9 +10,10 @@ use Rattle.tech_rules.specs.declared.tech.Wire.{Wire}
 use Rattle.macro_layout.specs.Floorplan.{IsFloorplan}
 use Rattle.macro_wires.specs.FloorplanNumbers.{floorplan_of}
 use Rattle.sram_macro.specs.View.{macro_view}
-use Rattle.sram_macro.specs.Macro.{AreWiresOf}
+use Rattle.sram_macro.specs.Macro.{AreWiresOf, macro_bits}
 use Rattle.sram_plan.specs.declared.view.SignalPin.{SignalPin}
-use Rattle.sram_macro.proofs.KitFacts.{leaves_for}
+use Rattle.port_lists.specs.Held.{held_of}
+use Rattle.sram_macro.proofs.HeldFacts.{kit_bits, leaves_for}
 use Rattle.sram_macro.proofs.LabelFacts.{view_is, layers_listed}
 use Rattle.sram_macro.proofs.AssemblyLaws.{space_before}
 use Rattle.sram_macro.proofs.assembly.macro_of.Goals as goal
@@ -21,6 +22,12 @@ pub macro_view-requires-clause-layers : goal.macro_view-requires-clause-layers
 macro_view-requires-clause-layers c =
     subst (λ (layers : List Layer). AllByRecursion (λ (index : ℕ). index < length layers) c.wire_of-wire.result.now.metals) (sym c.as_slice-layers.ensures)
     (layers_listed c.args.kit.now.tech.layers c.wire_of-wire.result.now.metals c.wire_of-wire.ensures.wire.metals)
+
+pub written_library-requires-clause-drawing : goal.written_library-requires-clause-drawing
+written_library-requires-clause-drawing c =
+    let held = held_of c.args.contents in
+    let bits = kit_bits c.args.kit.now c.requires.kit (organization c.args.plan.now) held c.requires.contents.cells in
+    c.in_ok-wires.ensures.writable (macro_bits c.args.kit.now c.args.plan.now held) bits.names
 
 pub returns : goal.returns
 returns c =
@@ -54,6 +61,6 @@ returns c =
       named = c.in_ok-written_library.ensures.named;
       writable = c.in_ok-written_library.ensures.writable;
       deck = c.in_ok-macro_deck.ensures;
-      leaves = leaves_for c.args.kit.now plan c.args.name.now c.requires.kit c.requires.free;
+      leaves = leaves_for c.args.kit.now plan (held_of c.args.contents) c.args.name.now c.requires.kit c.requires.contents.cells c.requires.free;
       good_view = subst IsView (sym shown) view;
     }

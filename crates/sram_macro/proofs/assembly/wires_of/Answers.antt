@@ -58,7 +58,7 @@ returns-clause-layers c =
     }
 
 pub returns-clause-writable : goal.returns-clause-writable
-returns-clause-writable c =
+returns-clause-writable c bits texts =
     let plan = organization c.args.plan.now in
     let kit = layout_kit c.args.kit.now in
     let layers = c.args.kit.now.tech.layers in
@@ -76,6 +76,7 @@ returns-clause-writable c =
     let tops = top_near c.near_shapes_are_listed.ensures.greater c.supply_wires_are_near.ensures.supplies c.near_shapes_are_listed.ensures.listed layers plan kit wire fl c.in_order-top.result.items c.args.layout.main.shapes c.requires.wire c.requires.plan.plan small near
     (main_shapes_near c.routed_shapes_are_near.ensures layers plan kit wire c.args.layout.main c.requires.wire main) (λ s there. (c.in_ok-drawn.ensures kit laid.sides_of ends s).0 ((c.in_order-top.ensures.same s).0 there)) in
     record {
+      bits = texts;
       floorplan = near;
       bank_wires = bank_writable wire c.args.layout.bank.items bank;
       wires = c.near_wires_are_writable.ensures wire 1107296256 c.in_order-top.result.items (omega arith) tops;

@@ -15,4 +15,4 @@ pub loop-bit-preserved : goal.loop-bit-preserved
 loop-bit-preserved c = grown_as _ _ _ _ c.loop-bit.bit (data_write (organization c.args.plan.now) (cell_in c.args.roles.now)) c.loop-bit.invariant c.in_ok-push.ensures.items (c.in_ok-leaf_instance.ensures ∙ (λ i. subckt_instance (with_number (codes "xw") c.loop-bit.bit) (with_number (codes "d") c.loop-bit.bit ∷ c.left_line.ensures i ∷ c.right_line.ensures i ∷ c.write_enable.ensures i ∷ supplies) (cell_in c.args.roles.now Write)))
 
 pub returns : goal.returns
-returns c = all_of _ _ c.loop-bit.bit _ (data_write (organization c.args.plan.now) (cell_in c.args.roles.now)) c.loop-bit.invariant (omega arith)
+returns c = all_of _ _ c.loop-bit.bit _ (data_write (organization c.args.plan.now) (cell_in c.args.roles.now)) c.loop-bit.invariant (let count = c.inputs_of-bit-end.ensures in omega (arith, count))

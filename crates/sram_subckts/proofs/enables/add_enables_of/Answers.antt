@@ -1,6 +1,6 @@
 -- One more.
 use Rattle.std.proofs.Common.{◌≡◌, ◌++◌, ℕ, map, ap, ◌∙◌, arith}
-use Rattle.sram_netlist.specs.Netlist.{enable_count}
+use Rattle.sram_netlist.specs.Netlist.{enables_of}
 use Rattle.sram_netlist.specs.InstanceList.{tabulate_lists, enable_gates}
 use Rattle.sram_plan.specs.PlanNumbers.{organization}
 use Rattle.sram_deck.specs.Deck.{logic_cell}
@@ -13,5 +13,5 @@ loop-mask-preserved c = grown_mapped (logic_cell (organization c.args.plan.now) 
 
 pub returns : goal.returns
 returns c =
-    let all : c.loop-mask.mask ≡ enable_count c.args.plan.now.masks = let count = c.enables_of-mask-end.ensures in omega (arith, count) in
+    let all : c.loop-mask.mask ≡ enables_of (organization c.args.plan.now) = let count = c.enables_of-mask-end.ensures in omega (arith, count) in
     c.loop-mask.invariant ∙ ap (λ (n : ℕ). c.args.instances.now.items ++ map (logic_cell (organization c.args.plan.now) (cell_in c.args.roles.now)) (tabulate_lists n (enable_gates c.args.bank))) all

@@ -1,5 +1,6 @@
 -- A bit more.
 use Rattle.std.proofs.Common.{◌≡◌, ◌++◌, ℕ, map, ap, ◌∙◌, arith}
+use Rattle.sram_netlist.specs.Organization.{inputs_of}
 use Rattle.sram_netlist.specs.InstanceList.{tabulate}
 use Rattle.sram_netlist.specs.Instances.{Dd}
 use Rattle.sram_plan.specs.PlanNumbers.{organization}
@@ -13,5 +14,5 @@ loop-bit-preserved c = grown_mapped_one (logic_cell (organization c.args.plan.no
 
 pub returns : goal.returns
 returns c =
-    let far : c.loop-bit.bit ≡ c.args.plan.now.word_size = omega arith in
+    let far : c.loop-bit.bit ≡ inputs_of (organization c.args.plan.now) = let count = c.inputs_of-bit-end.ensures in omega (arith, count) in
     c.loop-bit.invariant ∙ ap (λ (n : ℕ). c.args.instances.now.items ++ map (logic_cell (organization c.args.plan.now) (cell_in c.args.roles.now)) (tabulate n Dd)) far

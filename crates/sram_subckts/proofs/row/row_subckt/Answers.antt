@@ -9,6 +9,6 @@ use Rattle.sram_subckts.proofs.SubcktLaws.{made_same, from_two}
 use Rattle.sram_subckts.proofs.row.row_subckt.Goals as goal
 
 pub returns : goal.returns
-returns c = made_same c.subckt_of.result _ _ _ _ _ _ c.subckt_of.ensures c.in_ok-part_name.ensures c.in_ok-ports.ensures
-    (from_two _ _ _ _ _ _ _ _ _ c.new-instances.ensures.items c.in_ok-push.ensures.items c.in_ok-push-2.ensures.items c.in_ok-add_bitcells.ensures
+returns c = made_same c.subckt_of.result _ _ _ _ _ _ c.subckt_of.ensures (c.in_ok-name.ensures c.args.roles.now) c.in_ok-ports.ensures
+    (from_two _ _ _ _ _ _ _ _ _ c.new-instances.ensures.items c.in_ok-push.ensures.items c.in_ok-push-2.ensures.items c.in_ok-add_bits.ensures
     (c.in_ok-row_gate_instance.ensures ∙ ap (λ (gs : List ℕ). subckt_instance (codes "xnand") (row_inputs 97 gs ++ (codes "zb" ∷ supplies)) (cell_in c.args.roles.now (row_gate gs))) (c.deref-2.ensures.value ∙ c.in_ok-groups.ensures)) c.in_ok-row_driver_instance.ensures)

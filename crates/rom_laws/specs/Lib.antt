@@ -1,0 +1,3 @@
+pub mod RomRun
+pub mod Laws
+pub mod Example
