@@ -104,10 +104,10 @@ pub record IsOtherTap (plan : Organization) (fl : Floorplan) (tap : Tap) : Type 
   pub below : tap.y <ℤ (fl.precharge_y -ℤ fl.write_y)
 
 -- a pin of an upright cell, and one in a row
-upright_low : (x y : ℤ) (r : Rect) → lower_end (upright x y) r ≡ y +ℤ r.y1
+pub upright_low : (x y : ℤ) (r : Rect) → lower_end (upright x y) r ≡ y +ℤ r.y1
 upright_low x y r = let tall = r.tall in let low : int_min (r.y1 +ℤ y) (r.y2 +ℤ y) ≡ y +ℤ r.y1 = omega (arith, ints, clamps, tall) in low
 
-mirrored_low : (x y : ℤ) (r : Rect) → lower_end (mirrored_at x y) r ≡ y -ℤ r.y2
+pub mirrored_low : (x y : ℤ) (r : Rect) → lower_end (mirrored_at x y) r ≡ y -ℤ r.y2
 mirrored_low x y r = let tall = r.tall in let low : int_min ((pos 0 -ℤ r.y1) +ℤ y) ((pos 0 -ℤ r.y2) +ℤ y) ≡ y -ℤ r.y2 = omega (arith, ints, clamps, tall) in low
 
 in_row_below : (h : ℕ) (corner : Point) (r : ℕ) (rect : Rect) → pos 0 ≤ℤ rect.y1 → rect.y2 ≤ℤ pos h → lower_end (row_place (pos h) corner r) rect <ℤ (corner.y +ℤ pos ((r + 1) * h))

@@ -106,7 +106,7 @@ wire_among layers (v ∷ vs) s w c e f = elim (contains_cases v vs w c) [
   | inr later ↦ Contains-append_right (own_on (layer_of layers (wire_element layers v)) v.rect) (own_wires layers vs) s (wire_among layers vs s w later e f)
 ]
 
-wire_is_own : (layers : List Layer) (cell : DrawnCell) (s : Shape) → IsOwnWire layers cell.wires s → IsOwnShape layers (cell_elements layers cell) s
+pub wire_is_own : (layers : List Layer) (cell : DrawnCell) (s : Shape) → IsOwnWire layers cell.wires s → IsOwnShape layers (cell_elements layers cell) s
 wire_is_own layers cell s w = record {
   shapes = own_wires layers cell.wires ++ [];
   drawn = cell_draws layers cell;
@@ -330,7 +330,7 @@ layers_in_order layers cell sorted order has = record {
   labels = all_permuted (λ (l : PlacedLabel). l.layer < length layers) cell.labels sorted.labels order.labels_same has.labels;
 }
 
-wire_as : (layers : List Layer) (xs ys : List Shape) (s : Shape) → IsPermutation xs ys → IsOwnWire layers xs s → IsOwnWire layers ys s
+pub wire_as : (layers : List Layer) (xs ys : List Shape) (s : Shape) → IsPermutation xs ys → IsOwnWire layers xs s → IsOwnWire layers ys s
 wire_as layers xs ys s same w = record { wire = w.wire; among = Contains-permutation xs ys w.wire same w.among; layer = w.layer; on = w.on; first = w.first; rect = w.rect }
 
 own_as : (layers : List Layer) (xs ys : List PlacedLabel) (label : PlainLabel) → IsPermutation xs ys → IsOwnLabel layers xs label → IsOwnLabel layers ys label

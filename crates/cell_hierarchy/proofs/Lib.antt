@@ -1,5 +1,5 @@
 mod StepLaws
-mod MovedLaws
+pub mod MovedLaws
 pub mod BelowLaws
 pub mod ChainLaws
 mod NearLaws

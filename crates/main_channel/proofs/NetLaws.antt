@@ -30,7 +30,7 @@ one_less n (a ∷ []) three = absurd (omega (arith, three))
 one_less n (a ∷ b ∷ []) three = absurd (omega (arith, three))
 one_less n (a ∷ b ∷ c ∷ rs) three = refl
 
-last_before : (xs : List Net) (z : Net) → before_supplies (xs ++ z ∷ supply_nets) ≡ z
+pub last_before : (xs : List Net) (z : Net) → before_supplies (xs ++ z ∷ supply_nets) ≡ z
 last_before [] z = refl
 last_before (x ∷ xs) z = let long = length-append xs (z ∷ supply_nets) in one_less x (xs ++ z ∷ supply_nets) (omega (arith, long)) ∙ last_before xs z
 

@@ -46,7 +46,7 @@ logic_demands plan (Pn o b k) = gate_demands b
 logic_demands plan (Gn bank m) = gate_demands (length (enable_inputs plan bank m))
 logic_demands plan c = refl
 
-cell_fits : (plan : Organization) (c : LogicCell) → IsBuildable plan → HasLogicCell plan c → length (map (net_name plan) (logic_cell_ports plan c)) ≡ length (role_demands (logic_role plan c))
+pub cell_fits : (plan : Organization) (c : LogicCell) → IsBuildable plan → HasLogicCell plan c → length (map (net_name plan) (logic_cell_ports plan c)) ≡ length (role_demands (logic_role plan c))
 cell_fits plan c p has = length-map (logic_cell_ports plan c) (net_name plan) ∙ (sym (ports_sized plan c p has) ∙ logic_demands plan c)
 
 abbrev some_or : {X : Type 0} → X → Option X → X

@@ -1,7 +1,7 @@
-mod AreaLaws
+pub mod AreaLaws
 pub mod PlaceLaws
 mod GivingLaws
-mod NetLaws
+pub mod NetLaws
 mod LinkLaws
 mod FloodLaws
 mod BindLaws

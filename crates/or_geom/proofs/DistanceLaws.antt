@@ -43,11 +43,11 @@ distance_none a b h k = record {
 }
 
 -- a square by the absolute value
-square_abs : (z : ℤ) → z *ℤ z ≡ pos (unsigned_abs z * unsigned_abs z)
+pub square_abs : (z : ℤ) → z *ℤ z ≡ pos (unsigned_abs z * unsigned_abs z)
 square_abs (pos n) = refl
 square_abs (negsuc n) = refl
 
-square_grows : (d e : ℕ) → d ≤ e → d * d ≤ e * e
+pub square_grows : (d e : ℕ) → d ≤ e → d * d ≤ e * e
 square_grows d e h = grind arith
 
 -- two numbers of the spans have a squared distance that is at least the square of the least distance

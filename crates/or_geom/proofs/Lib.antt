@@ -4,7 +4,7 @@ pub mod CountLaws
 pub mod NameLaws
 pub mod LeastLaws
 mod JoinedLaws
-mod DistanceLaws
+pub mod DistanceLaws
 mod GapLaws
 pub mod CoverLaws
 pub mod PlaceLaws

@@ -2,14 +2,14 @@ mod LeafLaws
 mod PortLaws
 mod FormulaLaws
 mod PinLaws
-mod MeetLaws
+pub mod MeetLaws
 mod ChannelLaws
 pub mod KitLaws
 mod TrackCountLaws
-mod NetLaws
-mod SenseLaws
-mod TopLaws
-mod ExitLaws
+pub mod NetLaws
+pub mod SenseLaws
+pub mod TopLaws
+pub mod ExitLaws
 mod ColumnLaws
 mod RoutedLaws
 mod DataLaws

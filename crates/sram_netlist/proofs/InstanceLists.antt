@@ -1,6 +1,7 @@
 -- The list of instances has exactly the plan's.
 use Rattle.std.proofs.Common.{◌≡◌, ℕ, zero, suc, ◌+◌, ◌<◌, ◌≤◌, List, [], ◌∷◌, ◌++◌, map, refl, sym, ap, subst, arith, inl, inr, ◌⊎◌}
 use Rattle.std.specs.List.{flat_map, AllByRecursion}
+use Rattle.std.specs.Prelude.{Some, slice_get}
 use Rattle.sram_netlist.specs.Organization.{Organization, IsWritten, inputs_of, power_of_two, bank_rows, columns_of, banks_of, addr_bits, bank_bit}
 use Rattle.sram_netlist.specs.Instances.{LogicCell, LeafInstance, Clki, Csd, Wed, Csi, Wei, Wln, Wli, Wrn, Wri, Rdn, Rdi, Dlay, Senn, Seni, Ad, Ai, Dd, Dm, Pn, Pi, Ln, Li, Kn, Ki, Gn, Gi, BitAt, NandAt, DriverAt, PrechargeAt, WriteAt, SenseAt, MuxAt, TieAt, LogicAt}
 use Rattle.sram_netlist.specs.Membership.{IsChoice, IsGroup, IsOneOf, HasEnable, HasLogicCell, HasLeafInstance}
@@ -16,6 +17,12 @@ in_front x (y ∷ xs) ys (inr h) = inr (in_front x xs ys h)
 pub in_back : {A : Type 0} (x : A) (xs ys : List A) → IsOneOf x ys → IsOneOf x (xs ++ ys)
 in_back x [] ys h = h
 in_back x (y ∷ xs) ys h = inr (in_back x xs ys h)
+
+-- where one of a list stands
+pub place_in : {A : Type 0} (x : A) (xs : List A) → IsOneOf x xs → (k : ℕ) × (slice_get xs k ≡ Some x)
+place_in x [] h = absurd h
+place_in {A} x (y ∷ xs) (inl e) = (0, ap (λ (z : A). Some z) e)
+place_in x (y ∷ xs) (inr h) = let at = place_in x xs h in (suc at.0, at.1)
 
 in_some : {A : Type 0} (x : A) (xs ys : List A) → IsOneOf x (xs ++ ys) → IsOneOf x xs ⊎ IsOneOf x ys
 in_some x [] ys h = inr h
@@ -58,7 +65,7 @@ of_map f y [] h = absurd h
 of_map f y (x ∷ xs) (inl e) = (x, inl refl, e)
 of_map f y (x ∷ xs) (inr h) = let g = of_map f y xs h in (g.0, inr g.1, g.2)
 
-to_flat : {A B : Type 0} (f : A → List B) (x : A) (y : B) (xs : List A) → IsOneOf x xs → IsOneOf y (f x) → IsOneOf y (flat_map f xs)
+pub to_flat : {A B : Type 0} (f : A → List B) (x : A) (y : B) (xs : List A) → IsOneOf x xs → IsOneOf y (f x) → IsOneOf y (flat_map f xs)
 to_flat f x y [] h g = absurd h
 to_flat f x y (z ∷ xs) (inl e) g = in_front y (f z) (flat_map f xs) (subst (λ u. IsOneOf y (f u)) (sym e) g)
 to_flat f x y (z ∷ xs) (inr h) g = in_back y (f z) (flat_map f xs) (to_flat f x y xs h g)
@@ -184,7 +191,7 @@ in_written plan x some g = in_fixed plan x (by_kind plan.write_size some)
     by_kind zero none = absurd (omega arith)
     by_kind (suc n) some = g
 
-to_cells : (plan : Organization) (x : LogicCell) → HasLogicCell plan x → IsOneOf x (logic_cells plan)
+pub to_cells : (plan : Organization) (x : LogicCell) → HasLogicCell plan x → IsOneOf x (logic_cells plan)
 to_cells plan Clki h = in_both plan Clki (inl refl) (inl refl)
 to_cells plan Csd h = in_both plan Csd (inr (inl refl)) (inr (inl refl))
 to_cells plan Wed h = in_written plan Wed h (inr (inr (inl refl)))

@@ -185,7 +185,7 @@ module _ (plan : Organization) (p : IsBuildable plan) where
   fixed_apart zero = refl
   fixed_apart (suc w) = refl
 
-  cells_differ : DifferBy (cell_name plan) (logic_cells plan)
+  pub cells_differ : DifferBy (cell_name plan) (logic_cells plan)
   cells_differ =
       let k4 = codes "xdd" ∷ late_kinds in
       let k3 = group_kinds ++ k4 in

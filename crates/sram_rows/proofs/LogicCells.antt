@@ -65,7 +65,7 @@ group_within [] from o b g = absurd g
 group_within (c ∷ cs) from o b (inl e) = let x = e.0 in let y = e.1 in omega (arith, x, y)
 group_within (c ∷ cs) from o b (inr g) = let h = group_within cs (from + c) o b g in omega (arith, h)
 
-choice_within : (plan : Organization) (o b : ℕ) → IsChoice plan o b → o + b ≤ addr_bits plan
+pub choice_within : (plan : Organization) (o b : ℕ) → IsChoice plan o b → o + b ≤ addr_bits plan
 choice_within plan o b (inl e) = let x = e.0.0 in let y = e.0.1 in omega (arith, x, y)
 choice_within plan o b (inr (inl g)) = let h = group_within plan.groups plan.col_bits o b g in omega (arith, h)
 choice_within plan o b (inr (inr e)) = let x = e.0.0 in let y = e.0.1 in omega (arith, x, y)

@@ -1,0 +1,9 @@
+pub mod OverLaws
+pub mod LeafSpaceLaws
+pub mod TwoBarLaws
+pub mod CoverMoveLaws
+pub mod ZoneAtLaws
+pub mod JoinerLaws
+pub mod FirstKeptLaws
+pub mod TwoCutLaws
+pub mod FirstCutLaws

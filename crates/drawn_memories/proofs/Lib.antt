@@ -1,0 +1,13 @@
+pub mod ApartLaws
+pub mod RouteLaws
+pub mod LayerLaws
+pub mod FitLaws
+pub mod PortLaws
+pub mod StandLaws
+pub mod BottomLaws
+pub mod TopPortLaws
+pub mod TopBranchLaws
+pub mod TopLaws
+pub mod RailLaws
+pub mod TapLaws
+pub mod DrawnLaws

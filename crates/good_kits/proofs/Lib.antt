@@ -1,0 +1,3 @@
+pub mod ConfigLaws
+pub mod BuildLaws
+pub mod NetLaws

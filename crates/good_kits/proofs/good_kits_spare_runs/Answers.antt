@@ -1,0 +1,5 @@
+use Rattle.good_kits.proofs.BuildLaws.{good_kits_spare_runs}
+use Rattle.good_kits.proofs.good_kits_spare_runs.Goals as goal
+
+pub returns : goal.returns
+returns c = good_kits_spare_runs

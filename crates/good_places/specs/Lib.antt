@@ -1,0 +1,12 @@
+pub mod Beside
+pub mod Columns
+pub mod Leaves
+pub mod Zones
+pub mod Neighbours
+pub mod Row
+pub mod Seen
+pub mod Pairs
+pub mod Kinds
+pub mod Windows
+pub mod Plain
+pub mod Stated

@@ -1,0 +1,3 @@
+pub mod OverhangLaws
+pub mod ShapeLaws
+pub mod ReportLaws

@@ -1,0 +1,2 @@
+pub mod AllowedLaws
+pub mod KeptLaws

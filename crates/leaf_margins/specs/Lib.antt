@@ -1,0 +1,3 @@
+pub mod Memories
+pub mod Widths
+pub mod Encloses

@@ -1,0 +1,9 @@
+pub mod MainNumberLaws
+pub mod RailNumberLaws
+pub mod TapLaws
+pub mod TapPinLaws
+pub mod ChoiceLaws
+pub mod ListSplitLaws
+pub mod PortHubLaws
+pub mod OuterLaws
+pub mod PortKindLaws

@@ -1,0 +1,4 @@
+pub mod CounterLaws
+pub mod SeatLaws
+pub mod BankPairLaws
+pub mod PairLaws

@@ -1,0 +1,3 @@
+pub mod Counterpart
+pub mod Window
+pub mod Pair

@@ -1,0 +1,10 @@
+pub mod SlicePinLaws
+pub mod SliceTapLaws
+pub mod SliceWireLaws
+pub mod ColumnSeatLaws
+pub mod ColumnPinLaws
+pub mod ColumnTapLaws
+pub mod ColumnWireLaws
+pub mod LogicPinLaws
+pub mod LogicWireLaws
+pub mod WireLaws

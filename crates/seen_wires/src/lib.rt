@@ -1,0 +1,2 @@
+//! Laws of wires: a wire that touches an instance is seen in a small memory, with its net.
+#![tactic(auto)]

@@ -1,0 +1,5 @@
+pub mod FewLaws
+pub mod RowPlaceLaws
+pub mod SteadyLaws
+pub mod InputPairLaws
+pub mod LogicPairLaws

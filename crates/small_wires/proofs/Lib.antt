@@ -1,0 +1,11 @@
+pub mod TouchLaws
+pub mod AnchorLaws
+pub mod WireLayerLaws
+pub mod BranchLaws
+pub mod SeenWireLaws
+pub mod ColumnNetLaws
+pub mod BankWireLaws
+pub mod FarLaws
+pub mod SpanLaws
+pub mod MainNetLaws
+pub mod SignalLaws

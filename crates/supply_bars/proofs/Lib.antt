@@ -1,0 +1,6 @@
+pub mod HeightLaws
+pub mod PartLaws
+pub mod SideLaws
+pub mod PairedLaws
+pub mod KindLaws
+pub mod BarLaws

@@ -1,0 +1,2 @@
+pub mod Rails
+pub mod LaidMacro

@@ -1,0 +1,9 @@
+pub mod TailLaws
+pub mod TapWindowLaws
+pub mod RailNetLaws
+pub mod TapImageLaws
+pub mod TapKindLaws
+pub mod TapEndLaws
+pub mod TapPutLaws
+pub mod TapNearLaws
+pub mod ThirdKeptLaws

@@ -1,0 +1,2 @@
+//! Laws of boxes that the upright metals, the second and the fourth, cover near a leaf instance's zone.
+#![tactic(auto)]

@@ -1,0 +1,4 @@
+pub mod ListingLaws
+pub mod DrawnChannelLaws
+pub mod LaidKitLaws
+pub mod KitMacroLaws

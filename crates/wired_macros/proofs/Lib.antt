@@ -1,0 +1,13 @@
+pub mod RouteLaws
+pub mod SupplyWireLaws
+pub mod BankWireLaws
+pub mod WireJoinLaws
+pub mod LeafPortLaws
+pub mod WiredLaws
+pub mod TopNetLaws
+pub mod ClearLaws
+pub mod AnchorLaws
+pub mod MacroLabelLaws
+pub mod JoinedMacroLaws
+pub mod TextLayerLaws
+pub mod CellNameLaws

@@ -1,0 +1,2 @@
+pub mod WiredMacro
+pub mod Texts

@@ -1,0 +1,2 @@
+//! Laws of a macro's wires and labels: each wire and each of the macro's own ports is joined with its net.
+#![tactic(auto)]
