@@ -1,6 +1,6 @@
 -- Names of files are ASCII.
 use Rattle.std.proofs.Common.{◌≡◌, ◌<◌, ◌⊎◌, ℕ, Bool, true, false, List, [], ◌∷◌, Option, Some, None, refl, inl, inr, arith}
-use Rattle.std.specs.Prelude.{IsTrue, IfSome, ◌&&◌, ◌||◌, nat_le, nat_eq, codes}
+use Rattle.std.specs.Prelude.{IsTrue, IfSome, ◌&&◌, ◌||◌, not, nat_le, nat_eq, codes}
 use Rattle.std.specs.List.{list_all}
 use Rattle.std.specs.Str.{IsAscii}
 use Rattle.std.proofs.lemmas.Bool.{leb-true, eqb-true}
@@ -8,7 +8,8 @@ use Rattle.std.proofs.lemmas.List.Elements.{All-from_recursion}
 use Rattle.std.proofs.lemmas.Str.{IsAscii-append}
 use Rattle.std.proofs.lemmas.Str.Ascii.{IsAscii-nil, IsAscii-cons}
 use Rattle.or_host.specs.declared.file.MemFile.{MemFile}
-use Rattle.sram_plan.specs.Config.{IsConfig, is_file_text, is_output_name, is_printable_byte, is_letter_byte, is_name_char, starts_with_letter}
+use Rattle.sram_plan.specs.Config.{IsConfig, is_file_text, is_identifier, is_output_name, is_printable_byte, is_letter_byte, is_name_char, starts_with_letter}
+use Rattle.sram_plan.specs.Keywords.{is_keyword}
 use Rattle.sram_plan.specs.declared.config.Config.{Config}
 use Rattle.macro_build.specs.declared.built.Built.{Built}
 use Rattle.command_steps.specs.Writing.{HaveAsciiNames}
@@ -64,7 +65,9 @@ pub file_text_ascii : (text : List ℕ) → IsTrue (is_file_text text) → IsAsc
 file_text_ascii text is = all_ascii is_printable_byte printable_small text (both _ (list_all is_printable_byte text) is).1
 
 pub output_name_ascii : (text : List ℕ) → IsTrue (is_output_name text) → IsAscii text
-output_name_ascii text is = all_ascii is_name_char name_small text (both (starts_with_letter text) (list_all is_name_char text) (both _ (starts_with_letter text && list_all is_name_char text) is).1).1
+output_name_ascii text is =
+    let name = (both (is_identifier text) (not (is_keyword text)) is).0 in
+    all_ascii is_name_char name_small text (both (starts_with_letter text) (list_all is_name_char text) (both _ (starts_with_letter text && list_all is_name_char text) name).1).1
 
 in_folder_ascii : (folder : Option (List ℕ)) (name : List ℕ) → IfSome folder (λ path. IsTrue (is_file_text path)) → IsAscii name → IsAscii (in_folder folder name)
 in_folder_ascii None name is ascii = ascii

@@ -46,7 +46,8 @@ pub record HoldViews (name : List ℕ) (built : Built) (files : Files) : Type 0 
 
 -- The files at the end hold the memory that those at the start ask for: the views of what was built. Its layout is the stated one, breaks
 -- no rule and is joined exactly as its netlist says, and that netlist answers every list of reads and writes as an array of words; a
--- read-only memory's answers every list of reads with the words of the data file.
+-- read-only memory's answers every list of reads with the words of the data file. Whichever module the Verilog spells answers so too, and,
+-- begun with the same words, as the netlist.
 pub record IsMemoryHeld (m : Making) (before now : Files) : Type 0 where
   pub order : Ordered
   pub is_ordered : IsOrdered m before order

@@ -1,6 +1,6 @@
 -- Names that begin with the name of the windows, and those that begin with its number.
-use Rattle.std.proofs.Common.{◌≡◌, ◌⊎◌, inl, inr, ℕ, suc, ◌+◌, ◌^◌, ◌<◌, ◌≤◌, true, ◌&&◌, List, [], ◌∷◌, ◌++◌, length, map, take, refl, sym, ap, subst, ◌∙◌, arith}
-use Rattle.std.specs.Prelude.{Contains, IsTrue, nat_eq, nat_le}
+use Rattle.std.proofs.Common.{◌≡◌, ◌⊎◌, inl, inr, ℕ, suc, ◌+◌, ◌^◌, ◌<◌, ◌≤◌, true, false, ◌&&◌, List, [], ◌∷◌, ◌++◌, length, map, take, refl, sym, ap, subst, ◌∙◌, arith}
+use Rattle.std.specs.Prelude.{Contains, IsTrue, not, nat_eq, nat_le}
 use Rattle.std.specs.List.{AllByRecursion, list_all}
 use Rattle.std.specs.Char.{to_ascii_lowercase}
 use Rattle.std.proofs.lemmas.Bool.{cases_lt}
@@ -13,6 +13,8 @@ use Rattle.gds_library.specs.declared.library.Structure.{Structure}
 use Rattle.netlist.specs.declared.deck.Subckt.{Subckt}
 use Rattle.net_extractor.specs.Difference.{in_lower_case}
 use Rattle.sram_plan.specs.Config.{is_name_char, is_output_name}
+use Rattle.sram_plan.specs.Keywords.{is_keyword}
+use Rattle.sram_plan.proofs.KeywordLaws.{long_is_no_keyword}
 use Rattle.leaf_tables.specs.declared.kit.Kit.{Kit}
 use Rattle.kit_check.specs.Digits.{IsDigit, number_after, AreDigitsOf, IsNumberedName, IsNumberIn}
 use Rattle.kit_check.specs.FreeName.{BeginsWith, IsFreeName, IsStructNumber, IsSubcktNumber, IsWindowName, AreNumbersOf}
@@ -102,7 +104,8 @@ may_be_output number name named =
     let long : length (119 ∷ named.digits) ≡ 24 = ap suc sized in
     let short : nat_le (length (119 ∷ named.digits)) 24 ≡ true = ap (λ (n : ℕ). nat_le n 24) long in
     let all : list_all is_name_char (119 ∷ named.digits) ≡ true = digit_chars named.digits named.are.write.digits_are in
-    let is : is_output_name (119 ∷ named.digits) ≡ true = λ i. short i && (true && all i) in
+    let kept : is_keyword (119 ∷ named.digits) ≡ false = long_is_no_keyword (119 ∷ named.digits) (omega (arith, long)) in
+    let is : is_output_name (119 ∷ named.digits) ≡ true = λ i. (short i && (true && all i)) && not (kept i) in
     subst (λ (n : List ℕ). is_output_name n ≡ true) (sym named.is) is
 
 -- the numbers with which names begin

@@ -8,6 +8,133 @@ use std::test::Fail;
 /// The names that every configuration here ends with.
 const NAMES: &str = "tech_name = \"demo_tech\"\noutput_name = \"demo\"\n";
 
+/// The keywords of IEEE 1364-2001, by its annex B.
+const VERILOG_KEYWORDS: [&str; 123] = [
+    "always",
+    "and",
+    "assign",
+    "automatic",
+    "begin",
+    "buf",
+    "bufif0",
+    "bufif1",
+    "case",
+    "casex",
+    "casez",
+    "cell",
+    "cmos",
+    "config",
+    "deassign",
+    "default",
+    "defparam",
+    "design",
+    "disable",
+    "edge",
+    "else",
+    "end",
+    "endcase",
+    "endconfig",
+    "endfunction",
+    "endgenerate",
+    "endmodule",
+    "endprimitive",
+    "endspecify",
+    "endtable",
+    "endtask",
+    "event",
+    "for",
+    "force",
+    "forever",
+    "fork",
+    "function",
+    "generate",
+    "genvar",
+    "highz0",
+    "highz1",
+    "if",
+    "ifnone",
+    "incdir",
+    "include",
+    "initial",
+    "inout",
+    "input",
+    "instance",
+    "integer",
+    "join",
+    "large",
+    "liblist",
+    "library",
+    "localparam",
+    "macromodule",
+    "medium",
+    "module",
+    "nand",
+    "negedge",
+    "nmos",
+    "nor",
+    "noshowcancelled",
+    "not",
+    "notif0",
+    "notif1",
+    "or",
+    "output",
+    "parameter",
+    "pmos",
+    "posedge",
+    "primitive",
+    "pull0",
+    "pull1",
+    "pulldown",
+    "pullup",
+    "pulsestyle_ondetect",
+    "pulsestyle_onevent",
+    "rcmos",
+    "real",
+    "realtime",
+    "reg",
+    "release",
+    "repeat",
+    "rnmos",
+    "rpmos",
+    "rtran",
+    "rtranif0",
+    "rtranif1",
+    "scalared",
+    "showcancelled",
+    "signed",
+    "small",
+    "specify",
+    "specparam",
+    "strong0",
+    "strong1",
+    "supply0",
+    "supply1",
+    "table",
+    "task",
+    "time",
+    "tran",
+    "tranif0",
+    "tranif1",
+    "tri",
+    "tri0",
+    "tri1",
+    "triand",
+    "trior",
+    "trireg",
+    "unsigned",
+    "use",
+    "vectored",
+    "wait",
+    "wand",
+    "weak0",
+    "weak1",
+    "while",
+    "wire",
+    "wor",
+    "xnor",
+    "xor",
+];
+
 /// What a configuration's plan is, or the fault.
 fn answer(alloc: Global, text: &str) -> Result<String, Fail> {
     match read_config(alloc, text.as_bytes()) {
@@ -149,4 +276,28 @@ fn keys_without_a_meaning(rt: HostRuntime) -> Result<(), Fail> {
         "word_size = 2\nnum_words = 16\nnum_rw_ports = 1\nnominal_corner_only = true",
         "1 words in each of 16 rows, 2 columns, 2+2+0, 1 banks, 0 masks, 4 bits",
     )
+}
+
+/// What comes of a small memory of this name.
+fn named(alloc: Global, name: &str) -> Result<String, Fail> {
+    let text = format!(in alloc;
+        "word_size = 2\nnum_words = 16\ntech_name = \"demo_tech\"\noutput_name = \"{name}\"\n"
+    )?;
+    answer(alloc, text.as_str())
+}
+
+/// No memory has a keyword of Verilog for its name; in other letters, or longer, it is a name.
+#[test]
+fn keywords_of_verilog(rt: HostRuntime) -> Result<(), Fail> {
+    let alloc = rt.alloc();
+    for word in VERILOG_KEYWORDS {
+        let given = named(alloc, word)?;
+        assert_eq!(rt; given.as_str(), "output_name is out of range", "of {word}");
+    }
+    let planned = named(alloc, "sram")?;
+    for name in ["Reg", "REG", "reg_", "regs", "logic", "do"] {
+        let given = named(alloc, name)?;
+        assert_eq!(rt; given.as_str(), planned.as_str(), "of {name}");
+    }
+    Ok(())
 }

@@ -1,12 +1,13 @@
 -- Names of printable characters, and decimals in them.
-use Rattle.std.proofs.Common.{◌≡◌, ℕ, nat_le, ◌+◌, ◌%◌, ◌<◌, ◌≤◌, ◌^◌, Bool, true, false, ◌&&◌, List, [], ◌∷◌, ◌++◌, length, refl, arith}
+use Rattle.std.proofs.Common.{◌≡◌, ℕ, nat_le, ◌+◌, ◌%◌, ◌<◌, ◌≤◌, ◌^◌, Bool, true, false, not, ◌&&◌, List, [], ◌∷◌, ◌++◌, length, refl, arith}
 use Rattle.std.specs.List.{AllByRecursion, list_all}
 use Rattle.std.specs.Fmt.{decimal}
 use Rattle.std.proofs.lemmas.Fmt.{decimal_by_steps, length-decimal-le}
 use Rattle.std.proofs.lemmas.List.{length-append}
 use Rattle.std.proofs.lemmas.Bool.Decides.{nat_tests}
 use Rattle.gds_library.specs.Writable.{IsPrintable, IsText}
-use Rattle.sram_plan.specs.Config.{is_name_char, starts_with_letter}
+use Rattle.sram_plan.specs.Config.{is_identifier, is_name_char, starts_with_letter}
+use Rattle.sram_plan.specs.Keywords.{is_keyword}
 use Rattle.macro_bounds.specs.Writable.{OutputNamesAreShort}
 use Rattle.sram_netlist.specs.Names.{with_number, with_numbers, with_index}
 
@@ -140,7 +141,8 @@ twenty_four k e = grind (arith, nat_tests, e)
 
 pub output_names_are_short : OutputNamesAreShort
 output_names_are_short n e =
-    let first = both_true (nat_le (length n) 24) (starts_with_letter n && list_all is_name_char n) e in
+    let is = (both_true (is_identifier n) (not (is_keyword n)) e).0 in
+    let first = both_true (nat_le (length n) 24) (starts_with_letter n && list_all is_name_char n) is in
     let second = both_true (starts_with_letter n) (list_all is_name_char n) first.1 in
     let few = twenty_four (length n) first.0 in
     record { text = record { some = some_letter n second.0; few = omega (arith, few); printable = name_printable n second.1 }; few = few }

@@ -1,6 +1,6 @@
--- What is held fits the kit and the plan, and the netlist answers with it.
+-- What is held fits the kit and the plan, and netlist and Verilog answer with it.
 use Rattle.std.proofs.Common.{◌≡◌, ℕ, ◌*◌, ◌<◌, List, sym, ap, subst, ◌∙◌, arith}
-use Rattle.std.specs.Prelude.{slice_index}
+use Rattle.std.specs.Prelude.{IsTrue, slice_index}
 use Rattle.sram_netlist.specs.Organization.{Organization, power_of_two, bank_rows, words_per_row}
 use Rattle.sram_netlist.specs.Numbers.{ArePlanNumbers}
 use Rattle.memory_laws.specs.Laws.{RunsExist, RunsObey}
@@ -10,13 +10,17 @@ use Rattle.memory_laws.proofs.Decode.{twice_power}
 use Rattle.rom_laws.specs.Laws.{RomsHoldWords}
 use Rattle.rom_laws.specs.RomRun.{IsRomPlan, AreWordsFor}
 use Rattle.sram_plan.specs.declared.numbers.Plan.{Plan}
+use Rattle.sram_plan.specs.Config.{is_output_name}
 use Rattle.sram_plan.specs.PlanNumbers.{numbers_of, organization}
+use Rattle.verilog_laws.specs.Laws.{TextsAreMemories}
+use Rattle.rom_verilog_laws.specs.Laws.{RomTextsAreMemories}
 use Rattle.leaf_tables.specs.declared.kit.Kit.{Kit}
 use Rattle.port_lists.specs.Held.{Held}
 use Rattle.port_lists.specs.Held.Held.{Stored, Fixed}
 use Rattle.port_lists.proofs.NumberLaws.{banks_are, rows_are, words_are}
 use Rattle.sram_macro.specs.Leaves.{HasCellsFor, IsHeld}
 use Rattle.macro_build.specs.Memory.{AnswersFrom, AreFixedWords, FitsPlan}
+use Rattle.macro_build.specs.Verilog.{SpellsHeld, verilog_of}
 
 all_words_are : (plan : Plan) → ArePlanNumbers (numbers_of plan) → plan.num_words ≡ num_words (organization plan)
 all_words_are plan numbers =
@@ -54,3 +58,10 @@ answers_from exist answer obey hold plan Stored numbers written = record {
   obeys = λ s cs vs end. obey (organization plan) s cs vs end numbers.plan written;
 }
 answers_from exist answer obey hold plan (Fixed words) numbers fit = hold (organization plan) words (rom_plan plan words numbers fit) (words_for plan words numbers fit)
+
+pub spells_held : TextsAreMemories → RomTextsAreMemories → (plan : Plan) (held : Held) (name text : List ℕ) → ArePlanNumbers (numbers_of plan) → FitsPlan plan held → IsTrue (is_output_name name)
+    → text ≡ verilog_of plan held name → SpellsHeld (organization plan) held text
+spells_held memories roms plan held name text numbers fit good same = subst (SpellsHeld (organization plan) held) (sym same) (by held fit) where
+  by : (h : Held) → FitsPlan plan h → SpellsHeld (organization plan) h (verilog_of plan h name)
+  by Stored written = memories plan name numbers written good
+  by (Fixed words) fixed = roms plan name words numbers (rom_plan plan words numbers fixed) (words_for plan words numbers fixed) good

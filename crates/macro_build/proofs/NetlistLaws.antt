@@ -21,7 +21,8 @@ use Rattle.sram_netlist.specs.Numbers.{ArePlanNumbers}
 use Rattle.sram_netlist.specs.BitCells.{bit_cell, fixed_bit}
 use Rattle.sram_deck.specs.Deck.{written_subckts}
 use Rattle.sram_plan.specs.declared.numbers.Plan.{Plan}
-use Rattle.sram_plan.specs.Config.{is_letter_byte, is_name_char, is_output_name, starts_with_letter}
+use Rattle.sram_plan.specs.Config.{is_identifier, is_letter_byte, is_name_char, is_output_name, starts_with_letter}
+use Rattle.sram_plan.specs.Keywords.{is_keyword}
 use Rattle.sram_plan.specs.PlanNumbers.{numbers_of, organization}
 use Rattle.sram_rows.specs.Rows.{RowsEqualNetlist, DeckIsNetlist}
 use Rattle.sram_rows.specs.Writing.{AreBitNames, CellsAreNames, WrittenSubcktsAreRead, WrittenSubcktsAreWritable}
@@ -90,7 +91,8 @@ begun_some (b ∷ text) h = omega arith
 -- an output name can be written
 pub output_is_name : (text : List ℕ) → IsTrue (is_output_name text) → IsName text
 output_is_name text h =
-    let rest = (both_true (nat_le (length text) 24) (starts_with_letter text && list_all is_name_char text) h).1 in
+    let is = (both_true (is_identifier text) (not (is_keyword text)) h).0 in
+    let rest = (both_true (nat_le (length text) 24) (starts_with_letter text && list_all is_name_char text) is).1 in
     let two = both_true (starts_with_letter text) (list_all is_name_char text) rest in
     record { some = begun_some text two.0; bytes = all_pass is_name_char IsNameByte char_name text two.1 }
 

@@ -24,7 +24,7 @@ use Rattle.leaf_tables.specs.declared.kit.Kit.{Kit}
 use Rattle.leaf_tables.specs.declared.part.PartFault.TheVariants as part_fault
 use Rattle.macro_views.specs.Lef.{lef_text}
 use Rattle.macro_build.specs.Memory.{AnswersFrom}
-use Rattle.macro_build.specs.Verilog.{verilog_of}
+use Rattle.macro_build.specs.Verilog.{SpellsHeld, verilog_of}
 use Rattle.macro_build.specs.Written.{IsReadInLowerCase, IsReferenceNetlist, SpellCoveredLayout, SpellSoundLayout}
 use Rattle.sram_macro.specs.declared.assembly.Macro.{Macro}
 use Rattle.sram_macro.specs.Leaves.{leaf_names}
@@ -69,6 +69,8 @@ pub record IsBuilt (kit : Kit) (plan : Plan) (held : Held) (name : List ℕ) (bu
   pub read : IsReadInLowerCase kit plan held name built.spice.items
   pub netlist : IsReferenceNetlist kit plan held name built.spice.items
   pub memory : AnswersFrom (organization plan) held
+  -- so does the module that the Verilog spells, whichever it is, and it answers as the netlist does
+  pub behaviour : SpellsHeld (organization plan) held built.verilog.items
   -- the layout that the bytes spell is, flat, the stated one; it breaks no rule, and its labels are joined as the reference netlist says
   pub spelled : SpellSoundLayout kit plan held name built.gds.items
   -- each of its shapes on a metal lies in the boxes of the LEF on this metal

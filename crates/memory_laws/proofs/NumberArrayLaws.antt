@@ -24,7 +24,7 @@ number_fits f zero = omega arith
 number_fits f (suc n) = fits_with (f 0) (number (λ j. f (suc j)) n) (power_of_two n) (number_fits (λ j. f (suc j)) n)
 
 -- the bits of a number of bits
-number_bit : (f : ℕ → Bool) (n i : ℕ) → i < n → bit_of (number f n) i ≡ f i
+pub number_bit : (f : ℕ → Bool) (n i : ℕ) → i < n → bit_of (number f n) i ≡ f i
 number_bit f zero i h = absurd (omega arith)
 number_bit f (suc n) zero h = built_odd (f 0) (number (λ j. f (suc j)) n)
 number_bit f (suc n) (suc i) h = ap (λ (x : ℕ). bit_of x i) (built_half (f 0) (number (λ j. f (suc j)) n)) ∙ number_bit (λ j. f (suc j)) n i (omega arith)

@@ -43,7 +43,7 @@ const WIDER_SENSE: &[Change] = &[
     ),
 ];
 
-const REFUSED: [Refused; 15] = [
+const REFUSED: [Refused; 16] = [
     (
         &[("demo.toml", b"", b"16\n", b"24\n")],
         b"openram: 65 OutOfRange num_words\n",
@@ -79,6 +79,10 @@ const REFUSED: [Refused; 15] = [
     (
         &[("demo.toml", b"", b"2\n", b"\"8\"\n")],
         b"openram: 63 WrongKind word_size\n",
+    ),
+    (
+        &[("demo.toml", b"", b"\"demo\"", b"\"reg\"")],
+        b"openram: 65 OutOfRange output_name\n",
     ),
     (
         &[("demo.toml", b"", b"demo_tech", b"kit")],

@@ -1,3 +1,3 @@
-mod HexLaws
+pub mod HexLaws
 mod WordLaws
 mod TextLaws

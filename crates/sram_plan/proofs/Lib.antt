@@ -1,3 +1,4 @@
+pub mod KeywordLaws
 pub mod NearestLaws
 pub mod PlanLaws
 pub mod KeyLaws

@@ -1,7 +1,8 @@
 -- What holds of every configuration that is read.
-use Rattle.std.specs.Prelude.{◌≡◌, ℕ, ◌<◌, ◌≤◌, ◌%◌, List, [], ◌∷◌, Bool, ◌&&◌, ◌||◌, nat_le, nat_eq, length, false, IfSome, IsTrue}
+use Rattle.std.specs.Prelude.{◌≡◌, ℕ, ◌<◌, ◌≤◌, ◌%◌, List, [], ◌∷◌, Bool, ◌&&◌, ◌||◌, not, nat_le, nat_eq, length, false, IfSome, IsTrue}
 use Rattle.std.specs.List.{list_all}
 use Rattle.sram_netlist.specs.Membership.{IsOneOf}
+use Rattle.sram_plan.specs.Keywords.{is_keyword}
 use Rattle.sram_plan.specs.declared.config.Config.{Config}
 
 -- the values that some keys may have
@@ -21,7 +22,7 @@ is_printable_byte b = nat_le 32 b && nat_le b 126
 abbrev pub is_file_text : List ℕ → Bool
 is_file_text text = (nat_le 1 (length text) && nat_le (length text) 200) && list_all is_printable_byte text
 
--- 1 to 24 letters, digits and _, a letter first
+-- letters, digits and _
 abbrev pub is_letter_byte : ℕ → Bool
 is_letter_byte b = (nat_le 65 b && nat_le b 90) || (nat_le 97 b && nat_le b 122)
 
@@ -32,8 +33,13 @@ abbrev pub starts_with_letter : List ℕ → Bool
 starts_with_letter [] = false
 starts_with_letter (b ∷ bs) = is_letter_byte b
 
+-- 1 to 24 of them, a letter first
+abbrev pub is_identifier : List ℕ → Bool
+is_identifier text = nat_le (length text) 24 && (starts_with_letter text && list_all is_name_char text)
+
+-- such a text, but no word that Verilog keeps
 abbrev pub is_output_name : List ℕ → Bool
-is_output_name text = nat_le (length text) 24 && (starts_with_letter text && list_all is_name_char text)
+is_output_name text = is_identifier text && not (is_keyword text)
 
 pub record IsConfig (config : Config) : Type 0 where
   pub some_bits : 0 < config.word_size

@@ -1,3 +1,4 @@
+pub mod Keywords
 pub mod Config
 pub mod Fault
 pub mod Keys

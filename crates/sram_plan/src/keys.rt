@@ -4,12 +4,13 @@ ghost use Rattle.sram_netlist.specs.Membership.{IsOneOf};
 ghost use Rattle.toml_keys.specs.Fault.{MatchesUnless};
 ghost use Rattle.toml_keys.specs.Keys.{optional};
 ghost use Rattle.toml_keys.specs.Section.{section_of};
-ghost use Rattle.sram_plan.specs.Config.{is_printable_byte, is_file_text, is_letter_byte, is_name_char, is_output_name, starts_with_letter};
+ghost use Rattle.sram_plan.specs.Config.{is_printable_byte, is_file_text, is_letter_byte, is_name_char, is_identifier, is_output_name, starts_with_letter};
 ghost use Rattle.sram_plan.specs.Fault.{config_faults};
 ghost use Rattle.sram_plan.specs.Keys.{natural_under, listed_under, listed_or, divisor_under, divisor_or_whole, file_text_under, output_name_under};
 ghost use Rattle.sram_plan.specs.declared.fault.ConfigFault.TheVariants.{Memory};
 
 use crate::fault::ConfigFault;
+use crate::keywords::is_keyword;
 use or_geom::Name;
 use toml_keys::KeyTable;
 
@@ -138,7 +139,7 @@ pub fn output_name(table: &KeyTable<ConfigFault>, key: &str) -> Result<Name, Con
     ensures good { IfOk result (λ n. IsTrue (is_output_name n)) }
 {
     let text = table.text(key)?;
-    if !is_output_name(text.as_bytes()) {
+    if !is_output_name(text) {
         return Err(table.out_of_range(key));
     }
     Ok(Name::from_bytes(table.alloc(), text.as_bytes())?)
@@ -159,8 +160,14 @@ fn are_printable(text: &[u8]) -> bool
     text.iter().all(|b| matches!(*b, 32..=126))
 }
 
-fn is_output_name(text: &[u8]) -> bool
+fn is_output_name(text: &str) -> bool
     ensures { result ≡ is_output_name text.now }
+{
+    is_identifier(text.as_bytes()) && !is_keyword(text)
+}
+
+fn is_identifier(text: &[u8]) -> bool
+    ensures { result ≡ is_identifier text.now }
 {
     if 24 < text.len() || !starts_with_letter(text) {
         return false;

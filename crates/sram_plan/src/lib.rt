@@ -5,6 +5,7 @@ mod choose;
 mod config;
 mod fault;
 mod keys;
+mod keywords;
 mod laws;
 mod numbers;
 mod read;

@@ -1,0 +1,5 @@
+pub mod SpellLaws
+pub mod StartLaws
+pub mod NamedLaws
+pub mod RunLaws
+pub mod TextLaws

@@ -1,0 +1,3 @@
+pub mod Rom
+pub mod Behaviour
+pub mod Laws

@@ -1,0 +1,10 @@
+pub mod EdgeLaws
+pub mod FallLaws
+pub mod WriteLaws
+pub mod CycleLaws
+pub mod AgreeLaws
+pub mod SpellLaws
+pub mod NameLaws
+pub mod NamedLaws
+pub mod LegalLaws
+pub mod TextLaws

@@ -1,0 +1,4 @@
+pub mod Memory
+pub mod Runs
+pub mod Behaviour
+pub mod Laws

@@ -1,0 +1,4 @@
+pub mod TokenLaws
+pub mod StatementLaws
+pub mod TreeLaws
+pub mod EdgeLaws
