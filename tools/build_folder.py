@@ -1,4 +1,4 @@
-"""A folder in which a build is disturbed, and what the build may leave there. For tools/kill_builds and tools/refuse_memory."""
+"""A folder in which a build is disturbed, and what the build may leave there. For tools/kill_builds, tools/refuse_memory and tools/refuse_calls."""
 import subprocess
 from pathlib import Path
 
@@ -21,32 +21,30 @@ def prepare(folder, files, old):
     for name in VIEWS:
         view = Path(folder, name)
         view.unlink(missing_ok=True)
+        Path(folder, f"{name}.unfinished").unlink(missing_ok=True)
         if old:
             view.write_bytes(OLD)
 
 
 def state(folder, name, whole, old):
-    """Of a view: whole, before (untouched), cut (a prefix, which may be empty) or wrong."""
+    """Of a view: whole, before (untouched), or wrong: a view is replaced whole or not at all."""
     view = Path(folder, name)
     if not view.exists():
         return "wrong" if old else "before"
     found = view.read_bytes()
     if found == whole:
         return "whole"
-    if old and found == OLD:
-        return "before"
-    return "cut" if whole.startswith(found) else "wrong"
+    return "before" if old and found == OLD else "wrong"
 
 
 def left(folder, files, old):
-    """How many views are whole, and whether the next is cut; None where the folder is in no state that a build may leave."""
+    """How many views are new, and whether the beginning of the next lies beside it; None where the folder is in no state that a build may leave."""
     states = [state(folder, name, files[name], old) for name in VIEWS]
     whole = 0
     while whole < len(states) and states[whole] == "whole":
         whole += 1
-    rest = states[whole:]
-    cut = rest[:1] == ["cut"]
-    untouched = all(s == "before" for s in rest[1 if cut else 0:])
+    untouched = all(s == "before" for s in states[whole:])
     inputs = all(Path(folder, name).read_bytes() == files[name] for name in INPUTS)
     more = {path.name for path in Path(folder).iterdir()} - set(INPUTS + VIEWS)
-    return (whole, cut) if untouched and inputs and not more else None
+    beside = {f"{name}.unfinished" for name in VIEWS[whole : whole + 1]}
+    return (whole, bool(more)) if untouched and inputs and more <= beside else None

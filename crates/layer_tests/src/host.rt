@@ -5,6 +5,7 @@ use or_host::{
 };
 use std::alloc::Global;
 use std::fs;
+use std::os::unix::fs::{PermissionsExt, symlink};
 use std::test::Fail;
 
 fn file(alloc: Global, name: &[u8], bytes: &[u8]) -> Result<MemFile, Fail> {
@@ -31,6 +32,31 @@ fn a_real_file(rt: HostRuntime) -> Result<(), Fail> {
     assert!(rt; matches!(&store.read(path, 6), Ok(None)));
     assert!(rt; matches!(&store.read("/", 6), Err(ReadFail::Failed)));
     assert!(rt; store.write("/", b"abc") == Err(WriteFail::Failed));
+    Ok(())
+}
+
+/// A write through a link replaces the file that the link leads to and keeps its permissions, and what an ended write left
+/// beside it is gone.
+#[test]
+fn a_real_file_is_replaced(rt: HostRuntime) -> Result<(), Fail> {
+    let mut store = FileStore::new(rt);
+    fs::write(&rt, "or_host_old", b"old")?;
+    let mut permissions = fs::metadata(&rt, "or_host_old")?.permissions();
+    permissions.set_mode(0o640);
+    fs::set_permissions(&rt, "or_host_old", permissions)?;
+    fs::write(&rt, "or_host_old.unfinished", b"a longer text")?;
+    symlink(&rt, "or_host_old", "or_host_link")?;
+    assert!(rt; store.write("or_host_link", b"new") == Ok(()));
+    assert!(rt; fs::symlink_metadata(&rt, "or_host_link")?.is_symlink());
+    assert!(rt; !fs::exists(&rt, "or_host_old.unfinished")?);
+    assert_eq!(rt;
+        fs::metadata(&rt, "or_host_old")?.permissions().mode() & 0o777,
+        0o640
+    );
+    let read = fs::read_to_string(&rt, "or_host_old")?;
+    assert_eq!(rt; read.as_str(), "new");
+    fs::remove_file(&rt, "or_host_link")?;
+    fs::remove_file(&rt, "or_host_old")?;
     Ok(())
 }
 

@@ -2,26 +2,41 @@ ghost use Rattle.std.specs.Prelude.{◌≡◌, ◌≤◌, ℕ, None, IfOk, lengt
 ghost use Rattle.or_host.specs.Files.{IsNoLonger};
 
 use crate::store::{ReadFail, Store, WriteFail};
+use crate::whole_file::write_whole;
 use std::alloc::Global;
-use std::io::Read;
+use std::fs::{self, File};
+use std::io::{self, ErrorKind, Read};
 use std::rt::Runtime;
-use std::{fs, io};
 
 /// Files of the file system, of which nothing is told. This is the trusted edge: that a read gives what the file holds,
-/// and that a write keeps the bytes, is the system's promise.
+/// and that a write keeps the bytes, is the system's promise. A write replaces a file whole or not at all, whatever ends
+/// the program meanwhile (`whole_file`).
 #[derive(Drop)]
-pub struct FileStore<R: Runtime + AllocGlobal> {
+pub struct FileStore<R: Runtime<File = File> + AllocGlobal> {
     rt: R,
     faults: u64,
 }
 
-impl<R: Runtime + AllocGlobal> FileStore<R> {
+impl<R: Runtime<File = File> + AllocGlobal> FileStore<R> {
     /// No call has failed yet. The allocator is that of the runtime.
     pub fn new(rt: R) -> Self
         ensures { result.faults ≡ 0 }
     {
         FileStore { rt, faults: 0 }
     }
+}
+
+/// Reads as many bytes as there are, up to the buffer's length. A read that a signal interrupted is begun again.
+fn read_some(file: &mut impl Read, buffer: &mut [u8]) -> io::Result<usize>
+    ensures { IfOk result (λ n. n ≤ length buffer.old) }
+{
+    for _ in 0..u64::MAX {
+        match file.read(buffer) {
+            Err(error) if error.kind() == ErrorKind::Interrupted => {}
+            other => return other,
+        }
+    }
+    Err(io::Error::from(ErrorKind::Interrupted))
 }
 
 /// The bytes of a file, if there are no more than the limit. Each turn takes at least one byte, and no more than one
@@ -42,7 +57,7 @@ fn read_at_most(
         } else {
             16384
         };
-        let n = match file.read(&mut buffer[..want]) {
+        let n = match read_some(file, &mut buffer[..want]) {
             Ok(n) => n,
             Err(_) => return Err(ReadFail::Failed),
         };
@@ -57,7 +72,7 @@ fn read_at_most(
     Err(ReadFail::TooLong)
 }
 
-impl<R: Runtime + AllocGlobal> Store for FileStore<R> {
+impl<R: Runtime<File = File> + AllocGlobal> Store for FileStore<R> {
     ghost files = { λ s. None };
 
     ghost faults = { λ s. s.faults };
@@ -67,7 +82,7 @@ impl<R: Runtime + AllocGlobal> Store for FileStore<R> {
     fn read(&mut self, name: &str, limit: u64) -> Result<Option<Vec<u8>>, ReadFail> {
         let mut file = match fs::open(&self.rt, name) {
             Ok(file) => file,
-            Err(error) if error.kind() == io::ErrorKind::NotFound => return Ok(None),
+            Err(error) if error.kind() == ErrorKind::NotFound => return Ok(None),
             Err(_) => {
                 self.faults = self.faults.saturating_add(1);
                 return Err(ReadFail::Failed);
@@ -83,8 +98,9 @@ impl<R: Runtime + AllocGlobal> Store for FileStore<R> {
     }
 
     fn write(&mut self, name: &str, bytes: &[u8]) -> Result<(), WriteFail> {
-        match fs::write(&self.rt, name, bytes) {
+        match write_whole(&self.rt, name, bytes) {
             Ok(()) => Ok(()),
+            Err(error) if error.kind() == ErrorKind::OutOfMemory => Err(WriteFail::Memory),
             Err(_) => {
                 self.faults = self.faults.saturating_add(1);
                 Err(WriteFail::Failed)

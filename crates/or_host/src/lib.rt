@@ -11,6 +11,7 @@ mod store;
 mod stream_sink;
 mod sure_sink;
 mod sure_store;
+mod whole_file;
 
 pub use file::MemFile;
 pub use file_store::FileStore;
