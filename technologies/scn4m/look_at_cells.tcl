@@ -1,9 +1,9 @@
-# Reads the layout GDS; for each of CELLS prints the count of errors and each broken rule, and extracts it into the folder OUT. Of its
+# Reads the layout GDS under the process's published deck; for each of CELLS prints the count of errors and each broken rule, and extracts it into the folder OUT. Of its
 # texts those are ports that are ports of its subcircuit in DECK.
-cif istyle lambda=0.2(scn4m)
+cif istyle lambda=0.20(p)
 drc off
+drc euclidean on
 gds read $env(GDS)
-extract style scn4m
 cd $env(OUT)
 set file [open $env(DECK)]
 set deck [read $file]
@@ -11,6 +11,7 @@ close $file
 foreach cell $env(CELLS) {
   load $cell
   select top cell
+  drc style drc(full)
   drc on
   drc check
   drc catchup

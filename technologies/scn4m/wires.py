@@ -19,13 +19,13 @@ NEVER = 1 << 20  # the price of a place that is closed
 TRIES = 24  # of a way, before another net has to make room
 # How far a shape stays from shapes of other nets, and from all shapes.
 FROM_OTHERS = {
-    "poly": [("poly", 2), ("cpoly", 3)], "metal1": [("metal1", 3)], "metal2": [("metal2", 4)], "metal3": [("metal3", 4)],
+    "poly": [("poly", 3), ("cpoly", 3)], "metal1": [("metal1", 3)], "metal2": [("metal2", 4)], "metal3": [("metal3", 4)],
     "cpoly": [("poly", 3), ("cpoly", 3)], "via1": [], "via2": [],
 }
 FROM_ALL = {
     "poly": [("active", 1), ("via1", 1)], "metal1": [], "metal2": [], "metal3": [],
-    "cpoly": [("active", 1), ("contact", 2), ("via1", 1), ("cpoly", 1)], "via1": [("active", 1), ("poly", 1), ("via2", 0), ("via1", 1)],
-    "via2": [("via1", 0), ("via2", 1)],
+    "cpoly": [("active", 1), ("contact", 2), ("via1", 1), ("cpoly", 2)], "via1": [("active", 1), ("poly", 1), ("via2", 0), ("via1", 2)],
+    "via2": [("via1", 0), ("via2", 2)],
 }
 
 
@@ -229,7 +229,7 @@ WIDTH = {"poly": 2, "metal1": 3, "metal2": 3, "metal3": 6}
 def bridges(net, shapes, fixed):
     """Boxes that close the gaps between shapes of one net that are too near: the rules of spacing hold for them too."""
     found = {}
-    for layer, space in (("poly", 2), ("metal1", 3), ("metal2", 4), ("metal3", 4)):
+    for layer, space in (("poly", 3), ("metal1", 3), ("metal2", 4), ("metal3", 4)):
         boxes = [tuple(box) for owner, *box in fixed.get(layer, ()) if owner == net] + shapes.get(layer, [])
         pads = shapes.get("cpoly", []) if layer == "poly" else []
         for i, a in enumerate(boxes):
