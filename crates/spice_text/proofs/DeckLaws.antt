@@ -22,9 +22,9 @@ new_placed o line name (n ∷ nodes) last new =
     ap (λ b. cond b (Err (fault.Duplicate line)) (Ok (with_instance o (instance_of name n (nodes ++ last ∷ []))))) new ∙ (λ i. Ok (with_instance o (made name (but_last_is n nodes last i) (last_is n nodes last i))))
 
 -- an instance with a new name
-pub placed_new : (o : BegunSubckt) (line : ℕ) (words others : List (List ℕ)) (name : List ℕ) (nodes : List (List ℕ)) (last : List ℕ) → words ≡ name ∷ others → others ≡ nodes ++ last ∷ [] → is_among name (map own_name o.subckt.instances) ≡ false
+pub placed_new : (o : BegunSubckt) (line : ℕ) (words : List (List ℕ)) (name : List ℕ) (nodes : List (List ℕ)) (last : List ℕ) → words ≡ name ∷ (nodes ++ last ∷ []) → is_among name (map own_name o.subckt.instances) ≡ false
     → instance_added o line words ≡ Ok (with_instance o (made name nodes last))
-placed_new o line words others name nodes last first back new = ap (instance_added o line) (first ∙ ap (λ (ws : List (List ℕ)). name ∷ ws) back) ∙ new_placed o line name nodes last new
+placed_new o line words name nodes last is new = ap (instance_added o line) is ∙ new_placed o line name nodes last new
 
 -- what an answer says of the test that it denies
 pub was_new : (answer test : Bool) → answer ≡ not test → answer ≡ true → test ≡ false

@@ -1,5 +1,5 @@
 -- What the reader's own types stand for.
-use Rattle.std.specs.Prelude.{ℕ, List, [], ◌∷◌, if◌then◌else◌, Option, Some, None, codes, ◌||◌}
+use Rattle.std.specs.Prelude.{◌≡◌, ℕ, List, ◌∷◌, if◌then◌else◌, map, Option, Some, None, IfSome, codes, ◌||◌}
 use Rattle.std.specs.Str.{bytes_eq}
 use Rattle.spice_text.specs.declared.statement.Keyword.{Keyword}
 use Rattle.spice_text.specs.declared.statement.Keyword.TheVariants as word
@@ -8,10 +8,10 @@ use Rattle.spice_text.specs.declared.statement.Statement.TheVariants as read
 use Rattle.spice_text.specs.declared.subcircuit.OpenSubckt.{OpenSubckt}
 use Rattle.spice_text.specs.declared.subcircuit.Reading.{Reading}
 use Rattle.spice_text.specs.LogicalLines.{starts_with}
-use Rattle.spice_text.specs.Words.{before_assignment}
+use Rattle.spice_text.specs.Words.{before_assignment, is_among}
 use Rattle.spice_text.specs.Statements.{LineMeaning}
 use Rattle.spice_text.specs.Statements as says
-use Rattle.spice_text.specs.Subcircuits.{BegunSubckt, DeckSoFar}
+use Rattle.spice_text.specs.Subcircuits.{BegunSubckt, DeckSoFar, name_of, own_name}
 
 -- what a statement says
 abbrev pub said : Statement → LineMeaning
@@ -53,3 +53,12 @@ current_of (Some o) = Some (begun_of o)
 
 abbrev pub so_far : Reading → DeckSoFar
 so_far r = record { done = r.done; current = current_of r.current }
+
+-- the set of an open subcircuit has the names of its instances
+abbrev pub HasInstanceNames : OpenSubckt → Type 0
+HasInstanceNames o = o.instances ≡ map own_name o.subckt.instances
+
+-- the sets have the names of what was read
+pub record HasNames (r : Reading) : Type 0 where
+  pub done : (name : List ℕ) → is_among name r.names ≡ is_among name (map name_of r.done)
+  pub current : IfSome r.current HasInstanceNames

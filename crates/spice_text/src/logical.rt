@@ -1,4 +1,4 @@
-ghost use Rattle.std.specs.Prelude.{◌≡◌, ◌<◌, length, MatchOption, IfOk, IfSome, [], ◌∷◌};
+ghost use Rattle.std.specs.Prelude.{◌≡◌, ◌<◌, length, MatchOption, IfOk, OnOk, IfSome, [], ◌∷◌};
 ghost use Rattle.spice_text.specs.LogicalLines.{continues, join, joined};
 ghost use Rattle.spice_text.specs.Views.{line_of, logical_of, lines_after};
 
@@ -38,19 +38,14 @@ fn begun(alloc: Global, line: SourceLine<'_>) -> Result<LogicalLine, Memory>
 }
 
 /// Joins a `+` line on: one space stands in place of the line's end and the `+`.
-fn continued(logical: LogicalLine, line: SourceLine<'_>) -> Result<LogicalLine, Memory>
-    ensures { IfOk result (λ longer. logical_of longer ≡ joined (logical_of logical) (line_of line.entry)) }
+fn join_on(logical: &mut LogicalLine, line: SourceLine<'_>) -> Result<(), Memory>
+    ensures { OnOk result (logical_of logical.new ≡ joined (logical_of logical.old) (line_of line.entry)) }
 {
-    let mut text = logical.text;
-    text.push(b' ')?;
+    logical.text.push(b' ')?;
     if let Some((_, others)) = line.text.split_first() {
-        text.extend_from_slice(others)?;
+        logical.text.extend_from_slice(others)?;
     }
-    Ok(LogicalLine {
-        number: logical.number,
-        before: logical.before,
-        text,
-    })
+    Ok(())
 }
 
 /// The next logical line, and what follows it.
@@ -70,7 +65,7 @@ pub fn next_logical(
         if !is_continuation(line) {
             return Ok(Some((logical, left)));
         }
-        logical = continued(logical, line)?;
+        join_on(&mut logical, line)?;
         left = after;
     }
     Ok(Some((logical, left)))

@@ -13,7 +13,7 @@ use crate::name_set::NameSet;
 use crate::reading::read_line;
 use crate::source::Source;
 use crate::statement::{Statement, read_statement};
-use crate::subcircuit::{OpenSubckt, Reading};
+use crate::subcircuit::Reading;
 use netlist::Deck;
 use or_geom::Items;
 use std::alloc::Global;
@@ -48,13 +48,13 @@ fn is_stop(reading: &Reading, statement: &Statement) -> bool
 fn finish(reading: Reading, used: u64) -> Result<Deck, SpiceFault>
     ensures { IsSpiceAnswer (λ d. d) result (finished used reading.done (current_of reading.current)) }
 {
-    match reading.current {
-        None => Ok(Deck {
-            subckts: reading.done,
-            used,
-        }),
-        Some(OpenSubckt { line, .. }) => Err(SpiceFault::Unclosed { line }),
+    if let Some(open) = &reading.current {
+        return Err(SpiceFault::Unclosed { line: open.line });
     }
+    Ok(Deck {
+        subckts: reading.done,
+        used,
+    })
 }
 
 /// All of a text.
@@ -83,7 +83,7 @@ fn read_lines(alloc: Global, bytes: &[u8]) -> Result<Deck, SpiceFault>
         if is_stop(&reading, &statement) {
             return finish(reading, line.before);
         }
-        reading = read_line(alloc, reading, line, statement)?;
+        read_line(alloc, &mut reading, &line, statement)?;
         left = after;
     }
     finish(reading, bytes.len() as u64)

@@ -1,14 +1,16 @@
-ghost use Rattle.std.specs.Prelude.{◌≡◌, ◌∷◌, ◌++◌, [], None, IfOk, MatchOption, Ok};
+ghost use Rattle.std.specs.Prelude.{◌≡◌, ◌<◌, ◌∷◌, ◌++◌, ◌||◌, [], IfOk, OnOk, MatchOption, length};
 ghost use Rattle.spice_text.specs.Views.{logical_of};
-ghost use Rattle.spice_text.specs.ReaderViews.{said, begun_of, so_far};
-ghost use Rattle.spice_text.specs.Subcircuits.{has_repeat, begun, instance_added, kept_raw, closed_by, with_closed, with_current};
-ghost use Rattle.spice_text.specs.Steps.{outside, inside, step};
+ghost use Rattle.spice_text.specs.ReaderViews.{said, begun_of, so_far, HasInstanceNames, HasNames};
+ghost use Rattle.spice_text.specs.Words.{is_among};
+ghost use Rattle.spice_text.specs.Statements as says;
+ghost use Rattle.spice_text.specs.Subcircuits.{has_repeat, opened, instance_added, kept_raw, closed_by};
+ghost use Rattle.spice_text.specs.Steps.{step};
 ghost use Rattle.spice_text.specs.Faults.{IsSpiceAnswer};
 
 use crate::fault::SpiceFault;
 use crate::logical::LogicalLine;
 use crate::name_set::NameSet;
-use crate::statement::{Statement, first_and_others};
+use crate::statement::Statement;
 use crate::subcircuit::{OpenSubckt, Reading};
 use netlist::{Instance, Subckt};
 use or_geom::{Items, Memory, Name};
@@ -27,88 +29,152 @@ fn repeats(alloc: Global, names: &[Name]) -> Result<bool, Memory>
     Ok(false)
 }
 
-/// A `.SUBCKT` with these words after it.
-fn begin(
-    alloc: Global,
-    reading: Reading,
-    line: u64,
-    words: Items<Name>,
-) -> Result<Reading, SpiceFault>
-    ensures { IsSpiceAnswer so_far result (begun reading.done line words) }
+/// The subcircuit that begins with these words: its name, and its ports.
+fn opening(alloc: Global, line: u64, words: Items<Name>) -> Option<OpenSubckt>
+    ensures words { MatchOption result (words ≡ []) (λ begun. words ≡ begun.subckt.name ∷ begun.subckt.ports) }
+    ensures begun { MatchOption result (words ≡ []) (λ begun. begun_of begun ≡ opened line begun.subckt.name begun.subckt.ports) }
+    ensures names { MatchOption result (words ≡ []) HasInstanceNames }
 {
-    let Some((name, ports)) = first_and_others(words.into_vec()) else {
-        return Err(SpiceFault::BadLine { line });
-    };
-    let Reading { done, names, .. } = reading;
-    if names.holds(name.as_bytes()) {
-        return Err(SpiceFault::Duplicate { line });
+    let mut ports = words.into_vec();
+    if ports.is_empty() {
+        return None;
     }
-    if repeats(alloc, ports.as_slice())? {
-        return Err(SpiceFault::Duplicate { line });
-    }
+    let name = ports.remove(0);
     let subckt = Subckt {
         name,
         ports: Items::from_vec(ports),
         instances: Items::new(alloc),
         raw: Items::new(alloc),
     };
-    let current = OpenSubckt {
+    Some(OpenSubckt {
         line,
         subckt,
         instances: NameSet::new(alloc),
+    })
+}
+
+/// Whether a name is taken: the subcircuit's by one of these, or a port's by another port.
+fn is_taken(alloc: Global, names: &NameSet, subckt: &Subckt) -> Result<bool, Memory>
+    ensures { IfOk result (λ taken. taken ≡ (is_among subckt.now.name names.now || has_repeat [] subckt.now.ports)) }
+{
+    if names.holds(subckt.name.as_bytes()) {
+        return Ok(true);
+    }
+    repeats(alloc, subckt.ports.as_slice())
+}
+
+/// A `.SUBCKT` with these words after it.
+fn begin(
+    alloc: Global,
+    reading: &mut Reading,
+    line: &LogicalLine,
+    words: Items<Name>,
+) -> Result<(), SpiceFault>
+    requires { HasNames reading.old }
+    ensures read { IsSpiceAnswer (λ _. so_far reading.new) result (step (so_far reading.old) (logical_of line.now) (says.Begin words)) }
+    ensures named { OnOk result (HasNames reading.new) }
+{
+    let line = line.number;
+    let None = &reading.current else {
+        return Err(SpiceFault::Unclosed { line });
     };
-    Ok(Reading {
-        done,
-        names,
-        current: Some(current),
+    let Some(current) = opening(alloc, line, words) else {
+        return Err(SpiceFault::BadLine { line });
+    };
+    if is_taken(alloc, &reading.names, &current.subckt)? {
+        return Err(SpiceFault::Duplicate { line });
+    }
+    reading.current = Some(current);
+    Ok(())
+}
+
+/// The instance of these words: its name, its nodes, and the name of its subcircuit.
+fn instance_in(words: Items<Name>) -> Option<Instance>
+    ensures { MatchOption result (length words < 2) (λ instance. words ≡ instance.name ∷ (instance.nodes ++ instance.of ∷ [])) }
+{
+    let mut nodes = words.into_vec();
+    let of = nodes.pop()?;
+    if nodes.is_empty() {
+        return None;
+    }
+    let name = nodes.remove(0);
+    Some(Instance {
+        name,
+        nodes: Items::from_vec(nodes),
+        of,
     })
 }
 
 /// An instance with these words.
 fn add_instance(
     alloc: Global,
-    current: OpenSubckt,
+    current: &mut OpenSubckt,
     line: u64,
     words: Items<Name>,
-) -> Result<OpenSubckt, SpiceFault>
-    ensures { IsSpiceAnswer begun_of result (instance_added (begun_of current) line words) }
+) -> Result<(), SpiceFault>
+    requires { HasInstanceNames current.old }
+    ensures added { IsSpiceAnswer (λ _. begun_of current.new) result (instance_added (begun_of current.old) line words) }
+    ensures named { OnOk result (HasInstanceNames current.new) }
 {
-    let Some((name, others)) = first_and_others(words.into_vec()) else {
+    let Some(instance) = instance_in(words) else {
         return Err(SpiceFault::BadLine { line });
     };
-    let mut nodes = others;
-    let Some(of) = nodes.pop() else {
-        return Err(SpiceFault::BadLine { line });
-    };
-    let OpenSubckt {
-        line: begun,
-        mut subckt,
-        mut instances,
-        ..
-    } = current;
-    if !instances.add(alloc, name.as_bytes())? {
+    if !current.instances.add(alloc, instance.name.as_bytes())? {
         return Err(SpiceFault::Duplicate { line });
     }
-    let instance = Instance {
-        name,
-        nodes: Items::from_vec(nodes),
-        of,
-    };
-    subckt.instances.push(instance)?;
-    Ok(OpenSubckt {
-        line: begun,
-        subckt,
-        instances,
-    })
+    current.subckt.instances.push(instance)?;
+    Ok(())
 }
 
-/// A line that has no meaning here.
-fn keep_raw(alloc: Global, current: OpenSubckt, text: &[u8]) -> Result<OpenSubckt, SpiceFault>
-    ensures { IsSpiceAnswer begun_of result (Ok (kept_raw (begun_of current) text.now)) }
+/// A line that begins with an instance's name.
+fn read_instance(
+    alloc: Global,
+    reading: &mut Reading,
+    line: &LogicalLine,
+    words: Items<Name>,
+) -> Result<(), SpiceFault>
+    requires { HasNames reading.old }
+    ensures read { IsSpiceAnswer (λ _. so_far reading.new) result (step (so_far reading.old) (logical_of line.now) (says.Instance words)) }
+    ensures named { OnOk result (HasNames reading.new) }
 {
-    let mut current = current;
-    current.subckt.raw.push(Name::from_bytes(alloc, text)?)?;
-    Ok(current)
+    match &mut reading.current {
+        Some(current) => add_instance(alloc, current, line.number, words),
+        None => Err(SpiceFault::OutsideSubckt { line: line.number }),
+    }
+}
+
+/// A line that has no meaning in a subcircuit.
+fn keep_raw(alloc: Global, current: &mut OpenSubckt, text: &[u8]) -> Result<(), Memory>
+    requires { HasInstanceNames current.old }
+    ensures kept { OnOk result (begun_of current.new ≡ kept_raw (begun_of current.old) text.now) }
+    ensures named { OnOk result (HasInstanceNames current.new) }
+{
+    current.subckt.raw.push(Name::from_bytes(alloc, text)?)
+}
+
+/// A command that has no meaning in a subcircuit, and none outside.
+fn read_command(alloc: Global, reading: &mut Reading, line: &LogicalLine) -> Result<(), SpiceFault>
+    requires { HasNames reading.old }
+    ensures read { IsSpiceAnswer (λ _. so_far reading.new) result (step (so_far reading.old) (logical_of line.now) says.Command) }
+    ensures named { OnOk result (HasNames reading.new) }
+{
+    if let Some(current) = &mut reading.current {
+        keep_raw(alloc, current, line.text.as_slice())?;
+    }
+    Ok(())
+}
+
+/// Another line. It has no meaning in a subcircuit, and may not stand outside.
+fn read_other(alloc: Global, reading: &mut Reading, line: &LogicalLine) -> Result<(), SpiceFault>
+    requires { HasNames reading.old }
+    ensures read { IsSpiceAnswer (λ _. so_far reading.new) result (step (so_far reading.old) (logical_of line.now) says.Other) }
+    ensures named { OnOk result (HasNames reading.new) }
+{
+    let Some(current) = &mut reading.current else {
+        return Err(SpiceFault::OutsideSubckt { line: line.number });
+    };
+    keep_raw(alloc, current, line.text.as_slice())?;
+    Ok(())
 }
 
 /// Whether an `.ENDS` with these words after it ends the subcircuit of this name.
@@ -121,108 +187,58 @@ fn closes(words: &[Name], name: &[u8]) -> bool
     }
 }
 
-/// The reading goes on in this subcircuit.
-fn with_open(reading: Reading, current: OpenSubckt) -> Reading
-    ensures { so_far result ≡ with_current (so_far reading) (begun_of current) }
-{
-    Reading {
-        done: reading.done,
-        names: reading.names,
-        current: Some(current),
-    }
-}
-
 /// The subcircuit is done.
-fn close(alloc: Global, reading: Reading, current: OpenSubckt) -> Result<Reading, SpiceFault>
-    ensures { IsSpiceAnswer so_far result (Ok (with_closed (so_far reading) (begun_of current))) }
+fn close(alloc: Global, reading: &mut Reading, subckt: Subckt) -> Result<(), Memory>
+    requires { HasNames reading.old }
+    ensures done { OnOk result (reading.new.done ≡ reading.old.done ++ subckt ∷ []) }
+    ensures current { reading.new.current ≡ reading.old.current }
+    ensures named { OnOk result (HasNames reading.new) }
 {
-    let Reading {
-        mut done,
-        mut names,
-        ..
-    } = reading;
-    let subckt = current.subckt;
-    names.add(alloc, subckt.name.as_bytes())?;
-    done.push(subckt)?;
-    Ok(Reading {
-        done,
-        names,
-        current: None,
-    })
+    reading.names.add(alloc, subckt.name.as_bytes())?;
+    reading.done.push(subckt)?;
+    Ok(())
 }
 
-/// A line outside every subcircuit.
-fn read_outside(
+/// An `.ENDS` with these words after it.
+fn end(
     alloc: Global,
-    reading: Reading,
-    line: u64,
-    statement: Statement,
-) -> Result<Reading, SpiceFault>
-    ensures { IsSpiceAnswer so_far result (outside (so_far reading) line (said statement)) }
+    reading: &mut Reading,
+    line: &LogicalLine,
+    words: &[Name],
+) -> Result<(), SpiceFault>
+    requires { HasNames reading.old }
+    ensures read { IsSpiceAnswer (λ _. so_far reading.new) result (step (so_far reading.old) (logical_of line.now) (says.End words.now)) }
+    ensures named { OnOk result (HasNames reading.new) }
 {
-    match statement {
-        Statement::Refused => Err(SpiceFault::Refused { line }),
-        Statement::Begin(words) => begin(alloc, reading, line, words),
-        Statement::End(_) => Err(SpiceFault::Unclosed { line }),
-        Statement::Continuation => Err(SpiceFault::BadLine { line }),
-        Statement::Stop | Statement::Command => Ok(reading),
-        Statement::Instance(_) | Statement::Other => Err(SpiceFault::OutsideSubckt { line }),
+    let line = line.number;
+    let Some(current) = reading.current.take() else {
+        return Err(SpiceFault::Unclosed { line });
+    };
+    if !closes(words, current.subckt.name.as_bytes()) {
+        return Err(SpiceFault::Unclosed { line });
     }
+    close(alloc, reading, current.subckt)?;
+    Ok(())
 }
 
-/// A line in a subcircuit, where `reading` has no current one.
-fn read_inside(
-    alloc: Global,
-    reading: Reading,
-    current: OpenSubckt,
-    line: LogicalLine,
-    statement: Statement,
-) -> Result<Reading, SpiceFault>
-    ensures { IsSpiceAnswer so_far result (inside (so_far reading) (begun_of current) (logical_of line) (said statement)) }
-{
-    let number = line.number;
-    match statement {
-        Statement::Refused => Err(SpiceFault::Refused { line: number }),
-        Statement::Begin(_) => Err(SpiceFault::Unclosed { line: number }),
-        Statement::End(words) => {
-            if !closes(words.as_slice(), current.subckt.name.as_bytes()) {
-                return Err(SpiceFault::Unclosed { line: number });
-            }
-            close(alloc, reading, current)
-        }
-        Statement::Continuation => Err(SpiceFault::BadLine { line: number }),
-        Statement::Instance(words) => {
-            let current = add_instance(alloc, current, number, words)?;
-            Ok(with_open(reading, current))
-        }
-        Statement::Stop | Statement::Command | Statement::Other => {
-            let current = keep_raw(alloc, current, line.text.as_slice())?;
-            Ok(with_open(reading, current))
-        }
-    }
-}
-
-/// What is known after a line that says this.
+/// Reads a line that says this.
 pub fn read_line(
     alloc: Global,
-    reading: Reading,
-    line: LogicalLine,
+    reading: &mut Reading,
+    line: &LogicalLine,
     statement: Statement,
-) -> Result<Reading, SpiceFault>
-    ensures { IsSpiceAnswer so_far result (step (so_far reading) (logical_of line) (said statement)) }
+) -> Result<(), SpiceFault>
+    requires { HasNames reading.old }
+    ensures read { IsSpiceAnswer (λ _. so_far reading.new) result (step (so_far reading.old) (logical_of line.now) (said statement)) }
+    ensures named { OnOk result (HasNames reading.new) }
 {
-    let Reading {
-        done,
-        names,
-        current,
-    } = reading;
-    let reading = Reading {
-        done,
-        names,
-        current: None,
-    };
-    match current {
-        None => read_outside(alloc, reading, line.number, statement),
-        Some(current) => read_inside(alloc, reading, current, line, statement),
+    match statement {
+        Statement::Refused => Err(SpiceFault::Refused { line: line.number }),
+        Statement::Continuation => Err(SpiceFault::BadLine { line: line.number }),
+        Statement::Begin(words) => begin(alloc, reading, line, words),
+        Statement::End(words) => end(alloc, reading, line, words.as_slice()),
+        Statement::Instance(words) => read_instance(alloc, reading, line, words),
+        Statement::Stop | Statement::Command => read_command(alloc, reading, line),
+        Statement::Other => read_other(alloc, reading, line),
     }
 }

@@ -1,4 +1,4 @@
-ghost use Rattle.std.specs.Prelude.{◌≡◌, ◌∷◌, [], take, IfOk, MatchOption};
+ghost use Rattle.std.specs.Prelude.{◌≡◌, take, IfOk};
 ghost use Rattle.std.specs.List.{list_any};
 ghost use Rattle.spice_text.specs.Words.{before_assignment, is_assignment};
 ghost use Rattle.spice_text.specs.Statements.{meaning_of, statement_of};
@@ -91,18 +91,6 @@ fn without_assignments(words: Vec<Name>) -> Items<Name>
     let count = plain_count(words.as_slice());
     words.truncate(count);
     Items::from_vec(words)
-}
-
-/// The first word and the others.
-pub fn first_and_others(words: Vec<Name>) -> Option<(Name, Vec<Name>)>
-    ensures { MatchOption result (words.items ≡ []) (λ p. words.items ≡ p.0 ∷ p.1.items) }
-{
-    if words.is_empty() {
-        return None;
-    }
-    let mut words = words;
-    let first = words.remove(0);
-    Some((first, words))
 }
 
 /// What a line of these words says.

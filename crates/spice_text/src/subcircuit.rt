@@ -1,7 +1,3 @@
-ghost use Rattle.std.specs.Prelude.{◌≡◌, List, ℕ, map};
-ghost use Rattle.spice_text.specs.Words.{is_among};
-ghost use Rattle.spice_text.specs.Subcircuits.{name_of, own_name};
-
 use crate::name_set::NameSet;
 use netlist::Subckt;
 use or_geom::Items;
@@ -14,7 +10,6 @@ pub struct OpenSubckt {
     pub subckt: Subckt,
     /// The names of its instances, so that a name that stands twice is found at once.
     pub instances: NameSet,
-    pub ghost named: { instances ≡ map own_name subckt.instances },
 }
 
 /// What the lines so far gave.
@@ -24,5 +19,4 @@ pub struct Reading {
     /// The names of the subcircuits that are done.
     pub names: NameSet,
     pub current: Option<OpenSubckt>,
-    pub ghost named: { (name : List ℕ) → is_among name names ≡ is_among name (map name_of done) },
 }
