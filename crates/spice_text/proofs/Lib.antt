@@ -2,6 +2,7 @@ pub mod LineLaws
 pub mod WordLaws
 pub mod NameLaws
 pub mod DeckLaws
+pub mod ReaderLaws
 pub mod WrittenLines
 pub mod WrittenWords
 pub mod WrittenNames

@@ -1,5 +1,6 @@
 -- What the reader's own types stand for.
-use Rattle.std.specs.Prelude.{◌≡◌, ℕ, List, ◌∷◌, if◌then◌else◌, map, Option, Some, None, IfSome, codes, ◌||◌}
+use Rattle.std.specs.Prelude.{◌≡◌, ℕ, List, [], ◌∷◌, Bool, false, if◌then◌else◌, map, Option, Some, None, IfSome, codes, ◌||◌}
+use Rattle.netlist.specs.declared.deck.Deck.{Deck}
 use Rattle.std.specs.Str.{bytes_eq}
 use Rattle.spice_text.specs.declared.statement.Keyword.{Keyword}
 use Rattle.spice_text.specs.declared.statement.Keyword.TheVariants as word
@@ -11,7 +12,7 @@ use Rattle.spice_text.specs.LogicalLines.{starts_with}
 use Rattle.spice_text.specs.Words.{before_assignment, is_among}
 use Rattle.spice_text.specs.Statements.{LineMeaning}
 use Rattle.spice_text.specs.Statements as says
-use Rattle.spice_text.specs.Subcircuits.{BegunSubckt, DeckSoFar, name_of, own_name}
+use Rattle.spice_text.specs.Subcircuits.{BegunSubckt, DeckSoFar, name_of, own_name, opened, closed_by, with_closed}
 
 -- what a statement says
 abbrev pub said : Statement → LineMeaning
@@ -53,6 +54,31 @@ current_of (Some o) = Some (begun_of o)
 
 abbrev pub so_far : Reading → DeckSoFar
 so_far r = record { done = r.done; current = current_of r.current }
+
+-- the deck of what was read, where the text ends after so many bytes
+abbrev pub deck_of : Reading → ℕ → Deck
+deck_of r used = record { subckts = r.done; used = used }
+
+-- the subcircuit that begins with these words, if there are some
+abbrev pub opened_by : ℕ → List (List ℕ) → Option BegunSubckt
+opened_by line [] = None
+opened_by line (name ∷ ports) = Some (opened line name ports)
+
+abbrev pub with_opened : DeckSoFar → ℕ → List (List ℕ) → DeckSoFar
+with_opened d line words = record { done = d.done; current = opened_by line words }
+
+-- whether an `.ENDS` with these words behind it ends the open subcircuit
+abbrev pub is_ended_by : Option BegunSubckt → List (List ℕ) → Bool
+is_ended_by None words = false
+is_ended_by (Some o) words = closed_by words o.subckt.name
+
+abbrev pub closed_at : Option BegunSubckt → DeckSoFar → DeckSoFar
+closed_at None d = d
+closed_at (Some o) d = with_closed d o
+
+-- the open subcircuit, where there is one, is done
+abbrev pub closed : DeckSoFar → DeckSoFar
+closed d = closed_at d.current d
 
 -- the set of an open subcircuit has the names of its instances
 abbrev pub HasInstanceNames : OpenSubckt → Type 0

@@ -5,7 +5,7 @@ ghost use Rattle.spice_text.specs.Faults.{IsSpiceAnswer, IsSpiceFault};
 ghost use Rattle.spice_text.specs.LogicalLines.{counts, logical_lines};
 ghost use Rattle.spice_text.specs.Lines.{lines_of};
 ghost use Rattle.spice_text.specs.Views.{lines_after};
-ghost use Rattle.spice_text.specs.ReaderViews.{said, current_of};
+ghost use Rattle.spice_text.specs.ReaderViews.{said, current_of, so_far, deck_of, HasNames};
 
 use crate::fault::SpiceFault;
 use crate::logical::next_logical;
@@ -14,7 +14,7 @@ use crate::reading::read_line;
 use crate::source::Source;
 use crate::statement::{Statement, read_statement};
 use crate::subcircuit::Reading;
-use netlist::Deck;
+use netlist::{Deck, Subckt};
 use or_geom::Items;
 use std::alloc::Global;
 
@@ -44,17 +44,14 @@ fn is_stop(reading: &Reading, statement: &Statement) -> bool
     }
 }
 
-/// What was read, where the text ends after so many bytes.
-fn finish(reading: Reading, used: u64) -> Result<Deck, SpiceFault>
-    ensures { IsSpiceAnswer (λ d. d) result (finished used reading.done (current_of reading.current)) }
+/// Where the text ends, unless a subcircuit is still open there.
+fn ended(reading: &Reading, used: u64) -> Result<u64, SpiceFault>
+    ensures { IsSpiceAnswer (deck_of reading.now) result (finished used reading.now.done (current_of reading.now.current)) }
 {
-    if let Some(open) = &reading.current {
-        return Err(SpiceFault::Unclosed { line: open.line });
+    match &reading.current {
+        None => Ok(used),
+        Some(current) => Err(SpiceFault::Unclosed { line: current.line }),
     }
-    Ok(Deck {
-        subckts: reading.done,
-        used,
-    })
 }
 
 /// All of a text.
@@ -68,8 +65,32 @@ fn whole(bytes: &[u8]) -> Source<'_>
     }
 }
 
-/// The subcircuits of a text without foreign bytes.
-fn read_lines(alloc: Global, bytes: &[u8]) -> Result<Deck, SpiceFault>
+/// Reads the lines of a text without foreign bytes, and tells where it ends.
+fn read_lines(alloc: Global, reading: &mut Reading, bytes: &[u8]) -> Result<u64, SpiceFault>
+    requires { HasNames reading.old }
+    ensures { IsSpiceAnswer (deck_of reading.new) result (deck_after (length bytes.now) (so_far reading.old) (logical_lines (lines_of bytes.now))) }
+{
+    let mut left = whole(bytes);
+    'lines: while let Some((line, after)) = next_logical(alloc, left)? {
+        let statement = read_statement(alloc, line.text.as_slice())?;
+        if is_stop(reading, &statement) {
+            return ended(reading, line.before);
+        }
+        read_line(alloc, reading, &line, statement)?;
+        left = after;
+    }
+    ended(reading, bytes.len() as u64)
+}
+
+/// The subcircuits that are done.
+fn done_of(reading: Reading) -> Items<Subckt>
+    ensures { result ≡ reading.done }
+{
+    reading.done
+}
+
+/// The deck of a text without foreign bytes.
+fn read_deck(alloc: Global, bytes: &[u8]) -> Result<Deck, SpiceFault>
     ensures { IsSpiceAnswer (λ d. d) result (deck_after (length bytes.now) start (logical_lines (lines_of bytes.now))) }
 {
     let mut reading = Reading {
@@ -77,16 +98,12 @@ fn read_lines(alloc: Global, bytes: &[u8]) -> Result<Deck, SpiceFault>
         names: NameSet::new(alloc),
         current: None,
     };
-    let mut left = whole(bytes);
-    'lines: while let Some((line, after)) = next_logical(alloc, left)? {
-        let statement = read_statement(alloc, line.text.as_slice())?;
-        if is_stop(&reading, &statement) {
-            return finish(reading, line.before);
-        }
-        read_line(alloc, &mut reading, &line, statement)?;
-        left = after;
-    }
-    finish(reading, bytes.len() as u64)
+    let used = read_lines(alloc, &mut reading, bytes);
+    let subckts = done_of(reading);
+    Ok(Deck {
+        subckts,
+        used: used?,
+    })
 }
 
 /// Reads the subcircuits of a SPICE text.
@@ -105,5 +122,5 @@ pub fn read_spice(alloc: Global, bytes: &[u8]) -> Result<Deck, SpiceFault>
     if let Some(index) = first_foreign(bytes) {
         return Err(SpiceFault::NotAscii { at: index as u64 });
     }
-    read_lines(alloc, bytes)
+    read_deck(alloc, bytes)
 }

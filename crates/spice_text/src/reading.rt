@@ -1,9 +1,8 @@
-ghost use Rattle.std.specs.Prelude.{◌≡◌, ◌<◌, ◌∷◌, ◌++◌, ◌||◌, [], IfOk, OnOk, MatchOption, length};
+ghost use Rattle.std.specs.Prelude.{◌≡◌, ◌<◌, ◌∷◌, ◌++◌, [], IfOk, IfSome, OnOk, MatchOption, length};
 ghost use Rattle.spice_text.specs.Views.{logical_of};
-ghost use Rattle.spice_text.specs.ReaderViews.{said, begun_of, so_far, HasInstanceNames, HasNames};
-ghost use Rattle.spice_text.specs.Words.{is_among};
+ghost use Rattle.spice_text.specs.ReaderViews.{said, begun_of, current_of, so_far, opened_by, with_opened, is_ended_by, closed, HasInstanceNames, HasNames};
 ghost use Rattle.spice_text.specs.Statements as says;
-ghost use Rattle.spice_text.specs.Subcircuits.{has_repeat, opened, instance_added, kept_raw, closed_by};
+ghost use Rattle.spice_text.specs.Subcircuits.{has_repeat, instance_added, kept_raw, closed_by};
 ghost use Rattle.spice_text.specs.Steps.{step};
 ghost use Rattle.spice_text.specs.Faults.{IsSpiceAnswer};
 
@@ -31,9 +30,8 @@ fn repeats(alloc: Global, names: &[Name]) -> Result<bool, Memory>
 
 /// The subcircuit that begins with these words: its name, and its ports.
 fn opening(alloc: Global, line: u64, words: Items<Name>) -> Option<OpenSubckt>
-    ensures words { MatchOption result (words ≡ []) (λ begun. words ≡ begun.subckt.name ∷ begun.subckt.ports) }
-    ensures begun { MatchOption result (words ≡ []) (λ begun. begun_of begun ≡ opened line begun.subckt.name begun.subckt.ports) }
-    ensures names { MatchOption result (words ≡ []) HasInstanceNames }
+    ensures begun { current_of result ≡ opened_by line words }
+    ensures named { IfSome result HasInstanceNames }
 {
     let mut ports = words.into_vec();
     if ports.is_empty() {
@@ -53,14 +51,30 @@ fn opening(alloc: Global, line: u64, words: Items<Name>) -> Option<OpenSubckt>
     })
 }
 
-/// Whether a name is taken: the subcircuit's by one of these, or a port's by another port.
-fn is_taken(alloc: Global, names: &NameSet, subckt: &Subckt) -> Result<bool, Memory>
-    ensures { IfOk result (λ taken. taken ≡ (is_among subckt.now.name names.now || has_repeat [] subckt.now.ports)) }
+/// Whether a subcircuit can begin with these words: none is open, and its name and those of its ports are new.
+fn check_begin(
+    alloc: Global,
+    reading: &Reading,
+    line: &LogicalLine,
+    words: &[Name],
+) -> Result<(), SpiceFault>
+    requires { HasNames reading.now }
+    ensures { IsSpiceAnswer (λ _. with_opened (so_far reading.now) line.now.number words.now) result (step (so_far reading.now) (logical_of line.now) (says.Begin words.now)) }
 {
-    if names.holds(subckt.name.as_bytes()) {
-        return Ok(true);
+    let line = line.number;
+    let None = &reading.current else {
+        return Err(SpiceFault::Unclosed { line });
+    };
+    let Some((name, ports)) = words.split_first() else {
+        return Err(SpiceFault::BadLine { line });
+    };
+    if reading.names.holds(name.as_bytes()) {
+        return Err(SpiceFault::Duplicate { line });
     }
-    repeats(alloc, subckt.ports.as_slice())
+    if repeats(alloc, ports)? {
+        return Err(SpiceFault::Duplicate { line });
+    }
+    Ok(())
 }
 
 /// A `.SUBCKT` with these words after it.
@@ -74,17 +88,8 @@ fn begin(
     ensures read { IsSpiceAnswer (λ _. so_far reading.new) result (step (so_far reading.old) (logical_of line.now) (says.Begin words)) }
     ensures named { OnOk result (HasNames reading.new) }
 {
-    let line = line.number;
-    let None = &reading.current else {
-        return Err(SpiceFault::Unclosed { line });
-    };
-    let Some(current) = opening(alloc, line, words) else {
-        return Err(SpiceFault::BadLine { line });
-    };
-    if is_taken(alloc, &reading.names, &current.subckt)? {
-        return Err(SpiceFault::Duplicate { line });
-    }
-    reading.current = Some(current);
+    check_begin(alloc, reading, line, words.as_slice())?;
+    reading.current = opening(alloc, line.number, words);
     Ok(())
 }
 
@@ -187,8 +192,18 @@ fn closes(words: &[Name], name: &[u8]) -> bool
     }
 }
 
-/// The subcircuit is done.
-fn close(alloc: Global, reading: &mut Reading, subckt: Subckt) -> Result<(), Memory>
+/// Whether an `.ENDS` with these words after it ends the open subcircuit.
+fn is_ended(current: &Option<OpenSubckt>, words: &[Name]) -> bool
+    ensures { result ≡ is_ended_by (current_of current.now) words.now }
+{
+    match current {
+        Some(current) => closes(words, current.subckt.name.as_bytes()),
+        None => false,
+    }
+}
+
+/// One subcircuit more is done.
+fn add_done(alloc: Global, reading: &mut Reading, subckt: Subckt) -> Result<(), Memory>
     requires { HasNames reading.old }
     ensures done { OnOk result (reading.new.done ≡ reading.old.done ++ subckt ∷ []) }
     ensures current { reading.new.current ≡ reading.old.current }
@@ -199,7 +214,27 @@ fn close(alloc: Global, reading: &mut Reading, subckt: Subckt) -> Result<(), Mem
     Ok(())
 }
 
+/// What an open subcircuit has so far.
+fn subckt_of(current: OpenSubckt) -> Subckt
+    ensures { result ≡ current.subckt }
+{
+    current.subckt
+}
+
+/// The open subcircuit, where there is one, is done.
+fn close(alloc: Global, reading: &mut Reading) -> Result<(), Memory>
+    requires { HasNames reading.old }
+    ensures closed { OnOk result (so_far reading.new ≡ closed (so_far reading.old)) }
+    ensures named { OnOk result (HasNames reading.new) }
+{
+    let Some(current) = reading.current.take() else {
+        return Ok(());
+    };
+    add_done(alloc, reading, subckt_of(current))
+}
+
 /// An `.ENDS` with these words after it.
+#[tactic(auto, using(crate::proofs::ReaderLaws::step_ended, crate::proofs::ReaderLaws::step_open))]
 fn end(
     alloc: Global,
     reading: &mut Reading,
@@ -210,14 +245,10 @@ fn end(
     ensures read { IsSpiceAnswer (λ _. so_far reading.new) result (step (so_far reading.old) (logical_of line.now) (says.End words.now)) }
     ensures named { OnOk result (HasNames reading.new) }
 {
-    let line = line.number;
-    let Some(current) = reading.current.take() else {
-        return Err(SpiceFault::Unclosed { line });
-    };
-    if !closes(words, current.subckt.name.as_bytes()) {
-        return Err(SpiceFault::Unclosed { line });
+    if !is_ended(&reading.current, words) {
+        return Err(SpiceFault::Unclosed { line: line.number });
     }
-    close(alloc, reading, current.subckt)?;
+    close(alloc, reading)?;
     Ok(())
 }
 

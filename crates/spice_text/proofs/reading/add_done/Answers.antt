@@ -4,7 +4,7 @@ use Rattle.std.proofs.lemmas.List.{map-append}
 use Rattle.spice_text.specs.Words.{is_among, with_name}
 use Rattle.spice_text.specs.Subcircuits.{name_of}
 use Rattle.spice_text.proofs.NameLaws.{among_more}
-use Rattle.spice_text.proofs.reading.close.Goals as goal
+use Rattle.spice_text.proofs.reading.add_done.Goals as goal
 
 pub returns-clause-named : goal.returns-clause-named
 returns-clause-named c = record {
