@@ -1,4 +1,4 @@
--- A kit of which nothing is said spares each build nets that differ, where its labels are safe.
+-- A kit of which nothing is said spares each build nets that differ.
 use Rattle.std.proofs.Common.{◌≡◌, ℕ, List, subst, arith}
 use Rattle.std.specs.Prelude.{Ok, Err}
 use Rattle.net_extractor.specs.declared.difference.NetDiff.{NetDiff}
@@ -14,16 +14,15 @@ use Rattle.build_command.specs.declared.design.Design.{Design}
 use Rattle.build_command.specs.Design.{IsDesign}
 use Rattle.build_command.specs.Made.{IsWork, refusal_in}
 use Rattle.build_command.specs.OneDesign.{HoldBytes}
-use Rattle.label_nets.specs.Safe.{AreKitLabelsSafe}
 use Rattle.good_matches.specs.Matches.{MatchesNetlist}
 use Rattle.good_matches.proofs.MatchLaws.{good_kits_match}
 use Rattle.good_kits.specs.Builds.{IsKitPassed}
 use Rattle.good_kits.specs.Nets.{GoodKitsMatchBuilds, GoodKitsMatchRuns}
 use Rattle.good_kits.proofs.BuildLaws.{told_map, known, good, fault_of}
 
-module _ (files : Files) (config_file : List ℕ) (design : Design) (hold : HoldBytes files) (is : IsDesign files config_file (Ok design)) (passed : IsKitPassed files design.config.tech_name) (safe : AreKitLabelsSafe design.kit) where
+module _ (files : Files) (config_file : List ℕ) (design : Design) (hold : HoldBytes files) (is : IsDesign files config_file (Ok design)) (passed : IsKitPassed files design.config.tech_name) where
   kept : MatchesNetlist design.kit design.plan design.config.output_name
-  kept = let k = known files config_file design hold is passed in good_kits_match design.kit design.config design.plan design.config.output_name k.kit (good files config_file design hold is passed) safe k.config k.planned k.numbers
+  kept = let k = known files config_file design hold is passed in good_kits_match design.kit design.config design.plan design.config.output_name k.kit (good files config_file design hold is passed) k.config k.planned k.numbers
 
   differ_of : (layers : List Layer) (difference : NetDiff) (fault : BuildFault) → IsBuildFault design.kit design.plan Stored design.config.output_name fault → refusal_of.NetsDiffer difference ≡ refusal_in layers fault → ⊥
   differ_of layers difference (build_fault.Part other) faulty same = absurd cc
@@ -36,9 +35,9 @@ module _ (files : Files) (config_file : List ℕ) (design : Design) (hold : Hold
   match_builds difference work = let f = fault_of files config_file design hold is passed (refusal_of.NetsDiffer difference) (omega arith) work in differ_of design.kit.tech.layers difference f.fault f.faulty f.same
 
 pub good_kits_match_builds : GoodKitsMatchBuilds
-good_kits_match_builds files config_file design hold is passed safe difference work = match_builds files config_file design hold is passed safe difference work
+good_kits_match_builds files config_file design hold is passed difference work = match_builds files config_file design hold is passed difference work
 
 pub good_kits_match_runs : GoodKitsMatchRuns
 good_kits_match_runs config_file before now difference refused same =
-    told_map before.store.files (λ files. IsWork files config_file (Err refused.refusal)) (λ files. (design : Design) → HoldBytes files → IsDesign files config_file (Ok design) → IsKitPassed files design.config.tech_name → AreKitLabelsSafe design.kit → ⊥)
-    (λ files work design hold is passed safe. good_kits_match_builds files config_file design hold is passed safe difference (subst (λ (r : Refusal). IsWork files config_file (Err r)) same work)) refused.work
+    told_map before.store.files (λ files. IsWork files config_file (Err refused.refusal)) (λ files. (design : Design) → HoldBytes files → IsDesign files config_file (Ok design) → IsKitPassed files design.config.tech_name → ⊥)
+    (λ files work design hold is passed. good_kits_match_builds files config_file design hold is passed difference (subst (λ (r : Refusal). IsWork files config_file (Err r)) same work)) refused.work

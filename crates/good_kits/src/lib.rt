@@ -1,5 +1,5 @@
-//! Laws of good kits: where `kit` answers nothing of a kit, no build with it ends with pins or taps too close, with a broken rule or, its labels
-//! being safe, with nets that differ.
+//! Laws of good kits: where `kit` answers nothing of a kit, no build with it ends with pins or taps too close, with a broken rule or with nets
+//! that differ.
 #![tactic(auto)]
 
 ghost use Rattle.good_kits.specs.Builds.{GoodKitsSpareBuilds, GoodKitsSpareRuns};
@@ -15,7 +15,7 @@ pub fn good_kits_spare_runs()
     ensures { GoodKitsSpareRuns }
 {}
 
-/// Nor has the work nets that differ, where the labels of that kit's leaf cells are safe.
+/// Nor has the work nets that differ.
 pub fn good_kits_match_builds()
     ensures { GoodKitsMatchBuilds }
 {}

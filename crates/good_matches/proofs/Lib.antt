@@ -1,3 +1,4 @@
 pub mod SourceLaws
 pub mod WindowLaws
+pub mod JoinedLaws
 pub mod MatchLaws

@@ -1,12 +1,11 @@
--- For a good kit whose labels are safe, those of each macro are joined as its netlist says.
-use Rattle.std.proofs.Common.{◌∙◌, ℕ, List, [], ◌++◌, refl, sym, ap, subst}
+-- For a good kit the labels of each macro are joined as its netlist says.
+use Rattle.std.proofs.Common.{◌∙◌, ℕ, List, ◌++◌, sym, ap, subst}
 use Rattle.gds_library.specs.declared.library.Library.{Library}
 use Rattle.netlist.specs.declared.deck.Deck.{Deck}
 use Rattle.netlist.specs.declared.rows.RowPin.{RowPin}
 use Rattle.spice_netlist.specs.Faults.{AreFlatRows}
 use Rattle.cell_hierarchy.specs.FlatLists.{AreFlatLists}
 use Rattle.cell_hierarchy.specs.Plain.{FlatLists}
-use Rattle.tile_checker.specs.RuleReport.{IsReport}
 use Rattle.net_extractor.specs.declared.label.NetLabel.{NetLabel}
 use Rattle.net_extractor.specs.Extraction.{AreNets}
 use Rattle.net_extractor.specs.Difference.{AreAlike}
@@ -30,13 +29,11 @@ use Rattle.kit_check.specs.Good.{IsGoodKit}
 use Rattle.kit_check.specs.Makers.{role_cells}
 use Rattle.kit_command.specs.Assembled.{IsAssembled}
 use Rattle.good_nets.specs.Parts.{AreSeen}
-use Rattle.good_reports.proofs.ReportLaws.{good_kits_break_no_rule, written_plan, some_written}
+use Rattle.good_reports.proofs.ReportLaws.{written_plan, some_written}
 use Rattle.clean_windows.specs.Sound.{IsWrittenOfRows}
 use Rattle.drawn_memories.specs.Drawn.{IsDrawnMacro}
 use Rattle.drawn_memories.proofs.DrawnLaws.{macros_are_drawn}
 use Rattle.drawn_memories.proofs.LayerLaws.{are_first_wires}
-use Rattle.label_nets.specs.Safe.{AreKitLabelsSafe}
-use Rattle.label_nets.proofs.SafeLaws.{safe_kits_keep_labels}
 use Rattle.moved_nets.proofs.StableLaws.{stable_net}
 use Rattle.kit_nets.specs.StatedParts.{stated_parts}
 use Rattle.kit_nets.proofs.JoinedLaws.{joined_are_alike}
@@ -44,15 +41,18 @@ use Rattle.kit_nets.proofs.PortNameLaws.{some_port}
 use Rattle.wired_macros.proofs.JoinedMacroLaws.{hub_of, joined_macro}
 use Rattle.wire_nets.proofs.NamedLaws.{named_nets}
 use Rattle.wire_nets.proofs.StatedWireLaws.{stated_wires_touch, stated_wire_once}
-use Rattle.wired_kits.proofs.KitMacroLaws.{flat_leaf, kit_source, kit_wired, kit_leaves_inside}
+use Rattle.wired_kits.proofs.KitMacroLaws.{kit_source, kit_wired, kit_leaves_inside}
 use Rattle.high_cells.proofs.HighLaws.{kits_have_high_cells}
+use Rattle.seen_pairs.specs.Window.{HasSeenWindow}
 use Rattle.seen_pairs.proofs.PairLaws.{pairs_seen}
 use Rattle.seen_wires.proofs.WireLaws.{beside_seen}
+use Rattle.seen_labels.proofs.SeenLabelLaws.{seen_labels_stay}
+use Rattle.good_matches.proofs.JoinedLaws.{net_hub, joined_memory}
 use Rattle.good_matches.specs.Matches.{MatchesNetlist, GoodKitsMatch}
-use Rattle.good_matches.proofs.SourceLaws.{overhang, only, seen_source}
+use Rattle.good_matches.proofs.SourceLaws.{overhang, only, seen_source, shapes_pass, shapes_inside}
 use Rattle.good_matches.proofs.WindowLaws.{rows_equal_of, seen_window}
 
-module _ (kit : Kit) (config : Config) (plan : Plan) (name : List ℕ) (is : IsKit kit) (good : IsGoodKit IsAssembled kit) (safe : AreKitLabelsSafe kit)
+module _ (kit : Kit) (config : Config) (plan : Plan) (name : List ℕ) (is : IsKit kit) (good : IsGoodKit IsAssembled kit)
     (is_config : IsConfig config) (of : IsPlanOf config plan) (numbers : ArePlanNumbers (numbers_of plan)) where
   written : IsWritten (organization plan)
   written = some_written config plan is_config of
@@ -61,13 +61,17 @@ module _ (kit : Kit) (config : Config) (plan : Plan) (name : List ℕ) (is : IsK
     drawn : IsDrawnMacro kit (organization plan) is.wire lists
     drawn = macros_are_drawn kit plan name m lists is numbers written made flat
 
-    -- whatever touches of the macro's parts is seen in a window
+    -- its small memory
+    window : HasSeenWindow kit.tech.connects (kit_source kit is good.pins (organization plan) numbers.plan written lists drawn)
+    window =
+        let planned : IsWrittenOfRows plan = record { numbers = numbers; groups = of.with.groups ∙ ap row_groups (sym of.with.rows); written = written } in
+        seen_window kit is good plan planned (written_plan config plan is_config of numbers) made.wide drawn.tracks drawn.floorplan
+
+    -- whatever touches of the macro's parts is seen in it
     seen : AreSeen kit.tech.connects (stated_parts (kit_source kit is good.pins (organization plan) numbers.plan written lists drawn))
     seen =
         let s = kit_source kit is good.pins (organization plan) numbers.plan written lists drawn in
         let source = seen_source kit is good (organization plan) numbers.plan written lists drawn in
-        let planned : IsWrittenOfRows plan = record { numbers = numbers; groups = of.with.groups ∙ ap row_groups (sym of.with.rows); written = written } in
-        let window = seen_window kit is good safe plan planned (written_plan config plan is_config of numbers) made.wide drawn.tracks drawn.floorplan in
         let by = (overhang kit is good).0 in
         let lk = layout_kit kit in
         let high = kits_have_high_cells kit (organization plan) is good.pins in
@@ -81,18 +85,20 @@ module _ (kit : Kit) (config : Config) (plan : Plan) (name : List ℕ) (is : IsK
         }
 
     -- its labels are joined as its netlist says
-    macro_alike : IsReport kit.tech.rules lists.shapes [] → (labels : List NetLabel) (rows : List RowPin) → AreNets kit.tech lists.shapes lists.labels labels → AreFlatRows (kit.deck.subckts ++ m.deck.subckts) name (role_cells kit) rows → AreAlike labels rows
-    macro_alike reported labels rows nets netlist =
+    macro_alike : (labels : List NetLabel) (rows : List RowPin) → AreNets kit.tech lists.shapes lists.labels labels → AreFlatRows (kit.deck.subckts ++ m.deck.subckts) name (role_cells kit) rows → AreAlike labels rows
+    macro_alike labels rows nets netlist =
         let build = numbers.plan in
         let s = kit_source kit is good.pins (organization plan) build written lists drawn in
         let wired = kit_wired kit is good.pins (organization plan) build written lists drawn in
-        let stays = safe_kits_keep_labels kit s lists safe (flat_leaf kit is good.pins) reported in
+        let source = seen_source kit is good (organization plan) build written lists drawn in
+        let by = (overhang kit is good).0 in
+        let stays = seen_labels_stay kit.tech.connects s by (reach_with kit by) lists (net_hub kit.tech s lists wired) source window (shapes_pass kit is good (organization plan) build written lists drawn) (shapes_inside kit is good (organization plan) build written lists drawn) (joined_memory kit.tech s lists wired) in
         let equal = rows_equal_of kit plan name m numbers made rows netlist in
         let joined = joined_macro kit.tech s lists wired stays labels nets rows equal (kit_leaves_inside kit is good.pins (organization plan) build written lists drawn) in
         joined_are_alike kit.tech.connects s lists labels rows (hub_of kit.tech s lists wired stays labels nets rows equal) joined (λ leaf. some_port (role s.plan leaf)) seen
 
   of_made : (m : Macro) (lists : FlatLists) → IsMacro kit plan Stored name m → AreFlatLists kit.tech.layers m.lib.structs name lists → (labels : List NetLabel) (rows : List RowPin) → AreNets kit.tech lists.shapes lists.labels labels → AreFlatRows (kit.deck.subckts ++ m.deck.subckts) name (role_cells kit) rows → AreAlike labels rows
-  of_made m lists made flat labels rows nets netlist = macro_alike m lists made flat ((good_kits_break_no_rule kit config plan name is good is_config of numbers).clean (m.lib, m.deck) lists (m, made, refl) flat) labels rows nets netlist
+  of_made m lists made flat labels rows nets netlist = macro_alike m lists made flat labels rows nets netlist
 
   pub matches_netlist : MatchesNetlist kit plan name
   matches_netlist = record {
@@ -104,4 +110,4 @@ module _ (kit : Kit) (config : Config) (plan : Plan) (name : List ℕ) (is : IsK
   }
 
 pub good_kits_match : GoodKitsMatch
-good_kits_match kit config plan name is good safe is_config of numbers = matches_netlist kit config plan name is good safe is_config of numbers
+good_kits_match kit config plan name is good is_config of numbers = matches_netlist kit config plan name is good is_config of numbers

@@ -1,20 +1,27 @@
 -- A drawn macro of a good kit is one whose parts are seen.
-use Rattle.std.proofs.Common.{ℕ, ℤ, pos, ◌+ℤ◌, ◌≤ℤ◌, List, [], ◌∷◌, sym, subst, arith}
+use Rattle.std.proofs.Common.{◌≡◌, ℕ, ℤ, pos, ◌+ℤ◌, ◌≤ℤ◌, List, [], ◌∷◌, Contains, refl, sym, subst, arith}
 use Rattle.std.specs.Int.{int_max}
 use Rattle.std.proofs.lemmas.Int.{ints, clamps}
+use Rattle.or_geom.specs.declared.shape.Shape.{Shape}
+use Rattle.cell_roles.specs.declared.role.Role.TheVariants.{Bitcell}
 use Rattle.tech_rules.specs.declared.tech.Rule.{Rule}
 use Rattle.cell_hierarchy.specs.Plain.{FlatLists}
 use Rattle.cell_hierarchy.specs.FlatSet.{IsFlatShape}
+use Rattle.sram_netlist.specs.BitCells.{Alike}
+use Rattle.sram_netlist.specs.Instances.{LeafInstance, BitAt, NandAt, DriverAt, PrechargeAt, WriteAt, SenseAt, MuxAt, TieAt, LogicAt}
 use Rattle.sram_netlist.specs.Netlist.{role}
 use Rattle.sram_netlist.specs.Organization.{Organization, IsBuildable, IsWritten}
 use Rattle.leaf_tables.specs.declared.kit.Kit.{Kit}
 use Rattle.leaf_tables.specs.Kits.{IsKit}
+use Rattle.port_lists.specs.Cells.{cell_in}
+use Rattle.macro_layout.specs.Places.{leaf_cell}
+use Rattle.macro_cells.specs.LayoutOfKit.{layout_kit}
 use Rattle.macro_cells.proofs.DemandLaws.{wire_there}
 use Rattle.kit_rules.specs.Reach.{IsOverhang, reach_with, greatest_minimum, minimum_of}
 use Rattle.kit_check.specs.Good.{IsGoodKit}
 use Rattle.kit_command.specs.Assembled.{IsAssembled}
 use Rattle.good_windows.specs.Short.{HasShortReach}
-use Rattle.good_windows.proofs.PassLaws.{shapes_pass_little}
+use Rattle.good_windows.proofs.PassLaws.{shapes_pass_little, leaves_draw_inside}
 use Rattle.good_windows.proofs.ShortLaws.{good_kits_are_short}
 use Rattle.good_reports.proofs.OverhangLaws.{overhang_there}
 use Rattle.drawn_memories.specs.Drawn.{IsDrawnMacro}
@@ -23,6 +30,7 @@ use Rattle.joined_nets.specs.Joints.{JoinsOnlyWires}
 use Rattle.kit_nets.proofs.JointLaws.{good_joints}
 use Rattle.kit_nets.proofs.PartsLaws.{cell_of_role}
 use Rattle.seen_pairs.specs.Window.{IsDrawnSource, IsSeenSource}
+use Rattle.seen_labels.specs.Stay.{DoShapesPassLittle, DoShapesStayInside}
 use Rattle.wired_kits.proofs.KitMacroLaws.{kit_source, kit_stated, kit_leaves_inside}
 
 at_least_one : (rules : List Rule) → pos 1 ≤ℤ greatest_minimum rules
@@ -70,3 +78,26 @@ module _ (kit : Kit) (is : IsKit kit) (good : IsGoodKit IsAssembled kit) where
               (subst (λ (name : List ℕ). IsFlatShape kit.tech.layers kit.lib.structs name inner) (sym (cell_of_role kit.tech.connects (kit_source kit is good.pins plan build written lists m) lists stated leaf)) (((stated.flat_cells (role plan leaf)).shapes_exact inner).0 listed));
           inside = λ leaf inner has listed of. kit_leaves_inside kit is good.pins plan build written lists m leaf inner has listed of;
         }
+
+    -- a leaf instance's cell in any memory of the kit
+    cell_is : (any : Organization) (leaf : LeafInstance) → leaf_cell any (layout_kit kit) (Alike (cell_in kit.tech.roles Bitcell)) leaf ≡ (layout_kit kit).cell (role any leaf)
+    cell_is any (BitAt b r c) = (kit_stated kit is good.pins plan build written lists m).bitcell r c
+    cell_is any (NandAt b r) = refl
+    cell_is any (DriverAt b r) = refl
+    cell_is any (PrechargeAt b c) = refl
+    cell_is any (WriteAt b i) = refl
+    cell_is any (SenseAt b i) = refl
+    cell_is any (MuxAt b c) = refl
+    cell_is any (TieAt b c) = refl
+    cell_is any (LogicAt cell) = refl
+
+    flat_in : (any : Organization) (leaf : LeafInstance) (inner : Shape) → Contains ((kit_source kit is good.pins plan build written lists m).lists (role any leaf)).shapes inner → IsFlatShape kit.tech.layers kit.lib.structs (leaf_cell any (layout_kit kit) (Alike (cell_in kit.tech.roles Bitcell)) leaf) inner
+    flat_in any leaf inner listed =
+        subst (λ (name : List ℕ). IsFlatShape kit.tech.layers kit.lib.structs name inner) (sym (cell_is any leaf)) ((((kit_stated kit is good.pins plan build written lists m).flat_cells (role any leaf)).shapes_exact inner).0 listed)
+
+    -- So far at most its leaf cells draw in each memory beyond their sides, and on layers of wires inside of them.
+    pub shapes_pass : DoShapesPassLittle (kit_source kit is good.pins plan build written lists m) overhang.0
+    shapes_pass any leaf inner has listed = shapes_pass_little kit overhang.0 any is overhang.1 leaf inner has (flat_in any leaf inner listed)
+
+    pub shapes_inside : DoShapesStayInside (kit_source kit is good.pins plan build written lists m)
+    shapes_inside any leaf inner has listed of = leaves_draw_inside kit any is leaf inner has (flat_in any leaf inner listed) of

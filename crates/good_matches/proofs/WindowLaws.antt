@@ -30,13 +30,12 @@ use Rattle.good_windows.proofs.ListedLaws.{IsSize, all_at_once, one_by_one}
 use Rattle.clean_windows.specs.Sound.{HasSoundWindow, IsWrittenOfRows}
 use Rattle.clean_windows.proofs.SoundLaws.{sized}
 use Rattle.drawn_memories.proofs.DrawnLaws.{macros_are_drawn, drawn_own}
-use Rattle.label_nets.specs.Safe.{AreKitLabelsSafe}
-use Rattle.label_nets.proofs.SafeLaws.{safe_kits_keep_labels}
+use Rattle.bound_labels.proofs.BoundLaws.{bound_labels_stay}
 use Rattle.wired_macros.proofs.JoinedMacroLaws.{stated_window}
 use Rattle.small_rows.specs.Few.{IsFewBits}
 use Rattle.seen_pairs.specs.Window.{HasSeenWindow}
 use Rattle.wired_kits.specs.KitMacros.{source_of_kit}
-use Rattle.wired_kits.proofs.KitMacroLaws.{leaf_lists, flat_leaf, kit_source, kit_stated, kit_wired}
+use Rattle.wired_kits.proofs.KitMacroLaws.{leaf_lists, kit_source, kit_stated, kit_wired, kit_leaves_inside}
 use Rattle.apart_macros.proofs.ApartLaws.{macros_are_apart}
 use Rattle.good_matches.specs.Window.{IsWindowThere}
 use Rattle.good_matches.proofs.SourceLaws.{drawn_source}
@@ -85,7 +84,7 @@ rows_equal_of kit plan name m numbers is rows flat =
     (rows_equal (organization plan) (cell_in kit.tech.roles) (macro_bits kit plan Stored) (leaf_names kit Stored) kit.deck.subckts name name numbers.plan is.leaves refl).0.rows rows
     (subst (λ (l : List Subckt). AreFlatRows (kit.deck.subckts ++ l) name (role_cells kit) rows) (ap (λ (d : Deck). d.subckts) is.deck) flat)
 
-module _ (kit : Kit) (is : IsKit kit) (good : IsGoodKit IsAssembled kit) (safe : AreKitLabelsSafe kit) where
+module _ (kit : Kit) (is : IsKit kit) (good : IsGoodKit IsAssembled kit) where
   -- a window of the kit, stated
   of_window : (memory : Organization) → HasSoundWindow kit memory → IsWritten memory → IsWindowThere kit (leaf_lists kit is good.pins) is.wire memory
   of_window memory w some = subst (IsWindowThere kit (leaf_lists kit is good.pins) is.wire) w.is (by (subst IsWritten (sym w.is) some)) where
@@ -98,11 +97,12 @@ module _ (kit : Kit) (is : IsKit kit) (good : IsGoodKit IsAssembled kit) (safe :
         let build = w.numbers.plan in
         let wired = kit_wired kit is good.pins (organization w.plan) build written lists d in
         let s = kit_source kit is good.pins (organization w.plan) build written lists d in
-        let stays = safe_kits_keep_labels kit s lists safe (flat_leaf kit is good.pins) clean.clean in
         let equal = rows_equal_of kit w.plan w.name w.macro w.numbers w.made matching.rows matching.are.netlist in
         let own = drawn_own kit w.plan w.name w.macro lists is w.numbers written w.made clean.flat in
         let cells = (kit_stated kit is good.pins (organization w.plan) build written lists d).flat_cells in
         let free = macros_are_apart kit w.plan w.name w.macro (leaf_lists kit is good.pins) d.tracks d.floorplan is good.pins w.numbers w.made own.0 own.1 cells w.faultless.apart in
+        let inside = kit_leaves_inside kit is good.pins (organization w.plan) build written lists d in
+        let stays = bound_labels_stay kit.tech s lists wired inside matching.labels matching.are.nets matching.rows equal matching.alike free in
         record {
           tracks = d.tracks;
           floorplan = d.floorplan;

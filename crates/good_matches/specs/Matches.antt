@@ -22,7 +22,6 @@ use Rattle.macro_build.specs.Built.{IsBuildFault}
 use Rattle.kit_check.specs.Good.{IsGoodKit}
 use Rattle.kit_check.specs.Judged.{AreNetsAndRowsOf}
 use Rattle.kit_command.specs.Assembled.{IsAssembled}
-use Rattle.label_nets.specs.Safe.{AreKitLabelsSafe}
 
 -- The labels of each macro of the kit and the plan under the name are joined exactly as its netlist says, so that none is refused for a
 -- difference.
@@ -30,6 +29,6 @@ pub record MatchesNetlist (kit : Kit) (plan : Plan) (name : List ℕ) : Type 0 w
   pub alike : (made : Library × Deck) (lists : FlatLists) (labels : List NetLabel) (rows : List RowPin) → IsAssembled kit plan name (Ok made) → AreFlatLists kit.tech.layers made.0.structs name lists → AreNetsAndRowsOf kit name made.1 lists labels rows → AreAlike labels rows
   pub unrefused : (difference : NetDiff) → IsBuildFault kit plan Stored name (build_fault.NetsDiffer difference) → ⊥
 
--- So it is for a good kit whose labels are safe, and each plan.
+-- So it is for a good kit and each plan.
 abbrev pub GoodKitsMatch : Type 0
-GoodKitsMatch = (kit : Kit) (config : Config) (plan : Plan) (name : List ℕ) → IsKit kit → IsGoodKit IsAssembled kit → AreKitLabelsSafe kit → IsConfig config → IsPlanOf config plan → ArePlanNumbers (numbers_of plan) → MatchesNetlist kit plan name
+GoodKitsMatch = (kit : Kit) (config : Config) (plan : Plan) (name : List ℕ) → IsKit kit → IsGoodKit IsAssembled kit → IsConfig config → IsPlanOf config plan → ArePlanNumbers (numbers_of plan) → MatchesNetlist kit plan name

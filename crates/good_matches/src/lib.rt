@@ -3,7 +3,7 @@
 
 ghost use Rattle.good_matches.specs.Matches.{GoodKitsMatch};
 
-/// Of each plan of a configuration, a good kit's macro has its labels joined exactly as its netlist says, if the kit's labels are safe.
+/// Of each plan of a configuration, a good kit's macro has its labels joined exactly as its netlist says.
 pub fn good_kits_match()
     ensures { GoodKitsMatch }
 {}

@@ -102,7 +102,7 @@ gate_out [] o r (suc port) b row net h is = absurd (none_at supply_nets port net
 gate_out (g ∷ gs) o r zero b row net h is = absurd (none_at (Line o g (low_bits g r) ∷ []) 0 net ((λ no. no), tt) h is)
 gate_out (g ∷ gs) o r (suc port) b row net h is = let later = gate_out gs (o + g) (high_bits g r) port b row net h is in let at = later.at in record { at = ap suc at; is = later.is }
 
-gate_on : (groups : List ℕ) (o r b row : ℕ) → slice_get (row_lines groups o r ++ (Zb b row ∷ supply_nets)) (length groups) ≡ Some (Zb b row)
+pub gate_on : (groups : List ℕ) (o r b row : ℕ) → slice_get (row_lines groups o r ++ (Zb b row ∷ supply_nets)) (length groups) ≡ Some (Zb b row)
 gate_on [] o r b row = refl
 gate_on (g ∷ gs) o r b row = gate_on gs (o + g) (high_bits g r) b row
 

@@ -65,17 +65,17 @@ tie_demand (suc zero) lt = record { place = 3; name = _; there = refl; named = r
 tie_demand (suc (suc port)) lt = absurd (omega (arith, lt))
 
 -- it is one of the column channel's nets
-line_number : (plan : Organization) (port i : ℕ) → port < 2 → i < plan.word_size → (number : ℕ) × (slice_get (column_nets plan) number ≡ Some (data_line plan.col_bits port 0 i))
+pub line_number : (plan : Organization) (port i : ℕ) → port < 2 → i < plan.word_size → (number : ℕ) × (slice_get (column_nets plan) number ≡ Some (data_line plan.col_bits port 0 i))
 line_number plan zero i lt below = place_in (lo_net plan.col_bits 0 i) (column_nets plan) (in_back (lo_net plan.col_bits 0 i) (choice_nets plan.col_bits) (tabulate_lists plan.word_size (slice_nets plan)) (to_eachs plan.word_size (slice_nets plan) i (lo_net plan.col_bits 0 i) below (inl refl)))
 line_number plan (suc zero) i lt below = place_in (ro_net plan.col_bits 0 i) (column_nets plan) (in_back (ro_net plan.col_bits 0 i) (choice_nets plan.col_bits) (tabulate_lists plan.word_size (slice_nets plan)) (to_eachs plan.word_size (slice_nets plan) i (ro_net plan.col_bits 0 i) below (inr (inl refl))))
 line_number plan (suc (suc port)) i lt below = absurd (omega (arith, lt))
 
-sense_on : (plan : Organization) (port b i : ℕ) → port < 2 → slice_get (ports plan (SenseAt b i)) port ≡ Some (data_line plan.col_bits port b i)
+pub sense_on : (plan : Organization) (port b i : ℕ) → port < 2 → slice_get (ports plan (SenseAt b i)) port ≡ Some (data_line plan.col_bits port b i)
 sense_on plan zero b i lt = refl
 sense_on plan (suc zero) b i lt = refl
 sense_on plan (suc (suc port)) b i lt = absurd (omega (arith, lt))
 
-write_on : (plan : Organization) (port b i : ℕ) → port < 2 → slice_get (ports plan (WriteAt b i)) (suc port) ≡ Some (data_line plan.col_bits port b i)
+pub write_on : (plan : Organization) (port b i : ℕ) → port < 2 → slice_get (ports plan (WriteAt b i)) (suc port) ≡ Some (data_line plan.col_bits port b i)
 write_on plan zero b i lt = refl
 write_on plan (suc zero) b i lt = refl
 write_on plan (suc (suc port)) b i lt = absurd (omega (arith, lt))

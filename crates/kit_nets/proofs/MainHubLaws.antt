@@ -83,7 +83,7 @@ is_logic_role plan (Ki b) = tt
 is_logic_role plan (Gn b m) = is_gate (length (enable_inputs plan b m))
 is_logic_role plan (Gi b m) = tt
 
-signal_demand : (role : Role) (port : ℕ) → IsLogicRole role → port + 2 < length (role_ports role) → IsDemand role port M2 Top
+pub signal_demand : (role : Role) (port : ℕ) → IsLogicRole role → port + 2 < length (role_ports role) → IsDemand role port M2 Top
 signal_demand Nand2 zero is lt = record { place = 0; name = _; there = refl; named = refl }
 signal_demand Nand2 (suc zero) is lt = record { place = 1; name = _; there = refl; named = refl }
 signal_demand Nand2 (suc (suc zero)) is lt = record { place = 2; name = _; there = refl; named = refl }

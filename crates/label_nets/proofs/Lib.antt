@@ -1,2 +1,1 @@
 pub mod AnchorLaws
-pub mod SafeLaws

@@ -13,13 +13,13 @@ use Rattle.good_places.specs.Leaves.{AreNearZones}
 use Rattle.good_places.proofs.LaidLaws.{Numbers, numbers}
 use Rattle.good_places.proofs.NearLaws.{beside_column, beside_front, beside_slice}
 use Rattle.good_nets.specs.Ports.{upright_place}
-use Rattle.good_nets.specs.Parts.{ArePairSeen}
-use Rattle.moved_nets.specs.Moved.{IsLike, slice_leaf}
-use Rattle.kit_nets.specs.StatedParts.{Source, Standing, stated_parts}
+use Rattle.moved_nets.specs.Moved.{IsLike, slice_leaf, slice_net}
+use Rattle.kit_nets.specs.StatedParts.{Source, Standing}
 use Rattle.kit_nets.specs.StandIns.{AreAkin, StandsMoved}
-use Rattle.kit_nets.proofs.PairLaws.{slices_seen}
+use Rattle.kit_nets.proofs.StandInLaws.{slice_stands_in}
 use Rattle.seen_pairs.specs.Counterpart.{window_source, IsOfColumns, IsOfFronts, IsOfSlices, leaf_bank, number_of, right_by, columns_up, slices_up, IsCounterpart}
 use Rattle.small_rows.specs.Few.{IsAmongFew}
+use Rattle.seen_pairs.specs.There.{HasCounterpart, ArePairThere}
 use Rattle.seen_pairs.specs.Window.{IsSeenSource, HasSeenWindow}
 use Rattle.seen_pairs.proofs.CounterLaws.{column_counter, front_counter, slice_counter}
 use Rattle.small_rows.proofs.FewLaws.{among_few, IsFewOf, split_by, among_columns}
@@ -34,7 +34,7 @@ at_moved dx dy place p = together (further (turned place.orient p).x place.at.x 
   together : {x y u v : ℤ} → x ≡ u → y ≡ v → ◌≡◌ {A = Point} (record { x = x; y = y }) (record { x = u; y = v })
   together p q = λ i. record { x = p i; y = q i }
 
-power_low : (k : ℕ) → 1 ≤ power_of_two k
+pub power_low : (k : ℕ) → 1 ≤ power_of_two k
 power_low zero = omega arith
 power_low (suc k) = let p = power_low k in omega (arith, p)
 
@@ -64,10 +64,20 @@ module _ (connections : List Connect) (s : Source) (by reach : ℤ) (is : IsSeen
   stands_moved m dx dy i c p = at_moved dx dy i.place p
 
   -- two instances with counterparts so many slices before them
-  pair_of : (m : ℕ) (dx dy : ℤ) (i j : Standing s) → Counter m dx dy i → Counter m dx dy j → (i.leaf ≡ j.leaf → ⊥) → ArePairSeen connections (stated_parts s) i j
-  pair_of m dx dy i j a b differ =
-      slices_seen connections s w akin window.flat window.labels window.rows window.stated m dx dy i j (standing m dx dy i a) (standing m dx dy j b) a.inside b.inside a.is b.is (stands_moved m dx dy i a) (stands_moved m dx dy j b)
-      (λ e. differ (a.is ∙ (ap (slice_leaf s.plan m) e ∙ sym b.is)))
+  pair_of : (m : ℕ) (dx dy : ℤ) (i j : Standing s) → Counter m dx dy i → Counter m dx dy j → (i.leaf ≡ j.leaf → ⊥) → ArePairThere s w i j
+  pair_of m dx dy i j a b differ = record {
+    f = slice_net s.plan m;
+    dx = dx;
+    dy = dy;
+    one = standing m dx dy i a;
+    other = standing m dx dy j b;
+    differ = λ e. differ (a.is ∙ (ap (slice_leaf s.plan m) e ∙ sym b.is));
+    one_is = slice_stands_in s w akin m dx dy i (standing m dx dy i a) a.inside a.is (stands_moved m dx dy i a);
+    other_is = slice_stands_in s w akin m dx dy j (standing m dx dy j b) b.inside b.is (stands_moved m dx dy j b);
+    one_at = refl;
+    one_role = a.same_role;
+    other_at = refl;
+  }
 
   abbrev right : ℕ → ℕ → ℤ
   right b m = right_by s.plan s.kit s.floorplan window.floorplan b m
@@ -106,7 +116,7 @@ module _ (connections : List Connect) (s : Source) (by reach : ℤ) (is : IsSeen
         times : (a b v : ℕ) → a ≤ b → a * v ≤ b * v
         times a b v le = mul-le-mul_right v le
 
-  in_bank : (i j : Standing s) (m : ℕ) (dy : ℤ) → leaf_bank j.leaf ≡ leaf_bank i.leaf → Counter m (right (leaf_bank j.leaf) m) dy j → Counter m (right (leaf_bank i.leaf) m) dy j
+  pub in_bank : (i j : Standing s) (m : ℕ) (dy : ℤ) → leaf_bank j.leaf ≡ leaf_bank i.leaf → Counter m (right (leaf_bank j.leaf) m) dy j → Counter m (right (leaf_bank i.leaf) m) dy j
   in_bank i j m dy e c = subst (λ (b : ℕ). Counter m (right b m) dy j) e c
 
   -- the lower of two columns, and the other
@@ -169,7 +179,7 @@ module _ (connections : List Connect) (s : Source) (by reach : ℤ) (is : IsSeen
     which c d le more = elim (cases_lt c d) [ inl lt ↦ inr (omega (arith, lt, more)) | inr ge ↦ inl (omega (arith, le, ge)) ]
 
   -- What stands near an instance of a column, of a front or of a slice is seen with it.
-  pub column_pair : (i j : Standing s) → IsOfColumns i.leaf → AreNearZones reach (zone_at connections s by reach is j) (zone_at connections s by reach is i) → (i.leaf ≡ j.leaf → ⊥) → ArePairSeen connections (stated_parts s) i j
+  pub column_pair : (i j : Standing s) → IsOfColumns i.leaf → AreNearZones reach (zone_at connections s by reach is j) (zone_at connections s by reach is i) → (i.leaf ≡ j.leaf → ⊥) → ArePairThere s w i j
   column_pair i j of near differ =
       let z = subst (AreNearZones reach (zone_at connections s by reach is j)) (column_seat s.plan s.kit s.floorplan i.leaf i.place of) near in
       let b = beside_is (leaf_bank i.leaf) (number_of i.leaf) j.leaf (beside_column s.plan s.kit s.floorplan reach n (leaf_bank i.leaf) (number_of i.leaf) is.short.bitcell (column_below s.plan i.leaf of i.has) j.leaf j.place j.has z) in
@@ -178,7 +188,7 @@ module _ (connections : List Connect) (s : Source) (by reach : ℤ) (is : IsSeen
         | inr fr ↦ pair_of 0 (right (leaf_bank i.leaf) 0) up_columns i j (front_together i of fr.1) (in_bank i j 0 up_columns b.0 (front_found j fr.0)) differ
       ]
 
-  pub front_pair : (i j : Standing s) → IsOfFronts i.leaf → AreNearZones reach (zone_at connections s by reach is j) (zone_at connections s by reach is i) → (i.leaf ≡ j.leaf → ⊥) → ArePairSeen connections (stated_parts s) i j
+  pub front_pair : (i j : Standing s) → IsOfFronts i.leaf → AreNearZones reach (zone_at connections s by reach is j) (zone_at connections s by reach is i) → (i.leaf ≡ j.leaf → ⊥) → ArePairThere s w i j
   front_pair i j of near differ =
       let z = subst (AreNearZones reach (zone_at connections s by reach is j)) (front_seat s.plan s.kit s.floorplan i.leaf i.place of) near in
       let b = beside_is (leaf_bank i.leaf) 0 j.leaf (beside_front s.plan s.kit s.floorplan reach n (leaf_bank i.leaf) is.short.bitcell j.leaf j.place j.has z) in
@@ -204,9 +214,27 @@ module _ (connections : List Connect) (s : Source) (by reach : ℤ) (is : IsSeen
           self : (c w : ℕ) → c ≡ c + 0 * w
           self c w = omega arith
 
-  pub slice_pair : (i j : Standing s) → IsOfSlices i.leaf → AreNearZones reach (zone_at connections s by reach is j) (zone_at connections s by reach is i) → (i.leaf ≡ j.leaf → ⊥) → ArePairSeen connections (stated_parts s) i j
+  pub slice_pair : (i j : Standing s) → IsOfSlices i.leaf → AreNearZones reach (zone_at connections s by reach is j) (zone_at connections s by reach is i) → (i.leaf ≡ j.leaf → ⊥) → ArePairThere s w i j
   slice_pair i j of near differ =
       let z = subst (AreNearZones reach (zone_at connections s by reach is j)) (slice_seat s.plan s.kit s.floorplan i.leaf i.place of) near in
       let b = beside_slice_is (leaf_bank i.leaf) (number_of i.leaf) j.leaf (beside_slice s.plan s.kit s.floorplan reach n (leaf_bank i.leaf) (number_of i.leaf) is.short.bitcell is.written (slice_below s.plan i.leaf is.written of i.has) j.leaf j.place j.has z) in
       let t = slices_together i j of b.1.0 b.0 b.1.1 in
       pair_of t.0 (right (leaf_bank i.leaf) t.0) up_slices i j t.1 t.2 differ
+
+  -- Each by itself is there.
+
+  pub there_of : (m : ℕ) (dx dy : ℤ) (i : Standing s) → Counter m dx dy i → HasCounterpart s w i
+  there_of m dx dy i a = record { f = slice_net s.plan m; dx = dx; dy = dy; one = standing m dx dy i a; one_is = slice_stands_in s w akin m dx dy i (standing m dx dy i a) a.inside a.is (stands_moved m dx dy i a); one_at = refl; one_role = a.same_role }
+
+  pub column_there : (i : Standing s) → IsOfColumns i.leaf → HasCounterpart s w i
+  column_there i of =
+      let q = columns_few (number_of i.leaf) (column_below s.plan i.leaf of i.has) in
+      there_of q.0 (right (leaf_bank i.leaf) q.0) up_columns i (column_found i of q.1.d q.0 q.1.sum q.1.inside)
+
+  pub front_there : (i : Standing s) → IsOfFronts i.leaf → HasCounterpart s w i
+  front_there i of = there_of 0 (right (leaf_bank i.leaf) 0) up_columns i (front_found i of)
+
+  pub slice_there : (i : Standing s) → IsOfSlices i.leaf → HasCounterpart s w i
+  slice_there i of =
+      let q = among_few s.plan.word_size window.word (number_of i.leaf) (slice_below s.plan i.leaf is.written of i.has) few in
+      there_of q.0 (right (leaf_bank i.leaf) q.0) up_slices i (slice_found i of q.1.d q.0 q.1.sum q.1.inside)

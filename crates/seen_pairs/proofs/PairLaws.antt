@@ -3,16 +3,19 @@ use Rattle.std.proofs.Common.{◌≡◌, ◌⊎◌, inl, inr, ◌∙◌, ℕ, �
 use Rattle.std.specs.Prelude.{map}
 use Rattle.std.proofs.lemmas.Int.{ints}
 use Rattle.or_geom.specs.declared.place.Place.{Place}
+use Rattle.or_geom.specs.declared.shape.Point.{Point}
 use Rattle.or_geom.specs.declared.shape.Shape.{Shape}
+use Rattle.or_geom.specs.Joined.{IsIn}
 use Rattle.or_geom.specs.Place.{placed}
 use Rattle.cell_roles.specs.declared.role.Role.TheVariants.{Inv, Dff}
 use Rattle.tech_rules.specs.declared.tech.Connect.{Connect}
 use Rattle.tech_rules.specs.Touch.{Touch}
 use Rattle.sram_netlist.specs.Organization.{Organization, banks_of}
+use Rattle.sram_netlist.specs.Nets.{Net}
 use Rattle.sram_netlist.specs.Instances.{LogicCell, LeafInstance, LogicAt, Clki}
 use Rattle.sram_netlist.specs.InstanceList.{logic_cells, tabulate_lists, bank_leaves}
 use Rattle.sram_netlist.specs.Membership.{IsOneOf, HasLeafInstance}
-use Rattle.sram_netlist.specs.Netlist.{logic_role}
+use Rattle.sram_netlist.specs.Netlist.{role, logic_role}
 use Rattle.sram_netlist.proofs.InstanceLists.{lists_agree, in_front, in_back, to_map}
 use Rattle.macro_layout.specs.Places.{IsPlaceOf, StandsInRow, total_width, upright}
 use Rattle.good_places.specs.Beside.{moved_place}
@@ -20,17 +23,19 @@ use Rattle.good_places.specs.Leaves.{Zone, AreNearZones, zone_of}
 use Rattle.good_places.proofs.EdgeLaws.{place_at}
 use Rattle.good_places.proofs.LaidLaws.{Numbers, numbers}
 use Rattle.good_places.proofs.NearLaws.{logic_far, logic_far_slice}
-use Rattle.good_nets.specs.Parts.{ArePairSeen, IsShapeOf}
-use Rattle.moved_nets.specs.Moved.{Moves, moved_cell}
+use Rattle.good_nets.specs.Parts.{ArePairSeen, IsShapeOf, StandsIn, Window}
+use Rattle.moved_nets.specs.Moved.{Moves, logic_net, moved_cell}
 use Rattle.kit_nets.specs.StatedParts.{Source, Standing, stated_parts}
 use Rattle.kit_nets.specs.StandIns.{StandsMoved}
-use Rattle.kit_nets.proofs.PairLaws.{logic_seen}
+use Rattle.kit_nets.proofs.StandInLaws.{logic_same_role, logic_stands_in}
+use Rattle.kit_nets.proofs.StatedWindowLaws.{stated_window_is_right}
 use Rattle.seen_pairs.specs.Counterpart.{IsOfColumns, IsOfFronts, IsOfSlices}
 use Rattle.small_rows.specs.Row.{IsCellAt, IsCellThere, AreCellsSeen, AreNearCells}
+use Rattle.seen_pairs.specs.There.{HasCounterpart, ArePairThere}
 use Rattle.seen_pairs.specs.Window.{IsSeenSource, HasSeenWindow}
-use Rattle.seen_pairs.proofs.BankPairLaws.{w, akin, at_moved, column_pair, front_pair, slice_pair}
+use Rattle.seen_pairs.proofs.BankPairLaws.{w, akin, at_moved, column_pair, front_pair, slice_pair, column_there, front_there, slice_there}
 use Rattle.small_rows.proofs.LogicPairLaws.{cells_seen}
-use Rattle.seen_pairs.proofs.SeatLaws.{seat, column_seat, front_seat, slice_seat, zone_at, near_zones}
+use Rattle.seen_pairs.proofs.SeatLaws.{seat, column_seat, front_seat, slice_seat, zone_at, near_zones, holding_zones}
 
 is_there : {X : Type 0} (before after : List X) (x : X) → IsOneOf x (before ++ (x ∷ after))
 is_there before after x = in_back x before (x ∷ after) (inl refl)
@@ -128,23 +133,54 @@ module _ (connections : List Connect) (s : Source) (by reach : ℤ) (is : IsSeen
   pub stands_moved : (i : Standing s) (i' : Standing small) (dx : ℤ) → i'.place ≡ moved_place dx (pos 0) i.place → StandsMoved s small dx (pos 0) i i'
   stands_moved i i' dx e p = ap (λ (q : Place). placed q p) e ∙ at_moved dx (pos 0) i.place p
 
-  pub logic_pair : (i j : Standing s) (c d : LogicCell) → i.leaf ≡ LogicAt c → j.leaf ≡ LogicAt d → AreNearZones reach (zone_at connections s by reach is j) (zone_at connections s by reach is i) → (i.leaf ≡ j.leaf → ⊥) → ArePairSeen connections (stated_parts s) i j
+  -- one cell's stand-in, which shows its nets
+  pub cell_stands_in : (i : Standing s) (c : LogicCell) (e : i.leaf ≡ LogicAt c) (v : Moves) (x2 : ℕ) (dx : ℤ) (far : (s.floorplan.logic_x +ℤ pos (x_of i c e)) +ℤ dx ≡ window.floorplan.logic_x +ℤ pos x2) (t : IsCellThere small.plan s.kit least v c (x_of i c e) x2)
+      → StandsIn (stated_parts s) (stated_parts small) (logic_net v) dx (pos 0) i (cell_standing i c e v x2 dx far t).0
+  cell_stands_in i c e v x2 dx far t =
+      let st = cell_standing i c e v x2 dx far t in
+      logic_stands_in s small (akin connections s by reach is window) v dx (pos 0) i st.0 t.one st.1 t.as_mask (e ∙ ap LogicAt t.is) (stands_moved i st.0 dx st.2)
+
+  pub cell_role : (i : Standing s) (c : LogicCell) (e : i.leaf ≡ LogicAt c) (v : Moves) (x2 : ℕ) (dx : ℤ) (far : (s.floorplan.logic_x +ℤ pos (x_of i c e)) +ℤ dx ≡ window.floorplan.logic_x +ℤ pos x2) (t : IsCellThere small.plan s.kit least v c (x_of i c e) x2)
+      → role small.plan (cell_standing i c e v x2 dx far t).0.leaf ≡ role s.plan i.leaf
+  cell_role i c e v x2 dx far t = ap (role small.plan) (cell_standing i c e v x2 dx far t).1 ∙ sym (ap (role s.plan) (e ∙ ap LogicAt t.is) ∙ logic_same_role s.plan small.plan v t.one (akin connections s by reach is window).plans)
+
+  pub logic_pair : (i j : Standing s) (c d : LogicCell) → i.leaf ≡ LogicAt c → j.leaf ≡ LogicAt d → AreNearZones reach (zone_at connections s by reach is j) (zone_at connections s by reach is i) → (i.leaf ≡ j.leaf → ⊥) → ArePairThere s small i j
   logic_pair i j c d ei ej near differ =
       let r = row_seen i j c d ei ej near in
       let dx = cell_dx (x_of i c ei) r.x2 in
-      let a = cell_standing i c ei r.moves r.x2 dx (row_moved (x_of i c ei) r.x2) r.one in
-      let b = cell_standing j d ej r.moves r.y2 dx (row_moved_too (x_of i c ei) (x_of j d ej) r.x2 r.y2 r.as_far) r.two in
-      logic_seen connections s small (akin connections s by reach is window) window.flat window.labels window.rows window.stated r.moves dx (pos 0) i j a.0 b.0 r.one.one r.two.one a.1 b.1 r.one.as_mask r.two.as_mask (ei ∙ ap LogicAt r.one.is) (ej ∙ ap LogicAt r.two.is)
-      (stands_moved i a.0 dx a.2) (stands_moved j b.0 dx b.2)
-      (λ e. differ (ei ∙ (ap LogicAt r.one.is ∙ (one_leaf r.moves r.one.one r.two.one (sym a.1 ∙ (e ∙ b.1)) ∙ (ap LogicAt (sym r.two.is) ∙ sym ej)))))
+      let far_i = row_moved (x_of i c ei) r.x2 in
+      let far_j = row_moved_too (x_of i c ei) (x_of j d ej) r.x2 r.y2 r.as_far in
+      let a = cell_standing i c ei r.moves r.x2 dx far_i r.one in
+      let b = cell_standing j d ej r.moves r.y2 dx far_j r.two in
+      record {
+        f = logic_net r.moves;
+        dx = dx;
+        dy = pos 0;
+        one = a.0;
+        other = b.0;
+        differ = λ e. differ (ei ∙ (ap LogicAt r.one.is ∙ (one_leaf r.moves r.one.one r.two.one (sym a.1 ∙ (e ∙ b.1)) ∙ (ap LogicAt (sym r.two.is) ∙ sym ej))));
+        one_is = cell_stands_in i c ei r.moves r.x2 dx far_i r.one;
+        other_is = cell_stands_in j d ej r.moves r.y2 dx far_j r.two;
+        one_at = a.2;
+        one_role = cell_role i c ei r.moves r.x2 dx far_i r.one;
+        other_at = b.2;
+      }
     where
       one_leaf : (v : Moves) (c d : LogicCell) → LogicAt c ≡ LogicAt d → LogicAt (moved_cell v c) ≡ LogicAt (moved_cell v d)
       one_leaf v c d e = ap (λ (k : LogicCell). LogicAt (moved_cell v k)) (inner (LogicAt c) (LogicAt d) e) where
         inner : (a b : LeafInstance) → a ≡ b → cell_of a ≡ cell_of b
         inner a b e = ap cell_of e
 
+  -- a cell by itself: it is near to itself
+  logic_there : (i : Standing s) (c : LogicCell) → i.leaf ≡ LogicAt c → AreNearZones reach (zone_at connections s by reach is i) (zone_at connections s by reach is i) → HasCounterpart s small i
+  logic_there i c ei near =
+      let r = row_seen i i c c ei ei near in
+      let dx = cell_dx (x_of i c ei) r.x2 in
+      let far = row_moved (x_of i c ei) r.x2 in
+      record { f = logic_net r.moves; dx = dx; dy = pos 0; one = (cell_standing i c ei r.moves r.x2 dx far r.one).0; one_is = cell_stands_in i c ei r.moves r.x2 dx far r.one; one_at = (cell_standing i c ei r.moves r.x2 dx far r.one).2; one_role = cell_role i c ei r.moves r.x2 dx far r.one }
+
   -- nothing else is near the logic row
-  only_logic : (i j : Standing s) (c : LogicCell) → i.leaf ≡ LogicAt c → AreNearZones reach (zone_at connections s by reach is j) (zone_at connections s by reach is i) → (d : LogicCell) × (j.leaf ≡ LogicAt d)
+  pub only_logic : (i j : Standing s) (c : LogicCell) → i.leaf ≡ LogicAt c → AreNearZones reach (zone_at connections s by reach is j) (zone_at connections s by reach is i) → (d : LogicCell) × (j.leaf ≡ LogicAt d)
   only_logic i j c e near = elim (seat j.leaf) [
     | inl column ↦ absurd (far (high (inl column)))
     | inr (inl front) ↦ absurd (far (high (inr front)))
@@ -170,13 +206,45 @@ module _ (connections : List Connect) (s : Source) (by reach : ℤ) (is : IsSeen
     high_slice : IsOfSlices j.leaf → s.floorplan.write_y <ℤ (pos (s.kit.height Inv) +ℤ reach)
     high_slice slice = (subst Near (slice_seat s.plan s.kit s.floorplan j.leaf j.place slice) z).low
 
-  -- Two instances whose shapes touch are seen together.
-  pub pairs_seen : (i j : Standing s) (x y a b : Shape) → (i.leaf ≡ j.leaf → ⊥) → IsShapeOf connections (stated_parts s) i x a → IsShapeOf connections (stated_parts s) j y b → Touch connections a b → ArePairSeen connections (stated_parts s) i j
-  pairs_seen i j x y a b differ of_i of_j touch = elim (seat i.leaf) [
+  -- Two instances near each other are there together.
+  pub near_pair : (i j : Standing s) → (i.leaf ≡ j.leaf → ⊥) → AreNearZones reach (zone_at connections s by reach is j) (zone_at connections s by reach is i) → ArePairThere s small i j
+  near_pair i j differ near = elim (seat i.leaf) [
     | inl column ↦ column_pair connections s by reach is window i j column near differ
     | inr (inl front) ↦ front_pair connections s by reach is window i j front near differ
     | inr (inr (inl slice)) ↦ slice_pair connections s by reach is window i j slice near differ
     | inr (inr (inr (c, e))) ↦ let d = only_logic i j c e near in logic_pair i j c d.0 e d.1 near differ
+  ]
+
+  -- Each instance that draws a shape is there.
+  pub one_there : (i : Standing s) (x a : Shape) → IsShapeOf connections (stated_parts s) i x a → HasCounterpart s small i
+  one_there i x a of = elim (seat i.leaf) [
+    | inl column ↦ column_there connections s by reach is window i column
+    | inr (inl front) ↦ front_there connections s by reach is window i front
+    | inr (inr (inl slice)) ↦ slice_there connections s by reach is window i slice
+    | inr (inr (inr (c, e))) ↦ logic_there i c e near
   ] where
-    near : AreNearZones reach (zone_at connections s by reach is j) (zone_at connections s by reach is i)
-    near = near_zones connections s by reach is i j x y a b of_i of_j touch
+    corner : Point
+    corner = record { x = a.rect.x1; y = a.rect.y1 }
+
+    held : IsIn a.rect corner
+    held = let wide : a.rect.x1 <ℤ a.rect.x2 = a.rect.wide in let tall : a.rect.y1 <ℤ a.rect.y2 = a.rect.tall in record { left = omega (arith, ints); right = omega (arith, ints, wide); low = omega (arith, ints); high = omega (arith, ints, tall) }
+
+    near : AreNearZones reach (zone_at connections s by reach is i) (zone_at connections s by reach is i)
+    near = holding_zones connections s by reach is i i x x a a corner of of held held
+
+  -- the small memory, as a layout whose nets are right
+  abbrev pub right_window : Window Net connections
+  right_window = record {
+    parts = stated_parts small;
+    shapes = window.flat.shapes;
+    plain = window.flat.labels;
+    labels = window.labels;
+    pins = window.rows;
+    right = stated_window_is_right connections small window.flat window.labels window.rows window.stated;
+  }
+
+  -- Two instances whose shapes touch are seen together.
+  pub pairs_seen : (i j : Standing s) (x y a b : Shape) → (i.leaf ≡ j.leaf → ⊥) → IsShapeOf connections (stated_parts s) i x a → IsShapeOf connections (stated_parts s) j y b → Touch connections a b → ArePairSeen connections (stated_parts s) i j
+  pairs_seen i j x y a b differ of_i of_j touch =
+      let there = near_pair i j differ (near_zones connections s by reach is i j x y a b of_i of_j touch) in
+      record { window = right_window; f = there.f; dx = there.dx; dy = there.dy; one = there.one; other = there.other; differ = there.differ; one_is = there.one_is; other_is = there.other_is }

@@ -2,9 +2,10 @@
 use Rattle.std.proofs.Common.{◌≡◌, ◌⊎◌, inl, inr, ℕ, ◌<◌, ℤ, pos, ◌+ℤ◌, ◌≤ℤ◌, List, refl, subst, arith}
 use Rattle.std.proofs.lemmas.Int.{ints}
 use Rattle.or_geom.specs.declared.place.Place.{Place}
+use Rattle.or_geom.specs.declared.shape.Point.{Point}
 use Rattle.or_geom.specs.declared.shape.Rect.{Rect}
 use Rattle.or_geom.specs.declared.shape.Shape.{Shape}
-use Rattle.or_geom.specs.Joined.{AreJoined}
+use Rattle.or_geom.specs.Joined.{IsIn}
 use Rattle.tech_rules.specs.declared.tech.Connect.{Connect}
 use Rattle.tech_rules.specs.Touch.{Touch, ShareArea}
 use Rattle.sram_netlist.specs.Organization.{Organization, columns_of}
@@ -115,16 +116,14 @@ beside_slice_is b i (LogicAt cell) h = absurd h
 
 -- Touching shapes have near zones
 
-joined_zones : (by reach : ℤ) (z w : Zone) (a b : Rect) → (pos 1 +ℤ (by +ℤ by)) ≤ℤ reach → LiesNear by z a → LiesNear by w b → AreJoined a b → AreNearZones reach w z
-joined_zones by reach z w a b le in_z in_w j =
-    let pa = j.p_in_a in
-    let pb = j.p_in_b in
-    record {
-      left = let x = in_w.left in let y = in_z.right in let u = pa.right in let v = pb.left in omega (arith, ints, le, x, y, u, v);
-      right = let x = in_w.right in let y = in_z.left in let u = pa.left in let v = pb.right in omega (arith, ints, le, x, y, u, v);
-      low = let x = in_w.low in let y = in_z.high in let u = pa.high in let v = pb.low in omega (arith, ints, le, x, y, u, v);
-      high = let x = in_w.high in let y = in_z.low in let u = pa.low in let v = pb.high in omega (arith, ints, le, x, y, u, v);
-    }
+-- so do shapes that hold one point
+pub point_zones : (by reach : ℤ) (z w : Zone) (a b : Rect) (p : Point) → (pos 1 +ℤ (by +ℤ by)) ≤ℤ reach → LiesNear by z a → LiesNear by w b → IsIn a p → IsIn b p → AreNearZones reach w z
+point_zones by reach z w a b p le in_z in_w pa pb = record {
+  left = let x = in_w.left in let y = in_z.right in let u = pa.right in let v = pb.left in omega (arith, ints, le, x, y, u, v);
+  right = let x = in_w.right in let y = in_z.left in let u = pa.left in let v = pb.right in omega (arith, ints, le, x, y, u, v);
+  low = let x = in_w.low in let y = in_z.high in let u = pa.high in let v = pb.low in omega (arith, ints, le, x, y, u, v);
+  high = let x = in_w.high in let y = in_z.low in let u = pa.low in let v = pb.high in omega (arith, ints, le, x, y, u, v);
+}
 
 area_zones : (by reach : ℤ) (z w : Zone) (a b : Rect) → (pos 1 +ℤ (by +ℤ by)) ≤ℤ reach → LiesNear by z a → LiesNear by w b → ShareArea a b → AreNearZones reach w z
 area_zones by reach z w a b le in_z in_w s =
@@ -141,7 +140,7 @@ turned_area : (a b : Rect) → ShareArea b a → ShareArea a b
 turned_area a b s = record { x = s.x; y = s.y; in_a = s.in_b; in_b = s.in_a }
 
 touch_zones : (connections : List Connect) (by reach : ℤ) (z w : Zone) (a b : Shape) → (pos 1 +ℤ (by +ℤ by)) ≤ℤ reach → LiesNear by z a.rect → LiesNear by w b.rect → Touch connections a b → AreNearZones reach w z
-touch_zones connections by reach z w a b le in_z in_w (inl same) = joined_zones by reach z w a.rect b.rect le in_z in_w same.joined
+touch_zones connections by reach z w a b le in_z in_w (inl same) = let j = same.joined in point_zones by reach z w a.rect b.rect j.p le in_z in_w j.p_in_a j.p_in_b
 touch_zones connections by reach z w a b le in_z in_w (inr (inl cut)) = area_zones by reach z w a.rect b.rect le in_z in_w cut.area
 touch_zones connections by reach z w a b le in_z in_w (inr (inr cut)) = area_zones by reach z w a.rect b.rect le in_z in_w (turned_area a.rect b.rect cut.area)
 
@@ -159,3 +158,6 @@ module _ (connections : List Connect) (s : Source) (by reach : ℤ) (is : IsSeen
 
   pub near_zones : (i j : Standing s) (x y a b : Shape) → IsShapeOf connections (stated_parts s) i x a → IsShapeOf connections (stated_parts s) j y b → Touch connections a b → AreNearZones reach (zone_at j) (zone_at i)
   near_zones i j x y a b of_i of_j touch = touch_zones connections by reach (zone_at i) (zone_at j) a b is.felt (shape_near i x a of_i) (shape_near j y b of_j) touch
+
+  pub holding_zones : (i j : Standing s) (x y a b : Shape) (p : Point) → IsShapeOf connections (stated_parts s) i x a → IsShapeOf connections (stated_parts s) j y b → IsIn a.rect p → IsIn b.rect p → AreNearZones reach (zone_at j) (zone_at i)
+  holding_zones i j x y a b p of_i of_j in_a in_b = point_zones by reach (zone_at i) (zone_at j) a.rect b.rect p is.felt (shape_near i x a of_i) (shape_near j y b of_j) in_a in_b

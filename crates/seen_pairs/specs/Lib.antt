@@ -1,3 +1,4 @@
 pub mod Counterpart
 pub mod Window
 pub mod Pair
+pub mod There

@@ -17,10 +17,9 @@ use Rattle.macro_layout.specs.Channels.{IsColumnChannel}
 use Rattle.macro_layout.specs.Stated.{IsShifted}
 use Rattle.macro_layout.specs.Wires.{IsTapOfNet, columns_end, trunk_x}
 use Rattle.good_places.specs.Leaves.{Zone}
-use Rattle.good_nets.specs.Parts.{IsWireSeen}
 use Rattle.good_wires.proofs.LevelLaws.{rail_at}
 use Rattle.joined_nets.specs.WireNets.{in_bank, IsChannelWireOf}
-use Rattle.kit_nets.specs.StatedParts.{Source, Standing, stated_parts}
+use Rattle.kit_nets.specs.StatedParts.{Source, Standing}
 use Rattle.kit_nets.proofs.ChannelDrawnLaws.{box_there}
 use Rattle.kit_nets.proofs.ColumnHubLaws.{zero_times}
 use Rattle.seen_pairs.specs.Counterpart.{leaf_bank, right_by, columns_up}
@@ -33,7 +32,7 @@ use Rattle.small_wires.proofs.ColumnNetLaws.{rail_still}
 use Rattle.seen_pairs.proofs.CounterLaws.{precharge_counter}
 use Rattle.small_wires.proofs.FarLaws.{sp, wide_wire, wide_space, same_bank}
 use Rattle.seen_pairs.proofs.SeatLaws.{zone_at}
-use Rattle.small_wires.proofs.SeenWireLaws.{small}
+use Rattle.small_wires.proofs.SeenWireLaws.{small, SeenThere}
 use Rattle.small_wires.proofs.SpanLaws.{precharge_span, rail_net, same_rail_net}
 use Rattle.seen_wires.proofs.ColumnSeatLaws.{IsColumnSeat, column_later, power_low}
 use Rattle.seen_wires.proofs.ColumnPinLaws as first
@@ -110,10 +109,10 @@ module _ (connections : List Connect) (s : Source) (by reach : ℤ) (is : IsSeen
   pin_x = first.pin_x connections s by reach is window i seat
 
   abbrev top_contact : (k : ℕ) → k < banks_of s.plan → (n net : Net) (t inner : Shape) → n ≡ in_bank k net → IsShifted (q k) (pos 0) inner t → (w : IsChannelWireOf (IsColumnChannel s.plan s.kit s.wire f) s.wire s.tracks.column (column_nets s.plan) net inner)
-      → IsTopBox (IsColumnChannel s.plan s.kit s.wire f) s.wire s.tracks.column (column_nets s.plan) net inner w → IsNearZone S z t.rect → IsNearZone reach z t.rect → IsWireSeen connections (stated_parts s) i n t
+      → IsTopBox (IsColumnChannel s.plan s.kit s.wire f) s.wire s.tracks.column (column_nets s.plan) net inner w → IsNearZone S z t.rect → IsNearZone reach z t.rect → SeenThere connections s by reach is window i n t
   top_contact = first.top_contact connections s by reach is window i seat
 
-  abbrev joiner_contact : (k : ℕ) → k < banks_of s.plan → (n : Net) (t inner : Shape) → n ≡ in_bank k Gnd → IsShifted (q k) (pos 0) inner t → IsBox (slice_index s.wire.metals 0) f.row_x (f.array_y -ℤ W) (columns_end s.plan s.kit f) f.array_y inner → IsNearZone S z t.rect → IsWireSeen connections (stated_parts s) i n t
+  abbrev joiner_contact : (k : ℕ) → k < banks_of s.plan → (n : Net) (t inner : Shape) → n ≡ in_bank k Gnd → IsShifted (q k) (pos 0) inner t → IsBox (slice_index s.wire.metals 0) f.row_x (f.array_y -ℤ W) (columns_end s.plan s.kit f) f.array_y inner → IsNearZone S z t.rect → SeenThere connections s by reach is window i n t
   joiner_contact = first.joiner_contact connections s by reach is window i seat
 
   -- a tap of bank 0 that ends at a pin x2 behind the rails and before the bank's end, where it stands in bank k
@@ -138,7 +137,7 @@ module _ (connections : List Connect) (s : Source) (by reach : ℤ) (is : IsSeen
   TapThere net j rect2 = IsTapOfNet sm.plan s.kit s.wire window.tracks.column g net (bank_x g 0 (rail_x s.wire j)) rect2.y1 rect2.x2
 
   tap_seen : (k : ℕ) → k < banks_of s.plan → k ≡ b → (n net : Net) (t inner : Shape) → n ≡ in_bank k net → IsShifted (q k) (pos 0) inner t → (x y end : ℤ) (rail : IsRailOf s.plan s.wire f 0 net x) (rect rect2 : Rect) → y ≡ rect.y1 → end ≡ rect.x2 → rect2.y1 ≡ rect.y1 +ℤ dy → IsBox (slice_index s.wire.metals 2) x y end (y +ℤ W) inner
-      → f.row_x ≤ℤ rect2.x1 → TapThere net rail.rail rect2 → (((rect.x2 +ℤ q b) +ℤ dx) ≤ℤ (rect2.x2 +ℤ qg b)) ⊎ (((z.right +ℤ dx) +ℤ by) ≤ℤ (rect2.x2 +ℤ qg b)) → IsWireSeen connections (stated_parts s) i n t
+      → f.row_x ≤ℤ rect2.x1 → TapThere net rail.rail rect2 → (((rect.x2 +ℤ q b) +ℤ dx) ≤ℤ (rect2.x2 +ℤ qg b)) ⊎ (((z.right +ℤ dx) +ℤ by) ≤ℤ (rect2.x2 +ℤ qg b)) → SeenThere connections s by reach is window i n t
   tap_seen k lt e n net t inner named sh x y end rail rect rect2 at ends rises box behind_rail tap right =
       let xr = rail_x s.wire rail.rail in
       let before = rail_before net x rail in
@@ -200,7 +199,7 @@ module _ (connections : List Connect) (s : Source) (by reach : ℤ) (is : IsSeen
     go x x2 d00 d0 q qg d h1 h2 h3 = omega (arith, ints, h1, h2, h3)
 
   pub row_tap : (k : ℕ) → k < banks_of s.plan → (n net : Net) (t inner : Shape) → n ≡ in_bank k net → IsShifted (q k) (pos 0) inner t → (x y end : ℤ) (rail : IsRailOf s.plan s.wire f 0 net x) (rect : Rect) → y ≡ rect.y1 → end ≡ rect.x2 → IsBox (slice_index s.wire.metals 2) x y end (y +ℤ W) inner → rect.x2 ≤ℤ columns_x s.plan s.kit f
-      → (leaf : LeafInstance) (port : ℕ) → (p : IsPinThere connections s by reach is window 0 d00 dy leaf port 2 net rect) → f.row_x ≤ℤ p.rect2.x1 → (p.net2 ≡ net → TapThere net rail.rail p.rect2) → IsNearZone S z t.rect → IsNearZone reach z t.rect → IsWireSeen connections (stated_parts s) i n t
+      → (leaf : LeafInstance) (port : ℕ) → (p : IsPinThere connections s by reach is window 0 d00 dy leaf port 2 net rect) → f.row_x ≤ℤ p.rect2.x1 → (p.net2 ≡ net → TapThere net rail.rail p.rect2) → IsNearZone S z t.rect → IsNearZone reach z t.rect → SeenThere connections s by reach is window i n t
   row_tap k lt n net t inner named sh x y end rail rect at ends box to leaf port p front tap near_s near_r =
       let e = tap_bank k net x end t inner rail sh box.left box.right (ended columns_inside) near_s in
       let none = only_first k e t.rect (stops inner.rect.x2 t.rect.x2 (q k) sh.x2 box.right) near_r in
@@ -242,7 +241,7 @@ module _ (connections : List Connect) (s : Source) (by reach : ℤ) (is : IsSeen
       go cf cg wf wg x x2 q qg n k m h1 h2 h3 h4 h5 h6 h7 = omega (arith, ints, h1, h2, h3, h4, h5, h6, h7)
 
   pub precharge_tap : (k : ℕ) → k < banks_of s.plan → (n net : Net) (t inner : Shape) → n ≡ in_bank k net → IsShifted (q k) (pos 0) inner t → (x y end : ℤ) (rail : IsRailOf s.plan s.wire f 0 net x) (l : ℕ) → l + 1 ≡ columns_of s.plan → (port : ℕ) (rect : Rect) → IsPin s.plan s.kit f (PrechargeAt 0 l) port 2 net rect → y ≡ rect.y1 → end ≡ rect.x2
-      → IsBox (slice_index s.wire.metals 2) x y end (y +ℤ W) inner → IsNearZone S z t.rect → IsWireSeen connections (stated_parts s) i n t
+      → IsBox (slice_index s.wire.metals 2) x y end (y +ℤ W) inner → IsNearZone S z t.rect → SeenThere connections s by reach is window i n t
   precharge_tap k lt n net t inner named sh x y end rail l last port rect pin at ends box near =
       let cs = columns_sum in
       let some = columns_few_some in

@@ -21,11 +21,10 @@ use Rattle.macro_layout.specs.Stated.{IsShifted}
 use Rattle.macro_layout.specs.Wires.{IsTapOfNet, IsPowerWire, IsGroundWire, IsPowerBarAt, IsGroundBarAt, columns_end, trunk_x, ground_x}
 use Rattle.good_places.specs.Leaves.{Zone}
 use Rattle.macro_layout.specs.Wires.{row_y}
-use Rattle.good_nets.specs.Parts.{IsWireSeen}
 use Rattle.good_wires.proofs.LevelLaws.{track_below}
 use Rattle.good_wires.proofs.TapLaws.{pin_in_zone}
 use Rattle.joined_nets.specs.WireNets.{in_bank, IsChannelWireOf, IsTapWireOf, IsBankWireOf}
-use Rattle.kit_nets.specs.StatedParts.{Source, Standing, stated_parts}
+use Rattle.kit_nets.specs.StatedParts.{Source, Standing}
 use Rattle.seen_pairs.specs.Counterpart.{IsOfColumns, IsOfFronts, leaf_bank, right_by, columns_up}
 use Rattle.small_wires.specs.Seen.{IsNearZone}
 use Rattle.seen_pairs.specs.Window.{IsSeenSource, HasSeenWindow}
@@ -35,7 +34,7 @@ use Rattle.small_wires.proofs.BranchLaws.{channel_kind, IsTopBox}
 use Rattle.seen_pairs.proofs.CounterLaws.{nand_counter, driver_counter}
 use Rattle.small_wires.proofs.FarLaws.{lv, sp, wide_wire, wide_space, logic_level, slices_level, joiner_level, inverter_level}
 use Rattle.seen_pairs.proofs.SeatLaws.{zone_at}
-use Rattle.small_wires.proofs.SeenWireLaws.{small, WireHere, power_seen, ground_seen}
+use Rattle.small_wires.proofs.SeenWireLaws.{small, SeenThere, WireHere, power_seen, ground_seen}
 use Rattle.seen_wires.proofs.ColumnSeatLaws.{IsColumnSeat, column_is_seat, front_is_seat}
 use Rattle.seen_wires.proofs.ColumnPinLaws as first
 use Rattle.seen_wires.proofs.ColumnTapLaws as second
@@ -100,10 +99,10 @@ module _ (connections : List Connect) (s : Source) (by reach : ℤ) (is : IsSeen
   precharge_rises = first.precharge_rises connections s by reach is window i seat
 
   abbrev top_contact : (k : ℕ) → k < banks_of s.plan → (n net : Net) (t inner : Shape) → n ≡ in_bank k net → IsShifted (q k) (pos 0) inner t → (w : IsChannelWireOf (IsColumnChannel s.plan s.kit s.wire f) s.wire s.tracks.column (column_nets s.plan) net inner)
-      → IsTopBox (IsColumnChannel s.plan s.kit s.wire f) s.wire s.tracks.column (column_nets s.plan) net inner w → IsNearZone S z t.rect → IsNearZone reach z t.rect → IsWireSeen connections (stated_parts s) i n t
+      → IsTopBox (IsColumnChannel s.plan s.kit s.wire f) s.wire s.tracks.column (column_nets s.plan) net inner w → IsNearZone S z t.rect → IsNearZone reach z t.rect → SeenThere connections s by reach is window i n t
   top_contact = first.top_contact connections s by reach is window i seat
 
-  abbrev joiner_contact : (k : ℕ) → k < banks_of s.plan → (n : Net) (t inner : Shape) → n ≡ in_bank k Gnd → IsShifted (q k) (pos 0) inner t → IsBox (slice_index s.wire.metals 0) f.row_x (f.array_y -ℤ W) (columns_end s.plan s.kit f) f.array_y inner → IsNearZone S z t.rect → IsWireSeen connections (stated_parts s) i n t
+  abbrev joiner_contact : (k : ℕ) → k < banks_of s.plan → (n : Net) (t inner : Shape) → n ≡ in_bank k Gnd → IsShifted (q k) (pos 0) inner t → IsBox (slice_index s.wire.metals 0) f.row_x (f.array_y -ℤ W) (columns_end s.plan s.kit f) f.array_y inner → IsNearZone S z t.rect → SeenThere connections s by reach is window i n t
   joiner_contact = first.joiner_contact connections s by reach is window i seat
 
   -- the tap there, which ends at the pin's right end
@@ -120,11 +119,11 @@ module _ (connections : List Connect) (s : Source) (by reach : ℤ) (is : IsSeen
   d00 = right_by s.plan s.kit f g 0 0
 
   abbrev row_tap : (k : ℕ) → k < banks_of s.plan → (n net : Net) (t inner : Shape) → n ≡ in_bank k net → IsShifted (q k) (pos 0) inner t → (x y end : ℤ) (rail : IsRailOf s.plan s.wire f 0 net x) (rect : Rect) → y ≡ rect.y1 → end ≡ rect.x2 → IsBox (slice_index s.wire.metals 2) x y end (y +ℤ W) inner → rect.x2 ≤ℤ columns_x s.plan s.kit f
-      → (leaf : LeafInstance) (port : ℕ) → (p : IsPinThere connections s by reach is window 0 d00 dy leaf port 2 net rect) → f.row_x ≤ℤ p.rect2.x1 → (p.net2 ≡ net → TapThere net rail.rail p.rect2) → IsNearZone S z t.rect → IsNearZone reach z t.rect → IsWireSeen connections (stated_parts s) i n t
+      → (leaf : LeafInstance) (port : ℕ) → (p : IsPinThere connections s by reach is window 0 d00 dy leaf port 2 net rect) → f.row_x ≤ℤ p.rect2.x1 → (p.net2 ≡ net → TapThere net rail.rail p.rect2) → IsNearZone S z t.rect → IsNearZone reach z t.rect → SeenThere connections s by reach is window i n t
   row_tap = second.row_tap connections s by reach is window i seat
 
   abbrev precharge_tap : (k : ℕ) → k < banks_of s.plan → (n net : Net) (t inner : Shape) → n ≡ in_bank k net → IsShifted (q k) (pos 0) inner t → (x y end : ℤ) (rail : IsRailOf s.plan s.wire f 0 net x) (l : ℕ) → l + 1 ≡ columns_of s.plan → (port : ℕ) (rect : Rect) → IsPin s.plan s.kit f (PrechargeAt 0 l) port 2 net rect → y ≡ rect.y1 → end ≡ rect.x2
-      → IsBox (slice_index s.wire.metals 2) x y end (y +ℤ W) inner → IsNearZone S z t.rect → IsWireSeen connections (stated_parts s) i n t
+      → IsBox (slice_index s.wire.metals 2) x y end (y +ℤ W) inner → IsNearZone S z t.rect → SeenThere connections s by reach is window i n t
   precharge_tap = second.precharge_tap connections s by reach is window i seat
 
   column_x_there : (x : ℤ) → x ≡ columns_x s.plan s.kit f → x ≡ columns_x s.plan s.kit g
@@ -173,17 +172,17 @@ module _ (connections : List Connect) (s : Source) (by reach : ℤ) (is : IsSeen
   logic_over : (pos (s.kit.height Inv) +ℤ S) ≤ℤ f.column_y
   logic_over = let a = logic_level connections s by reach is in let e = slices_level connections s by reach is in let h = wide_space connections s by reach is in omega (arith, ints, a, e, h)
 
-  power_contact : (t : Shape) → IsPowerWire s.plan s.kit s.wire f t → IsNearZone S z t.rect → IsWireSeen connections (stated_parts s) i Vdd t
+  power_contact : (t : Shape) → IsPowerWire s.plan s.kit s.wire f t → IsNearZone S z t.rect → SeenThere connections s by reach is window i Vdd t
   power_contact t (inl trunk) near = absurd (behind t near (let e = trunk.left in no_more (trunk_x s.plan s.kit s.wire f) t.rect.x1 (sym e)))
   power_contact t (inr (x, y, at, inr via)) near = absurd (via_behind x y (trunk_x s.plan s.kit s.wire f) t (no_more _ _ refl) via near)
   power_contact t (inr (x, y, at, inl box)) near = height at where
-    seen : (v : ℤ) → x ≤ℤ columns_x s.plan s.kit g → y +ℤ dy ≡ v → IsPowerBarAt sm.plan s.kit s.wire g x v → IsWireSeen connections (stated_parts s) i Vdd t
+    seen : (v : ℤ) → x ≤ℤ columns_x s.plan s.kit g → y +ℤ dy ≡ v → IsPowerBarAt sm.plan s.kit s.wire g x v → SeenThere connections s by reach is window i Vdd t
     seen v le up there = power_seen connections s by reach is window m dx dy i seat.c b bw seat.anchor is.short.bitcell seat.in_bank_i x y v (trunk_x s.plan s.kit s.wire f) t le up box there
 
-    low : ((y +ℤ W) +ℤ S) ≤ℤ f.column_y → IsWireSeen connections (stated_parts s) i Vdd t
+    low : ((y +ℤ W) +ℤ S) ≤ℤ f.column_y → SeenThere connections s by reach is window i Vdd t
     low le = absurd (below t near (let e = box.high in omega (arith, ints, le, e)))
 
-    height : IsPowerBarAt s.plan s.kit s.wire f x y → IsWireSeen connections (stated_parts s) i Vdd t
+    height : IsPowerBarAt s.plan s.kit s.wire f x y → SeenThere connections s by reach is window i Vdd t
     height (inl (ex, ey)) = low (let a = logic_over in omega (arith, ints, a, ey))
     height (inr (inl (w0, ex, ey))) = low (let a = slices_over in let e = write_over in omega (arith, ints, a, e, ey))
     height (inr (inr (inl (ex, ey)))) = low (let a = slices_over in omega (arith, ints, a, ey))
@@ -191,17 +190,17 @@ module _ (connections : List Connect) (s : Source) (by reach : ℤ) (is : IsSeen
     height (inr (inr (inr (inr (inl (r, lt, odd, ex, ey)))))) = seen (row_y s.kit g r) (row_no_more x ex) (ap (λ (v : ℤ). v +ℤ dy) ey ∙ row_rises r) (inr (inr (inr (inr (inl (r, lt, odd, row_x_there x ex, refl))))))
     height (inr (inr (inr (inr (inr (ex, ey)))))) = seen (upper_y s.kit g -ℤ W) (no_more x (columns_x s.plan s.kit g) (column_x_there x ex)) (ap (λ (v : ℤ). v +ℤ dy) ey ∙ upper_rises) (inr (inr (inr (inr (inr (column_x_there x ex, refl))))))
 
-  ground_contact : (t : Shape) → IsGroundWire s.plan s.kit s.wire f t → IsNearZone S z t.rect → IsWireSeen connections (stated_parts s) i Gnd t
+  ground_contact : (t : Shape) → IsGroundWire s.plan s.kit s.wire f t → IsNearZone S z t.rect → SeenThere connections s by reach is window i Gnd t
   ground_contact t (inl trunk) near = absurd (behind t near (let e = trunk.left in let a = ground_behind in omega (arith, ints, e, a)))
   ground_contact t (inr (x, y, at, inr via)) near = absurd (via_behind x y (ground_x s.plan s.kit s.wire f) t ground_behind via near)
   ground_contact t (inr (x, y, at, inl box)) near = height at where
-    seen : (v : ℤ) → x ≤ℤ columns_x s.plan s.kit g → y +ℤ dy ≡ v → IsGroundBarAt sm.plan s.kit g x v → IsWireSeen connections (stated_parts s) i Gnd t
+    seen : (v : ℤ) → x ≤ℤ columns_x s.plan s.kit g → y +ℤ dy ≡ v → IsGroundBarAt sm.plan s.kit g x v → SeenThere connections s by reach is window i Gnd t
     seen v le up there = ground_seen connections s by reach is window m dx dy i seat.c b bw seat.anchor is.short.bitcell seat.in_bank_i x y v (ground_x s.plan s.kit s.wire f) t le up box there
 
-    low : ((y +ℤ W) +ℤ S) ≤ℤ f.column_y → IsWireSeen connections (stated_parts s) i Gnd t
+    low : ((y +ℤ W) +ℤ S) ≤ℤ f.column_y → SeenThere connections s by reach is window i Gnd t
     low le = absurd (below t near (let e = box.high in omega (arith, ints, le, e)))
 
-    height : IsGroundBarAt s.plan s.kit f x y → IsWireSeen connections (stated_parts s) i Gnd t
+    height : IsGroundBarAt s.plan s.kit f x y → SeenThere connections s by reach is window i Gnd t
     height (inl (ex, ey)) = low (let a = logic_over in let h = inverter_level connections s by reach is in omega (arith, ints, a, h, ey))
     height (inr (inl (ex, ey))) = low (let a = slices_over in let e = sense_over in omega (arith, ints, a, e, ey))
     height (inr (inr (inl (r, lt, even, ex, ey)))) = seen (row_y s.kit g r) (row_no_more x ex) (ap (λ (v : ℤ). v +ℤ dy) ey ∙ row_rises r) (inr (inr (inl (r, lt, even, row_x_there x ex, refl))))
@@ -227,7 +226,7 @@ module _ (connections : List Connect) (s : Source) (by reach : ℤ) (is : IsSeen
   pin_low : (l port : ℕ) (net : Net) (rect : Rect) → IsPin s.plan s.kit f (SenseAt 0 l) port 2 net rect → rect.y2 ≤ℤ column_channel_y s.kit f
   pin_low l port net rect p = let n = (pin_in_zone s.plan s.kit s.wire f (SenseAt 0 l) port 2 net rect is.source.drawn.laid is.source.drawn.pins p).high in omega (arith, ints, n)
 
-  tap_case : (k : ℕ) → k < banks_of s.plan → (n net : Net) (t inner : Shape) → n ≡ in_bank k net → IsShifted (q k) (pos 0) inner t → IsTapWireOf s.plan s.kit s.wire s.tracks.column f net inner → IsNearZone S z t.rect → IsNearZone reach z t.rect → IsWireSeen connections (stated_parts s) i n t
+  tap_case : (k : ℕ) → k < banks_of s.plan → (n net : Net) (t inner : Shape) → n ≡ in_bank k net → IsShifted (q k) (pos 0) inner t → IsTapWireOf s.plan s.kit s.wire s.tracks.column f net inner → IsNearZone S z t.rect → IsNearZone reach z t.rect → SeenThere connections s by reach is window i n t
   tap_case k lt n net t inner named sh tap near_s near_r = by_drawn tap.drawn where
     nand : (r : ℕ) (port : ℕ) (rect : Rect) (p : IsPin s.plan s.kit f (NandAt 0 r) port 2 net rect) → IsPinThere connections s by reach is window 0 d00 dy (NandAt 0 r) port 2 net rect
     nand r port rect p =
@@ -239,7 +238,7 @@ module _ (connections : List Connect) (s : Source) (by reach : ℤ) (is : IsSeen
         pin_there connections s by reach is window 0 d00 dy (DriverAt 0 r) port 2 net rect p
         (driver_counter s.plan s.kit s.wire s.tracks window.tracks f g window.word window.write window.masks is.source.drawn.stands window.source.drawn.stands is.written window.size.written 0 r p.place p.has p.stands)
 
-    by_tap : IsTapOfNet s.plan s.kit s.wire s.tracks.column f net tap.x tap.y tap.end → IsBox (slice_index s.wire.metals 2) tap.x tap.y tap.end (tap.y +ℤ W) inner → IsWireSeen connections (stated_parts s) i n t
+    by_tap : IsTapOfNet s.plan s.kit s.wire s.tracks.column f net tap.x tap.y tap.end → IsBox (slice_index s.wire.metals 2) tap.x tap.y tap.end (tap.y +ℤ W) inner → SeenThere connections s by reach is window i n t
     by_tap (inl (r, p)) box =
         let there = nand r p.port p.rect p.pin in
         row_tap k lt n net t inner named sh tap.x tap.y tap.end tap.rail p.rect p.at p.ends box (first_pins p.rect (pin_in_zone s.plan s.kit s.wire f (NandAt 0 r) p.port 2 net p.rect is.source.drawn.laid is.source.drawn.pins p.pin).right) (NandAt 0 r) p.port there
@@ -266,7 +265,7 @@ module _ (connections : List Connect) (s : Source) (by reach : ℤ) (is : IsSeen
         let h = box.high in
         absurd (below_bank k t inner sh near_s (omega (arith, ints, a, at, h)))
 
-    by_drawn : IsBox (slice_index s.wire.metals 2) tap.x tap.y tap.end (tap.y +ℤ W) inner ⊎ IsVia s.wire 2 tap.x tap.y inner → IsWireSeen connections (stated_parts s) i n t
+    by_drawn : IsBox (slice_index s.wire.metals 2) tap.x tap.y tap.end (tap.y +ℤ W) inner ⊎ IsVia s.wire 2 tap.x tap.y inner → SeenThere connections s by reach is window i n t
     by_drawn (inl box) = by_tap tap.tap box
     by_drawn (inr via) =
         let p = margin_positive s.wire is.source.drawn.laid.sizes in
@@ -281,7 +280,7 @@ module _ (connections : List Connect) (s : Source) (by reach : ℤ) (is : IsSeen
         og : (x m c w a : ℤ) → pos 1 ≤ℤ m → w ≡ c +ℤ (m +ℤ m) → a ≡ (x +ℤ m) +ℤ c → a ≤ℤ (x +ℤ w)
         og x m c w a h1 h2 h3 = omega (arith, ints, h1, h2, h3)
 
-  bank_case : (k : ℕ) → k < banks_of s.plan → (n net : Net) (t inner : Shape) → n ≡ in_bank k net → IsShifted (q k) (pos 0) inner t → IsBankWireOf s.plan s.kit s.wire s.tracks f net inner → IsNearZone S z t.rect → IsNearZone reach z t.rect → IsWireSeen connections (stated_parts s) i n t
+  bank_case : (k : ℕ) → k < banks_of s.plan → (n net : Net) (t inner : Shape) → n ≡ in_bank k net → IsShifted (q k) (pos 0) inner t → IsBankWireOf s.plan s.kit s.wire s.tracks f net inner → IsNearZone S z t.rect → IsNearZone reach z t.rect → SeenThere connections s by reach is window i n t
   bank_case k lt n net t inner named sh (inl w) near_s near_r = elim (channel_kind (IsColumnChannel s.plan s.kit s.wire f) s.wire s.tracks.column (column_nets s.plan) net inner w is.source.drawn.laid.sizes) [
     | inl middle ↦ absurd (below_bank k t inner sh near_s (let a = middle.below in omega (arith, ints, a, upper)))
     | inr (inl top) ↦ top_contact k lt n net t inner named sh w top near_s near_r
@@ -295,13 +294,13 @@ module _ (connections : List Connect) (s : Source) (by reach : ℤ) (is : IsSeen
   bank_case k lt n net t inner named sh (inr (inr (inr (inr (e, inl joiner))))) near_s near_r = absurd (below_bank k t inner sh near_s (let a = slices_over in let o = sense_over in let w = wide_wire connections s by reach is in let h = joiner.1.high in omega (arith, ints, a, o, w, h)))
   bank_case k lt n net t inner named sh (inr (inr (inr (inr (e, inr joiner))))) near_s near_r = joiner_contact k lt n t inner (named ∙ ap (in_bank k) e) sh joiner near_s
 
-  wire_case : (n : Net) (t : Shape) → WireHere connections s by reach is window n t → IsNearZone S z t.rect → IsNearZone reach z t.rect → IsWireSeen connections (stated_parts s) i n t
+  wire_case : (n : Net) (t : Shape) → WireHere connections s by reach is window n t → IsNearZone S z t.rect → IsNearZone reach z t.rect → SeenThere connections s by reach is window i n t
   wire_case n t (inl (inl w)) near_s near_r = absurd (main_far n t w near_s)
-  wire_case n t (inl (inr (inl power))) near_s near_r = subst (λ (v : Net). IsWireSeen connections (stated_parts s) i v t) (sym power.0) (power_contact t power.1 near_s)
-  wire_case n t (inl (inr (inr ground))) near_s near_r = subst (λ (v : Net). IsWireSeen connections (stated_parts s) i v t) (sym ground.0) (ground_contact t ground.1 near_s)
+  wire_case n t (inl (inr (inl power))) near_s near_r = subst (λ (v : Net). SeenThere connections s by reach is window i v t) (sym power.0) (power_contact t power.1 near_s)
+  wire_case n t (inl (inr (inr ground))) near_s near_r = subst (λ (v : Net). SeenThere connections s by reach is window i v t) (sym ground.0) (ground_contact t ground.1 near_s)
   wire_case n t (inr bank) near_s near_r = bank_case bank.bank bank.below n bank.net t bank.inner bank.named bank.shifted bank.is near_s near_r
 
 -- A wire that is near an instance of a column, or of one in front of the columns, is seen with it.
-pub column_wire : (connections : List Connect) (s : Source) (by reach : ℤ) (is : IsSeenSource connections s by reach) (window : HasSeenWindow connections s) (i : Standing s) → IsOfColumns i.leaf ⊎ IsOfFronts i.leaf → (n : Net) (t : Shape) → WireHere connections s by reach is window n t → IsNearZone s.wire.space (zone_at connections s by reach is i) t.rect → IsNearZone reach (zone_at connections s by reach is i) t.rect → IsWireSeen connections (stated_parts s) i n t
+pub column_wire : (connections : List Connect) (s : Source) (by reach : ℤ) (is : IsSeenSource connections s by reach) (window : HasSeenWindow connections s) (i : Standing s) → IsOfColumns i.leaf ⊎ IsOfFronts i.leaf → (n : Net) (t : Shape) → WireHere connections s by reach is window n t → IsNearZone s.wire.space (zone_at connections s by reach is i) t.rect → IsNearZone reach (zone_at connections s by reach is i) t.rect → SeenThere connections s by reach is window i n t
 column_wire connections s by reach is window i (inl column) = wire_case connections s by reach is window i (column_is_seat connections s by reach is window i column)
 column_wire connections s by reach is window i (inr front) = wire_case connections s by reach is window i (front_is_seat connections s by reach is window i front)

@@ -28,15 +28,13 @@ use Rattle.good_places.specs.Beside.{moved_place}
 use Rattle.good_places.specs.Leaves.{Zone, AreNearZones, zone_of}
 use Rattle.good_places.proofs.MoveLaws.{moved_image}
 use Rattle.good_places.proofs.RowLaws.{total_split}
-use Rattle.good_nets.specs.Parts.{IsWireSeen}
 use Rattle.good_wires.proofs.PinLaws.{upright_left, logic_upright}
 use Rattle.small_wires.proofs.ColumnNetLaws.{HasNumber}
 use Rattle.joined_nets.specs.WireNets.{IsChannelWireOf}
 use Rattle.joined_nets.proofs.WireNetLaws.{place_below}
-use Rattle.kit_nets.specs.StatedParts.{Source, Standing, stated_parts}
-use Rattle.kit_nets.proofs.ChannelDrawnLaws.{moved_is_shifted, box_there}
-use Rattle.kit_nets.proofs.PairLaws.{logic_wire_seen}
-use Rattle.kit_nets.proofs.StandInLaws.{logic_same_role}
+use Rattle.kit_nets.specs.StatedParts.{Source, Standing}
+use Rattle.kit_nets.proofs.ChannelDrawnLaws.{box_there}
+use Rattle.kit_nets.proofs.StandInLaws.{logic_same_role, logic_stands_in}
 use Rattle.moved_nets.specs.Moved.{Moves, logic_net}
 use Rattle.moved_nets.proofs.LogicLaws.{logic_moves}
 use Rattle.small_rows.specs.Row.{IsCellThere, AreCellsSeen}
@@ -47,11 +45,10 @@ use Rattle.seen_pairs.proofs.BankPairLaws.{akin}
 use Rattle.small_wires.proofs.BankWireLaws.{unmapped_at}
 use Rattle.small_wires.proofs.BranchLaws.{IsBottomBox, bottom_there}
 use Rattle.small_wires.proofs.FarLaws.{wide_wire, wide_space, logic_level, above_zone}
-use Rattle.seen_pairs.proofs.PairLaws.{x_of, cell_at, cell_place, cell_zone_is, least, cell_dx, cell_standing, row_moved, row_moved_too, row_seen, stands_moved}
-use Rattle.seen_pairs.proofs.SeatLaws.{zone_at, shape_near}
-use Rattle.small_wires.proofs.SeenWireLaws.{small, WireThere, stands_there}
+use Rattle.seen_pairs.proofs.PairLaws.{x_of, cell_at, cell_place, cell_zone_is, least, cell_dx, cell_standing, cell_role, row_moved, row_moved_too, row_seen, stands_moved}
+use Rattle.seen_pairs.proofs.SeatLaws.{zone_at}
+use Rattle.small_wires.proofs.SeenWireLaws.{small, SeenThere, WireThere, stands_there}
 use Rattle.small_wires.proofs.SignalLaws.{IsSignal, main_signal, signal_number, signal_back}
-use Rattle.small_wires.proofs.TouchLaws.{touch_there}
 
 module _ (connections : List Connect) (s : Source) (by reach : ℤ) (is : IsSeenSource connections s by reach) (window : HasSeenWindow connections s) (i : Standing s) (c : LogicCell) (ei : i.leaf ≡ LogicAt c) where
   abbrev f : Floorplan
@@ -136,11 +133,23 @@ module _ (connections : List Connect) (s : Source) (by reach : ℤ) (is : IsSeen
 
   -- the stand-in, so far right, and what it is seen by
   module _ (v : Moves) (x2 : ℕ) (dx : ℤ) (far : (f.logic_x +ℤ pos x) +ℤ dx ≡ g.logic_x +ℤ pos x2) (there : IsCellThere sm.plan s.kit (least connections s by reach is window) v c x x2) where
-    seen_by : (n net : Net) (t u : Shape) → logic_net v net ≡ n → WireThere connections s by reach is window net u → CoversThere by dx (pos 0) z t u → IsWireSeen connections (stated_parts s) i n t
+    seen_by : (n net : Net) (t u : Shape) → logic_net v net ≡ n → WireThere connections s by reach is window net u → CoversThere by dx (pos 0) z t u → SeenThere connections s by reach is window i n t
     seen_by n net t u named is_wire covers =
         let st = cell_standing connections s by reach is window i c ei v x2 dx far there in
-        logic_wire_seen connections s sm (akin connections s by reach is window) window.flat window.labels window.rows window.stated v dx (pos 0) i st.0 there.one n net t u st.1 there.as_mask (ei ∙ ap LogicAt there.is) (stands_moved connections s by reach is window i st.0 dx st.2) named (stands_there connections s by reach is window net u is_wire)
-        (λ inner shape shape' of moved touch. touch_there by dx (pos 0) z shape shape' t u (shape_near connections s by reach is i inner shape of) (moved_is_shifted dx (pos 0) shape shape' moved) covers connections touch)
+        record {
+          f = logic_net v;
+          dx = dx;
+          dy = pos 0;
+          one = st.0;
+          one_is = logic_stands_in s sm (akin connections s by reach is window) v dx (pos 0) i st.0 there.one st.1 there.as_mask (ei ∙ ap LogicAt there.is) (stands_moved connections s by reach is window i st.0 dx st.2);
+          one_at = st.2;
+          one_role = cell_role connections s by reach is window i c ei v x2 dx far there;
+          net = net;
+          named = named;
+          wire = u;
+          is = stands_there connections s by reach is window net u is_wire;
+          covers = covers;
+        }
 
     same_width : width ≡ s.kit.width (logic_role sm.plan there.one)
     same_width = ap (λ (l : LogicCell). s.kit.width (role s.plan (LogicAt l))) there.is ∙ ap s.kit.width (logic_same_role s.plan sm.plan v there.one (akin connections s by reach is window).plans)
@@ -208,7 +217,7 @@ module _ (connections : List Connect) (s : Source) (by reach : ℤ) (is : IsSeen
         high : (y w a u : ℤ) → a ≡ y +ℤ w → u ≡ y +ℤ w → (a +ℤ pos 0) ≤ℤ u
         high y w a u h1 h2 = omega (arith, ints, h1, h2)
 
-    pub power_seen : (y : ℤ) (t : Shape) → y ≡ pos (s.kit.height Inv) -ℤ W → IsBox (slice_index s.wire.metals 0) f.logic_x y (trunk_x s.plan s.kit s.wire f +ℤ W) (y +ℤ W) t → IsWireSeen connections (stated_parts s) i Vdd t
+    pub power_seen : (y : ℤ) (t : Shape) → y ≡ pos (s.kit.height Inv) -ℤ W → IsBox (slice_index s.wire.metals 0) f.logic_x y (trunk_x s.plan s.kit s.wire f +ℤ W) (y +ℤ W) t → SeenThere connections s by reach is window i Vdd t
     power_seen y t at box =
         let u = bar_there y (pos 0) (omega (arith, ints)) in
         seen_by Vdd Vdd t u.0 refl (inl (inr (inl (refl, inr (g.logic_x, y, inl (refl, at), inl (subst (λ (w : ℤ). IsBox (slice_index s.wire.metals 0) g.logic_x y (w +ℤ W) (y +ℤ W) u.0) (nothing trunk_there) u.1.box))))))
@@ -217,7 +226,7 @@ module _ (connections : List Connect) (s : Source) (by reach : ℤ) (is : IsSeen
         nothing : (a : ℤ) → a +ℤ pos 0 ≡ a
         nothing a = omega (arith, ints)
 
-    pub ground_seen : (y : ℤ) (t : Shape) → y ≡ pos 0 → IsBox (slice_index s.wire.metals 0) f.logic_x y (ground_x s.plan s.kit s.wire f +ℤ W) (y +ℤ W) t → IsWireSeen connections (stated_parts s) i Gnd t
+    pub ground_seen : (y : ℤ) (t : Shape) → y ≡ pos 0 → IsBox (slice_index s.wire.metals 0) f.logic_x y (ground_x s.plan s.kit s.wire f +ℤ W) (y +ℤ W) t → SeenThere connections s by reach is window i Gnd t
     ground_seen y t at box =
         let u = bar_there y (pitch s.wire) some in
         seen_by Gnd Gnd t u.0 refl (inl (inr (inr (refl, inr (g.logic_x, y, inl (refl, at), inl u.1.box))))) (bar_covers y (ground_x s.plan s.kit s.wire f) (pitch s.wire) t u.0 some box u.1)
@@ -318,7 +327,7 @@ module _ (connections : List Connect) (s : Source) (by reach : ℤ) (is : IsSeen
     number : HasNumber (main_nets sm.plan) net_there.0
     number = signal_number sm.plan two port net_there.0 window.size.written has_two net_there.1 (signal_back r.moves net_there.0 (subst IsSignal (sym net_there.2) (main_signal s.plan w.number meets.0 meets.1)))
 
-    pub bottom_contact : IsWireSeen connections (stated_parts s) i n t
+    pub bottom_contact : SeenThere connections s by reach is window i n t
     bottom_contact =
         let route = window.source.drawn.main in
         let l = place_below (main_nets sm.plan) number.0 net_there.0 number.1 in

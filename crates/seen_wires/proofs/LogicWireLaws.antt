@@ -16,10 +16,9 @@ use Rattle.macro_layout.specs.Pins.{main_nets, column_nets}
 use Rattle.macro_layout.specs.Channels.{IsMainChannel, IsColumnChannel}
 use Rattle.macro_layout.specs.Wires.{IsPowerWire, IsGroundWire, IsPowerBarAt, IsGroundBarAt, trunk_x, ground_x}
 use Rattle.good_places.specs.Leaves.{Zone, AreNearZones}
-use Rattle.good_nets.specs.Parts.{IsWireSeen}
 use Rattle.good_wires.proofs.TapLaws.{tap_low}
 use Rattle.joined_nets.specs.WireNets.{IsChannelWireOf, IsBankWireOf}
-use Rattle.kit_nets.specs.StatedParts.{Source, Standing, stated_parts}
+use Rattle.kit_nets.specs.StatedParts.{Source, Standing}
 use Rattle.small_rows.specs.Row.{AreCellsSeen}
 use Rattle.small_wires.specs.Seen.{IsNearZone}
 use Rattle.seen_pairs.specs.Window.{IsSeenSource, HasSeenWindow}
@@ -27,7 +26,7 @@ use Rattle.small_wires.proofs.BranchLaws.{channel_kind}
 use Rattle.small_wires.proofs.FarLaws.{lv, wide_wire, wide_space, slices_level, corner_level, upper_level, joiner_level, row_level}
 use Rattle.seen_pairs.proofs.PairLaws.{x_of, least, cell_dx, row_moved, row_seen}
 use Rattle.seen_pairs.proofs.SeatLaws.{zone_at}
-use Rattle.small_wires.proofs.SeenWireLaws.{small, WireHere}
+use Rattle.small_wires.proofs.SeenWireLaws.{small, SeenThere, WireHere}
 use Rattle.seen_wires.proofs.LogicPinLaws as first
 
 module _ (connections : List Connect) (s : Source) (by reach : ℤ) (is : IsSeenSource connections s by reach) (window : HasSeenWindow connections s) (i : Standing s) (c : LogicCell) (ei : i.leaf ≡ LogicAt c) where
@@ -83,14 +82,14 @@ module _ (connections : List Connect) (s : Source) (by reach : ℤ) (is : IsSeen
   channel_high : f.write_y ≤ℤ (column_channel_y s.kit f -ℤ W)
   channel_high = let a = (lv connections s by reach is).sense in let e = is.source.drawn.pins.cells Sense in omega (arith, ints, a, e)
 
-  power_contact : (t : Shape) → IsPowerWire s.plan s.kit s.wire f t → IsNearZone S z t.rect → IsWireSeen connections (stated_parts s) i Vdd t
+  power_contact : (t : Shape) → IsPowerWire s.plan s.kit s.wire f t → IsNearZone S z t.rect → SeenThere connections s by reach is window i Vdd t
   power_contact t (inl trunk) near = absurd (behind t near (let e = trunk.left in no_more (trunk_x s.plan s.kit s.wire f) t.rect.x1 (sym e)))
   power_contact t (inr (u, y, at, inr via)) near = absurd (via_behind y (trunk_x s.plan s.kit s.wire f) t (no_more _ _ refl) via near)
   power_contact t (inr (u, y, at, inl box)) near = height at where
-    high : f.write_y ≤ℤ y → IsWireSeen connections (stated_parts s) i Vdd t
+    high : f.write_y ≤ℤ y → SeenThere connections s by reach is window i Vdd t
     high le = absurd (above t near (let e = box.low in omega (arith, ints, le, e)))
 
-    height : IsPowerBarAt s.plan s.kit s.wire f u y → IsWireSeen connections (stated_parts s) i Vdd t
+    height : IsPowerBarAt s.plan s.kit s.wire f u y → SeenThere connections s by reach is window i Vdd t
     height (inl (eu, ey)) = first.power_seen connections s by reach is window i c ei own.moves own.x2 (cell_dx connections s by reach is window x own.x2) (row_moved connections s by reach is window x own.x2) own.one y t ey (subst (λ (v : ℤ). IsBox (slice_index s.wire.metals 0) v y (trunk_x s.plan s.kit s.wire f +ℤ W) (y +ℤ W) t) eu box)
     height (inr (inl (w0, eu, ey))) = high (no_more f.write_y y (sym ey))
     height (inr (inr (inl (eu, ey)))) = high (let a = channel_high in omega (arith, ints, a, ey))
@@ -98,14 +97,14 @@ module _ (connections : List Connect) (s : Source) (by reach : ℤ) (is : IsSeen
     height (inr (inr (inr (inr (inl (k, lt, odd, eu, ey)))))) = high (let a = column_high in let e = row_level connections s by reach is k in omega (arith, ints, a, e, ey))
     height (inr (inr (inr (inr (inr (eu, ey)))))) = high (let a = column_high in let e = upper_level connections s by reach is in omega (arith, ints, a, e, ey))
 
-  ground_contact : (t : Shape) → IsGroundWire s.plan s.kit s.wire f t → IsNearZone S z t.rect → IsWireSeen connections (stated_parts s) i Gnd t
+  ground_contact : (t : Shape) → IsGroundWire s.plan s.kit s.wire f t → IsNearZone S z t.rect → SeenThere connections s by reach is window i Gnd t
   ground_contact t (inl trunk) near = absurd (behind t near (let e = trunk.left in let a = ground_behind in omega (arith, ints, e, a)))
   ground_contact t (inr (u, y, at, inr via)) near = absurd (via_behind y (ground_x s.plan s.kit s.wire f) t ground_behind via near)
   ground_contact t (inr (u, y, at, inl box)) near = height at where
-    high : f.write_y ≤ℤ y → IsWireSeen connections (stated_parts s) i Gnd t
+    high : f.write_y ≤ℤ y → SeenThere connections s by reach is window i Gnd t
     high le = absurd (above t near (let e = box.low in omega (arith, ints, le, e)))
 
-    height : IsGroundBarAt s.plan s.kit f u y → IsWireSeen connections (stated_parts s) i Gnd t
+    height : IsGroundBarAt s.plan s.kit f u y → SeenThere connections s by reach is window i Gnd t
     height (inl (eu, ey)) = first.ground_seen connections s by reach is window i c ei own.moves own.x2 (cell_dx connections s by reach is window x own.x2) (row_moved connections s by reach is window x own.x2) own.one y t ey (subst (λ (v : ℤ). IsBox (slice_index s.wire.metals 0) v y (ground_x s.plan s.kit s.wire f +ℤ W) (y +ℤ W) t) eu box)
     height (inr (inl (eu, ey))) = high (let a = (lv connections s by reach is).sense in omega (arith, ints, a, ey))
     height (inr (inr (inl (k, lt, even, eu, ey)))) = high (let a = column_high in let e = row_level connections s by reach is k in omega (arith, ints, a, e, ey))
@@ -113,7 +112,7 @@ module _ (connections : List Connect) (s : Source) (by reach : ℤ) (is : IsSeen
 
   -- All wires
 
-  main_case : (n : Net) (t : Shape) → IsChannelWireOf (IsMainChannel s.plan s.kit s.wire f) s.wire s.tracks.main (main_nets s.plan) n t → IsNearZone S z t.rect → IsNearZone reach z t.rect → IsWireSeen connections (stated_parts s) i n t
+  main_case : (n : Net) (t : Shape) → IsChannelWireOf (IsMainChannel s.plan s.kit s.wire f) s.wire s.tracks.main (main_nets s.plan) n t → IsNearZone S z t.rect → IsNearZone reach z t.rect → SeenThere connections s by reach is window i n t
   main_case n t w near_s near_r = elim (channel_kind (IsMainChannel s.plan s.kit s.wire f) s.wire s.tracks.main (main_nets s.plan) n t w is.source.drawn.laid.sizes) [
     | inl inner ↦ absurd (over t near_s (let a = inner.above in let l = w.routed.meant.low in omega (arith, ints, a, l)))
     | inr (inl top) ↦ absurd (over t near_s (let a = top.above in let h = top.box.low in let l = w.routed.meant.low in omega (arith, ints, a, h, l)))
@@ -144,8 +143,8 @@ module _ (connections : List Connect) (s : Source) (by reach : ℤ) (is : IsSeen
   bank_high n inner (inr (inr (inr (inr (e, inr joiner))))) = let a = corner_level connections s by reach is in let u = column_high in let h = joiner.low in omega (arith, ints, a, u, h)
 
   -- A wire that is near a cell of the logic row is seen with it.
-  pub logic_wire : (n : Net) (t : Shape) → WireHere connections s by reach is window n t → IsNearZone S z t.rect → IsNearZone reach z t.rect → IsWireSeen connections (stated_parts s) i n t
+  pub logic_wire : (n : Net) (t : Shape) → WireHere connections s by reach is window n t → IsNearZone S z t.rect → IsNearZone reach z t.rect → SeenThere connections s by reach is window i n t
   logic_wire n t (inl (inl w)) near_s near_r = main_case n t w near_s near_r
-  logic_wire n t (inl (inr (inl power))) near_s near_r = subst (λ (v : Net). IsWireSeen connections (stated_parts s) i v t) (sym power.0) (power_contact t power.1 near_s)
-  logic_wire n t (inl (inr (inr ground))) near_s near_r = subst (λ (v : Net). IsWireSeen connections (stated_parts s) i v t) (sym ground.0) (ground_contact t ground.1 near_s)
+  logic_wire n t (inl (inr (inl power))) near_s near_r = subst (λ (v : Net). SeenThere connections s by reach is window i v t) (sym power.0) (power_contact t power.1 near_s)
+  logic_wire n t (inl (inr (inr ground))) near_s near_r = subst (λ (v : Net). SeenThere connections s by reach is window i v t) (sym ground.0) (ground_contact t ground.1 near_s)
   logic_wire n t (inr bank) near_s near_r = absurd (above t near_s (let a = bank_high bank.net bank.inner bank.is in let e = bank.shifted.y1 in omega (arith, ints, a, e)))

@@ -21,10 +21,9 @@ use Rattle.macro_layout.specs.Stated.{IsShifted}
 use Rattle.macro_layout.specs.Wires.{trunk_x}
 use Rattle.good_places.specs.Leaves.{Zone, slice_zone}
 use Rattle.good_places.proofs.LaidLaws.{written_all}
-use Rattle.good_nets.specs.Parts.{IsWireSeen}
 use Rattle.joined_nets.specs.WireNets.{in_bank, IsChannelWireOf, IsOutputWireOf}
 use Rattle.joined_nets.proofs.WireNetLaws.{place_below}
-use Rattle.kit_nets.specs.StatedParts.{Source, Standing, stated_parts}
+use Rattle.kit_nets.specs.StatedParts.{Source, Standing}
 use Rattle.kit_nets.proofs.ChannelDrawnLaws.{box_there}
 use Rattle.kit_nets.proofs.ColumnHubLaws.{zero_times}
 use Rattle.seen_pairs.specs.Counterpart.{IsOfSlices, leaf_bank, number_of, right_by, slices_up}
@@ -40,7 +39,7 @@ use Rattle.seen_pairs.proofs.CounterLaws.{sense_counter, sense_up}
 use Rattle.small_wires.proofs.FarLaws.{lv, sp, wide_wire, joiner_level, below_zone, above_zone, same_bank, not_behind}
 use Rattle.small_rows.proofs.FewLaws.{among_few}
 use Rattle.seen_pairs.proofs.SeatLaws.{zone_at, slice_seat, slice_below}
-use Rattle.small_wires.proofs.SeenWireLaws.{small}
+use Rattle.small_wires.proofs.SeenWireLaws.{small, SeenThere}
 use Rattle.small_wires.proofs.SpanLaws.{beside_few, near_numbers, sense_wire, IsWireInSpan}
 
 slice_bank : (s : Source) (leaf : LeafInstance) → IsOfSlices leaf → HasLeafInstance s.plan leaf → leaf_bank leaf < banks_of s.plan
@@ -250,7 +249,7 @@ module _ (connections : List Connect) (s : Source) (by reach : ℤ) (is : IsSeen
 
   -- Branches of the column channel below sense cells
   pub bottom_contact : (k : ℕ) → k < banks_of s.plan → (n net : Net) (t inner : Shape) → n ≡ in_bank k net → IsShifted (q k) (pos 0) inner t → (w : IsChannelWireOf (IsColumnChannel s.plan s.kit s.wire f) s.wire s.tracks.column (column_nets s.plan) net inner)
-      → IsBottomBox (IsColumnChannel s.plan s.kit s.wire f) s.wire s.tracks.column (column_nets s.plan) net inner w → IsNearZone S z t.rect → IsNearZone reach z t.rect → IsWireSeen connections (stated_parts s) i n t
+      → IsBottomBox (IsColumnChannel s.plan s.kit s.wire f) s.wire s.tracks.column (column_nets s.plan) net inner w → IsNearZone S z t.rect → IsNearZone reach z t.rect → SeenThere connections s by reach is window i n t
   bottom_contact k lt n net t inner named sh w bx near_s near_r =
       let meets = (w.routed.meant.bottom w.number bx.x).0 bx.pin in
       let e = meets.2.0 in
@@ -284,7 +283,7 @@ module _ (connections : List Connect) (s : Source) (by reach : ℤ) (is : IsSeen
   write_high : f.write_y <ℤ f.sense_y
   write_high = let a = joiner_level connections s by reach is in let w = wide_wire connections s by reach is in omega (arith, ints, a, w)
 
-  pub output_contact : (k : ℕ) → k < banks_of s.plan → (n net : Net) (t inner : Shape) → n ≡ in_bank k net → IsShifted (q k) (pos 0) inner t → (o : IsOutputWireOf s.plan s.kit s.wire f net inner) → IsNearZone S z t.rect → IsNearZone reach z t.rect → IsWireSeen connections (stated_parts s) i n t
+  pub output_contact : (k : ℕ) → k < banks_of s.plan → (n net : Net) (t inner : Shape) → n ≡ in_bank k net → IsShifted (q k) (pos 0) inner t → (o : IsOutputWireOf s.plan s.kit s.wire f net inner) → IsNearZone S z t.rect → IsNearZone reach z t.rect → SeenThere connections s by reach is window i n t
   output_contact k lt n net t inner named sh o near_s near_r =
       let h = pin_slice k o.bit o.rect.x1 t inner o.pin.has.1 (sense_wire s.plan s.kit s.wire f is.source.drawn.laid is.source.drawn.pins 0 o.bit 2 3 net o.rect (inr refl) o.pin) o.drawn.left o.drawn.right sh near_s near_r in
       let p = sense_there o.bit k 2 3 net o.rect o.pin h in

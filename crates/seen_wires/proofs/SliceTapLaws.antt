@@ -17,10 +17,9 @@ use Rattle.macro_layout.specs.Channels.{IsColumnChannel}
 use Rattle.macro_layout.specs.Stated.{IsShifted}
 use Rattle.macro_layout.specs.Wires.{columns_end, trunk_x}
 use Rattle.good_places.specs.Leaves.{Zone}
-use Rattle.good_nets.specs.Parts.{IsWireSeen}
 use Rattle.good_wires.proofs.LevelLaws.{rail_at}
 use Rattle.joined_nets.specs.WireNets.{in_bank, IsChannelWireOf, IsOutputWireOf}
-use Rattle.kit_nets.specs.StatedParts.{Source, Standing, stated_parts}
+use Rattle.kit_nets.specs.StatedParts.{Source, Standing}
 use Rattle.kit_nets.proofs.ChannelDrawnLaws.{box_there}
 use Rattle.kit_nets.proofs.ColumnHubLaws.{zero_times}
 use Rattle.moved_nets.specs.Moved.{slice_net}
@@ -36,7 +35,7 @@ use Rattle.small_wires.proofs.ColumnNetLaws.{rail_still}
 use Rattle.seen_pairs.proofs.CounterLaws.{sense_counter}
 use Rattle.small_wires.proofs.FarLaws.{sp, wide_wire, wide_space, same_bank}
 use Rattle.seen_pairs.proofs.SeatLaws.{zone_at}
-use Rattle.small_wires.proofs.SeenWireLaws.{small}
+use Rattle.small_wires.proofs.SeenWireLaws.{small, SeenThere}
 use Rattle.small_wires.proofs.SpanLaws.{sense_span, rail_net, same_rail_net}
 use Rattle.seen_wires.proofs.SlicePinLaws as first
 
@@ -130,14 +129,14 @@ module _ (connections : List Connect) (s : Source) (by reach : ℤ) (is : IsSeen
   IsPinSlice = first.IsPinSlice connections s by reach is window i of
 
   abbrev bottom_contact : (k : ℕ) → k < banks_of s.plan → (n net : Net) (t inner : Shape) → n ≡ in_bank k net → IsShifted (q k) (pos 0) inner t → (w : IsChannelWireOf (IsColumnChannel s.plan s.kit s.wire f) s.wire s.tracks.column (column_nets s.plan) net inner)
-      → IsBottomBox (IsColumnChannel s.plan s.kit s.wire f) s.wire s.tracks.column (column_nets s.plan) net inner w → IsNearZone S z t.rect → IsNearZone reach z t.rect → IsWireSeen connections (stated_parts s) i n t
+      → IsBottomBox (IsColumnChannel s.plan s.kit s.wire f) s.wire s.tracks.column (column_nets s.plan) net inner w → IsNearZone S z t.rect → IsNearZone reach z t.rect → SeenThere connections s by reach is window i n t
   bottom_contact = first.bottom_contact connections s by reach is window i of
 
-  abbrev output_contact : (k : ℕ) → k < banks_of s.plan → (n net : Net) (t inner : Shape) → n ≡ in_bank k net → IsShifted (q k) (pos 0) inner t → (o : IsOutputWireOf s.plan s.kit s.wire f net inner) → IsNearZone S z t.rect → IsNearZone reach z t.rect → IsWireSeen connections (stated_parts s) i n t
+  abbrev output_contact : (k : ℕ) → k < banks_of s.plan → (n net : Net) (t inner : Shape) → n ≡ in_bank k net → IsShifted (q k) (pos 0) inner t → (o : IsOutputWireOf s.plan s.kit s.wire f net inner) → IsNearZone S z t.rect → IsNearZone reach z t.rect → SeenThere connections s by reach is window i n t
   output_contact = first.output_contact connections s by reach is window i of
 
   -- Joiners along write cells
-  pub joiner_contact : (k : ℕ) → k < banks_of s.plan → (n : Net) (t inner : Shape) → n ≡ in_bank k Gnd → IsShifted (q k) (pos 0) inner t → IsBox (slice_index s.wire.metals 0) (columns_x s.plan s.kit f) (f.sense_y -ℤ W) (columns_end s.plan s.kit f) f.sense_y inner → IsNearZone S z t.rect → IsWireSeen connections (stated_parts s) i n t
+  pub joiner_contact : (k : ℕ) → k < banks_of s.plan → (n : Net) (t inner : Shape) → n ≡ in_bank k Gnd → IsShifted (q k) (pos 0) inner t → IsBox (slice_index s.wire.metals 0) (columns_x s.plan s.kit f) (f.sense_y -ℤ W) (columns_end s.plan s.kit f) f.sense_y inner → IsNearZone S z t.rect → SeenThere connections s by reach is window i n t
   joiner_contact k lt n t inner named sh drawn near =
       let e = same_bank connections s by reach is b z anchor.from anchor.to k t.rect (starts (columns_x s.plan s.kit f) f.row_x (q k) W S t.rect.x1 inner.rect.x1 (sp connections s by reach is).columns (sp connections s by reach is).row (wide_wire connections s by reach is) sh.x1 drawn.left)
       (ends (columns_x s.plan s.kit f) f.bank_width (q k) t.rect.x2 inner.rect.x2 (columns_of s.plan * bit_width s.kit) (width_here connections s by reach is window) sh.x2 drawn.right) near in
@@ -213,7 +212,7 @@ module _ (connections : List Connect) (s : Source) (by reach : ℤ) (is : IsSeen
     once w = omega arith
 
   pub tap_contact : (k : ℕ) → k < banks_of s.plan → (n net : Net) (t inner : Shape) → n ≡ in_bank k net → IsShifted (q k) (pos 0) inner t → (x y end : ℤ) (rail : IsRailOf s.plan s.wire f 0 net x) (l : ℕ) → l + 1 ≡ s.plan.word_size → (port : ℕ) (rect : Rect) → IsPin s.plan s.kit f (SenseAt 0 l) port 2 net rect → y ≡ rect.y1 → end ≡ rect.x2
-      → IsBox (slice_index s.wire.metals 2) x y end (y +ℤ W) inner → IsNearZone S z t.rect → IsWireSeen connections (stated_parts s) i n t
+      → IsBox (slice_index s.wire.metals 2) x y end (y +ℤ W) inner → IsNearZone S z t.rect → SeenThere connections s by reach is window i n t
   tap_contact k lt n net t inner named sh x y end rail l last port rect pin at ends box near =
       let a = fits.0 in
       let a1 = fits.1 in

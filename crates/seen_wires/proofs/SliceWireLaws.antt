@@ -23,13 +23,12 @@ use Rattle.macro_layout.specs.Stated.{IsShifted}
 use Rattle.macro_layout.specs.Wires.{IsTapOfNet, IsPowerWire, IsGroundWire, IsPowerBarAt, IsGroundBarAt, columns_end, trunk_x, ground_x}
 use Rattle.good_places.specs.Leaves.{Zone, zone_of}
 use Rattle.good_places.proofs.LaidLaws.{written_all}
-use Rattle.good_nets.specs.Parts.{IsWireSeen}
 use Rattle.good_wires.proofs.FourthLaws.{rail_in}
 use Rattle.good_wires.proofs.LevelLaws.{rail_at, track_above}
 use Rattle.good_wires.proofs.TapLaws.{pin_in_zone}
 use Rattle.joined_nets.specs.WireNets.{in_bank, IsChannelWireOf, IsTapWireOf, IsOutputWireOf, IsBankWireOf}
 use Rattle.joined_nets.proofs.WireNetLaws.{place_below}
-use Rattle.kit_nets.specs.StatedParts.{Source, Standing, stated_parts}
+use Rattle.kit_nets.specs.StatedParts.{Source, Standing}
 use Rattle.moved_nets.specs.Moved.{slice_net}
 use Rattle.seen_pairs.specs.Counterpart.{IsOfSlices, leaf_bank, number_of, right_by, slices_up}
 use Rattle.small_rows.specs.Few.{IsAmongFew}
@@ -44,7 +43,7 @@ use Rattle.seen_pairs.proofs.CounterLaws.{sense_counter, write_counter}
 use Rattle.small_wires.proofs.FarLaws.{lv, sp, wide_wire, wide_space, logic_level, corner_level, upper_level, row_level, inverter_level, not_rail}
 use Rattle.small_wires.proofs.MainNetLaws.{data_number, enable_number, result_number}
 use Rattle.seen_pairs.proofs.SeatLaws.{zone_at}
-use Rattle.small_wires.proofs.SeenWireLaws.{small, WireHere, bank_seen, power_seen, ground_seen}
+use Rattle.small_wires.proofs.SeenWireLaws.{small, SeenThere, WireHere, bank_seen, power_seen, ground_seen}
 use Rattle.small_wires.proofs.SpanLaws.{sense_wire, write_wire, IsWireInSpan}
 use Rattle.seen_wires.proofs.SlicePinLaws as first
 use Rattle.seen_wires.proofs.SliceTapLaws as second
@@ -136,17 +135,17 @@ module _ (connections : List Connect) (s : Source) (by reach : ℤ) (is : IsSeen
   IsPinSlice = first.IsPinSlice connections s by reach is window i of
 
   abbrev bottom_contact : (k : ℕ) → k < banks_of s.plan → (n net : Net) (t inner : Shape) → n ≡ in_bank k net → IsShifted (q k) (pos 0) inner t → (w : IsChannelWireOf (IsColumnChannel s.plan s.kit s.wire f) s.wire s.tracks.column (column_nets s.plan) net inner)
-      → IsBottomBox (IsColumnChannel s.plan s.kit s.wire f) s.wire s.tracks.column (column_nets s.plan) net inner w → IsNearZone S z t.rect → IsNearZone reach z t.rect → IsWireSeen connections (stated_parts s) i n t
+      → IsBottomBox (IsColumnChannel s.plan s.kit s.wire f) s.wire s.tracks.column (column_nets s.plan) net inner w → IsNearZone S z t.rect → IsNearZone reach z t.rect → SeenThere connections s by reach is window i n t
   bottom_contact = first.bottom_contact connections s by reach is window i of
 
-  abbrev output_contact : (k : ℕ) → k < banks_of s.plan → (n net : Net) (t inner : Shape) → n ≡ in_bank k net → IsShifted (q k) (pos 0) inner t → (o : IsOutputWireOf s.plan s.kit s.wire f net inner) → IsNearZone S z t.rect → IsNearZone reach z t.rect → IsWireSeen connections (stated_parts s) i n t
+  abbrev output_contact : (k : ℕ) → k < banks_of s.plan → (n net : Net) (t inner : Shape) → n ≡ in_bank k net → IsShifted (q k) (pos 0) inner t → (o : IsOutputWireOf s.plan s.kit s.wire f net inner) → IsNearZone S z t.rect → IsNearZone reach z t.rect → SeenThere connections s by reach is window i n t
   output_contact = first.output_contact connections s by reach is window i of
 
-  abbrev joiner_contact : (k : ℕ) → k < banks_of s.plan → (n : Net) (t inner : Shape) → n ≡ in_bank k Gnd → IsShifted (q k) (pos 0) inner t → IsBox (slice_index s.wire.metals 0) (columns_x s.plan s.kit f) (f.sense_y -ℤ W) (columns_end s.plan s.kit f) f.sense_y inner → IsNearZone S z t.rect → IsWireSeen connections (stated_parts s) i n t
+  abbrev joiner_contact : (k : ℕ) → k < banks_of s.plan → (n : Net) (t inner : Shape) → n ≡ in_bank k Gnd → IsShifted (q k) (pos 0) inner t → IsBox (slice_index s.wire.metals 0) (columns_x s.plan s.kit f) (f.sense_y -ℤ W) (columns_end s.plan s.kit f) f.sense_y inner → IsNearZone S z t.rect → SeenThere connections s by reach is window i n t
   joiner_contact = second.joiner_contact connections s by reach is window i of
 
   abbrev tap_contact : (k : ℕ) → k < banks_of s.plan → (n net : Net) (t inner : Shape) → n ≡ in_bank k net → IsShifted (q k) (pos 0) inner t → (x y end : ℤ) (rail : IsRailOf s.plan s.wire f 0 net x) (l : ℕ) → l + 1 ≡ s.plan.word_size → (port : ℕ) (rect : Rect) → IsPin s.plan s.kit f (SenseAt 0 l) port 2 net rect → y ≡ rect.y1 → end ≡ rect.x2
-      → IsBox (slice_index s.wire.metals 2) x y end (y +ℤ W) inner → IsNearZone S z t.rect → IsWireSeen connections (stated_parts s) i n t
+      → IsBox (slice_index s.wire.metals 2) x y end (y +ℤ W) inner → IsNearZone S z t.rect → SeenThere connections s by reach is window i n t
   tap_contact = second.tap_contact connections s by reach is window i of
 
   one_by_one : (sm.plan.masks ≡ 0) ⊎ ((sm.plan.write_size ≡ 1) × (sm.plan.masks ≡ sm.plan.word_size))
@@ -163,7 +162,7 @@ module _ (connections : List Connect) (s : Source) (by reach : ℤ) (is : IsSeen
 
   -- the branch of a pin of the main channel's upper side there
   top_seen : (k : ℕ) → k ≡ b → (n net2 : Net) (t : Shape) (x y : ℤ) (x2 : ℤ) → slice_net s.plan m net2 ≡ n → x2 ≡ x +ℤ right_by s.plan s.kit f g k m → IsBox (slice_index s.wire.metals 3) x y (x +ℤ W) f.write_y t
-      → (num : HasNumber (main_nets sm.plan) net2) → IsPinOf window.source.drawn.main.channel.top num.0 x2 → IsWireSeen connections (stated_parts s) i n t
+      → (num : HasNumber (main_nets sm.plan) net2) → IsPinOf window.source.drawn.main.channel.top num.0 x2 → SeenThere connections s by reach is window i n t
   top_seen k e n net2 t x y x2 named moves box num pin =
       let route = window.source.drawn.main in
       let l = place_below (main_nets sm.plan) num.0 net2 num.1 in
@@ -191,7 +190,7 @@ module _ (connections : List Connect) (s : Source) (by reach : ℤ) (is : IsSeen
       high : (y v a u top : ℤ) → y +ℤ dy ≡ v → top ≡ v → a ≡ y → u ≡ top → (a +ℤ dy) ≤ℤ u
       high y v a u top h1 h2 h3 h4 = omega (arith, ints, h1, h2, h3, h4)
 
-  main_contact : (n : Net) (t : Shape) (w : IsChannelWireOf (IsMainChannel s.plan s.kit s.wire f) s.wire s.tracks.main (main_nets s.plan) n t) → IsTopBox (IsMainChannel s.plan s.kit s.wire f) s.wire s.tracks.main (main_nets s.plan) n t w → IsNearZone S z t.rect → IsNearZone reach z t.rect → IsWireSeen connections (stated_parts s) i n t
+  main_contact : (n : Net) (t : Shape) (w : IsChannelWireOf (IsMainChannel s.plan s.kit s.wire f) s.wire s.tracks.main (main_nets s.plan) n t) → IsTopBox (IsMainChannel s.plan s.kit s.wire f) s.wire s.tracks.main (main_nets s.plan) n t w → IsNearZone S z t.rect → IsNearZone reach z t.rect → SeenThere connections s by reach is window i n t
   main_contact n t w bx near_s near_r = meet meets.0 meets.2.0 (same_Some n meets.0 (sym w.named ∙ meets.1)) meets.2.1 meets.2.2 where
     meets : (net : Net) × (slice_get (main_nets s.plan) w.number ≡ Some net) × MeetsMainTopOfBanks s.plan s.kit s.wire f net bx.x
     meets = (w.routed.meant.top w.number bx.x).0 bx.pin
@@ -218,7 +217,7 @@ module _ (connections : List Connect) (s : Source) (by reach : ℤ) (is : IsSeen
     write_slice : (k e port : ℕ) (net : Net) (from : IsPinFrom s.plan s.kit f (WriteAt k e) port 3 net bx.x) → IsPinSlice k e
     write_slice k e port net from = main_slice k e from.rect.x1 t (inputs e from.is.has.1) (write_wire s.plan s.kit s.wire f is.source.drawn.laid is.source.drawn.pins k e port 3 net from.rect (inr refl) from.is) (begins from.rect.x1 from.begins).left (begins from.rect.x1 from.begins).right near_s near_r
 
-    meet : (net : Net) (k : ℕ) → n ≡ net → k < banks_of s.plan → MeetsMainTop s.plan s.kit s.wire f k net bx.x → IsWireSeen connections (stated_parts s) i n t
+    meet : (net : Net) (k : ℕ) → n ≡ net → k < banks_of s.plan → MeetsMainTop s.plan s.kit s.wire f k net bx.x → SeenThere connections s by reach is window i n t
     meet net k same lt (inl rail) =
         absurd (not_rail connections s by reach is b z anchor.from anchor.to k bx.x t.rect (rail_at s.plan s.kit s.wire f k net bx.x (sp connections s by reach is) rail) (let e = box.left in omega (arith, ints, e)) (let e = box.right in omega (arith, ints, e)) near_s)
     meet net k same lt (inr (inl (e, from))) =
@@ -263,17 +262,17 @@ module _ (connections : List Connect) (s : Source) (by reach : ℤ) (is : IsSeen
     go : (t w sp : ℤ) → pos 1 ≤ℤ w → pos 1 ≤ℤ sp → t ≤ℤ (t +ℤ (w +ℤ sp))
     go t w sp h1 h2 = omega (arith, ints, h1, h2)
 
-  power_contact : (t : Shape) → IsPowerWire s.plan s.kit s.wire f t → IsNearZone S z t.rect → IsWireSeen connections (stated_parts s) i Vdd t
+  power_contact : (t : Shape) → IsPowerWire s.plan s.kit s.wire f t → IsNearZone S z t.rect → SeenThere connections s by reach is window i Vdd t
   power_contact t (inl trunk) near = absurd (behind t near (let e = trunk.left in no_more (trunk_x s.plan s.kit s.wire f) t.rect.x1 (sym e)))
   power_contact t (inr (x, y, at, inr via)) near = absurd (via_behind x y (trunk_x s.plan s.kit s.wire f) t (no_more _ _ refl) via near)
   power_contact t (inr (x, y, at, inl box)) near = height at where
-    seen : (v : ℤ) → x ≡ columns_x s.plan s.kit f → y +ℤ dy ≡ v → IsPowerBarAt sm.plan s.kit s.wire g x v → IsWireSeen connections (stated_parts s) i Vdd t
+    seen : (v : ℤ) → x ≡ columns_x s.plan s.kit f → y +ℤ dy ≡ v → IsPowerBarAt sm.plan s.kit s.wire g x v → SeenThere connections s by reach is window i Vdd t
     seen v ex up there = power_seen connections s by reach is window m dx dy i c b unit anchor wide in_bank_i x y v (trunk_x s.plan s.kit s.wire f) t (no_more x (columns_x s.plan s.kit g) (bar_x x ex)) up box there
 
-    far : f.column_y ≤ℤ y → IsWireSeen connections (stated_parts s) i Vdd t
+    far : f.column_y ≤ℤ y → SeenThere connections s by reach is window i Vdd t
     far le = absurd (over t near (let e = box.low in omega (arith, ints, le, e)))
 
-    height : IsPowerBarAt s.plan s.kit s.wire f x y → IsWireSeen connections (stated_parts s) i Vdd t
+    height : IsPowerBarAt s.plan s.kit s.wire f x y → SeenThere connections s by reach is window i Vdd t
     height (inl (ex, ey)) = absurd (below t near (let e = box.high in let a = logic_level connections s by reach is in omega (arith, ints, e, ey, a)))
     height (inr (inl (w0, ex, ey))) = seen g.write_y ex (ap (λ (v : ℤ). v +ℤ dy) ey ∙ write_rises) (inr (inl (window.size.written, bar_x x ex, refl)))
     height (inr (inr (inl (ex, ey)))) = seen (column_channel_y s.kit g -ℤ W) ex (let r = channel_rises in omega (arith, ints, ey, r)) (inr (inr (inl (bar_x x ex, refl))))
@@ -281,14 +280,14 @@ module _ (connections : List Connect) (s : Source) (by reach : ℤ) (is : IsSeen
     height (inr (inr (inr (inr (inl (r, lt, odd, ex, ey)))))) = far (let a = row_level connections s by reach is r in omega (arith, ints, a, ey))
     height (inr (inr (inr (inr (inr (ex, ey)))))) = far (let a = upper_level connections s by reach is in omega (arith, ints, a, ey))
 
-  ground_contact : (t : Shape) → IsGroundWire s.plan s.kit s.wire f t → IsNearZone S z t.rect → IsWireSeen connections (stated_parts s) i Gnd t
+  ground_contact : (t : Shape) → IsGroundWire s.plan s.kit s.wire f t → IsNearZone S z t.rect → SeenThere connections s by reach is window i Gnd t
   ground_contact t (inl trunk) near = absurd (behind t near (let e = trunk.left in let a = ground_behind in omega (arith, ints, e, a)))
   ground_contact t (inr (x, y, at, inr via)) near = absurd (via_behind x y (ground_x s.plan s.kit s.wire f) t ground_behind via near)
   ground_contact t (inr (x, y, at, inl box)) near = height at where
-    far : f.column_y ≤ℤ y → IsWireSeen connections (stated_parts s) i Gnd t
+    far : f.column_y ≤ℤ y → SeenThere connections s by reach is window i Gnd t
     far le = absurd (over t near (let e = box.low in omega (arith, ints, le, e)))
 
-    height : IsGroundBarAt s.plan s.kit f x y → IsWireSeen connections (stated_parts s) i Gnd t
+    height : IsGroundBarAt s.plan s.kit f x y → SeenThere connections s by reach is window i Gnd t
     height (inl (ex, ey)) = absurd (below t near (let e = box.high in let a = logic_level connections s by reach is in let h = inverter_level connections s by reach is in omega (arith, ints, e, ey, a, h)))
     height (inr (inl (ex, ey))) =
         ground_seen connections s by reach is window m dx dy i c b unit anchor wide in_bank_i x y g.sense_y (ground_x s.plan s.kit s.wire f) t (no_more x (columns_x s.plan s.kit g) (bar_x x ex)) (ap (λ (v : ℤ). v +ℤ dy) ey ∙ sense_rises) box (inr (inl (bar_x x ex, refl)))
@@ -297,7 +296,7 @@ module _ (connections : List Connect) (s : Source) (by reach : ℤ) (is : IsSeen
 
   -- All wires
 
-  main_case : (n : Net) (t : Shape) → IsChannelWireOf (IsMainChannel s.plan s.kit s.wire f) s.wire s.tracks.main (main_nets s.plan) n t → IsNearZone S z t.rect → IsNearZone reach z t.rect → IsWireSeen connections (stated_parts s) i n t
+  main_case : (n : Net) (t : Shape) → IsChannelWireOf (IsMainChannel s.plan s.kit s.wire f) s.wire s.tracks.main (main_nets s.plan) n t → IsNearZone S z t.rect → IsNearZone reach z t.rect → SeenThere connections s by reach is window i n t
   main_case n t w near_s near_r = elim (channel_kind (IsMainChannel s.plan s.kit s.wire f) s.wire s.tracks.main (main_nets s.plan) n t w is.source.drawn.laid.sizes) [
     | inl inner ↦ absurd (below t near_s (let a = inner.below in omega (arith, ints, a, upper)))
     | inr (inl top) ↦ main_contact n t w top near_s near_r
@@ -320,15 +319,15 @@ module _ (connections : List Connect) (s : Source) (by reach : ℤ) (is : IsSeen
   pin_over : (leaf : LeafInstance) (port : ℕ) (net : Net) (rect : Rect) → (p : IsPin s.plan s.kit f leaf port 2 net rect) → f.column_y ≡ (zone_of s.plan s.kit f leaf p.place).low → f.column_y ≤ℤ rect.y1
   pin_over leaf port net rect p e = let n = (pin_in_zone s.plan s.kit s.wire f leaf port 2 net rect is.source.drawn.laid is.source.drawn.pins p).low in omega (arith, ints, n, e)
 
-  tap_case : (k : ℕ) → k < banks_of s.plan → (n net : Net) (t inner : Shape) → n ≡ in_bank k net → IsShifted (q k) (pos 0) inner t → IsTapWireOf s.plan s.kit s.wire s.tracks.column f net inner → IsNearZone S z t.rect → IsWireSeen connections (stated_parts s) i n t
+  tap_case : (k : ℕ) → k < banks_of s.plan → (n net : Net) (t inner : Shape) → n ≡ in_bank k net → IsShifted (q k) (pos 0) inner t → IsTapWireOf s.plan s.kit s.wire s.tracks.column f net inner → IsNearZone S z t.rect → SeenThere connections s by reach is window i n t
   tap_case k lt n net t inner named sh tap near = by_drawn tap.drawn where
-    high : f.column_y ≤ℤ tap.y → IsBox (slice_index s.wire.metals 2) tap.x tap.y tap.end (tap.y +ℤ W) inner → IsWireSeen connections (stated_parts s) i n t
+    high : f.column_y ≤ℤ tap.y → IsBox (slice_index s.wire.metals 2) tap.x tap.y tap.end (tap.y +ℤ W) inner → SeenThere connections s by reach is window i n t
     high le box = absurd (over_bank k t inner sh near (let e = box.low in omega (arith, ints, le, e)))
 
     raised : (rect : Rect) → tap.y ≡ rect.y1 → f.column_y ≤ℤ rect.y1 → f.column_y ≤ℤ tap.y
     raised rect e le = omega (arith, ints, e, le)
 
-    by_tap : IsTapOfNet s.plan s.kit s.wire s.tracks.column f net tap.x tap.y tap.end → IsBox (slice_index s.wire.metals 2) tap.x tap.y tap.end (tap.y +ℤ W) inner → IsWireSeen connections (stated_parts s) i n t
+    by_tap : IsTapOfNet s.plan s.kit s.wire s.tracks.column f net tap.x tap.y tap.end → IsBox (slice_index s.wire.metals 2) tap.x tap.y tap.end (tap.y +ℤ W) inner → SeenThere connections s by reach is window i n t
     by_tap (inl (r, p)) box = high (raised p.rect p.at (pin_over (NandAt 0 r) p.port net p.rect p.pin refl)) box
     by_tap (inr (inl (r, p))) box = high (raised p.rect p.at (pin_over (DriverAt 0 r) p.port net p.rect p.pin refl)) box
     by_tap (inr (inr (inl (l, last, p)))) box = tap_contact k lt n net t inner named sh tap.x tap.y tap.end tap.rail l last p.port p.rect p.pin p.at p.ends box near
@@ -341,7 +340,7 @@ module _ (connections : List Connect) (s : Source) (by reach : ℤ) (is : IsSeen
         let e = box.low in
         absurd (above_bank k t inner sh near (omega (arith, ints, a, l, at, e)))
 
-    by_drawn : IsBox (slice_index s.wire.metals 2) tap.x tap.y tap.end (tap.y +ℤ W) inner ⊎ IsVia s.wire 2 tap.x tap.y inner → IsWireSeen connections (stated_parts s) i n t
+    by_drawn : IsBox (slice_index s.wire.metals 2) tap.x tap.y tap.end (tap.y +ℤ W) inner ⊎ IsVia s.wire 2 tap.x tap.y inner → SeenThere connections s by reach is window i n t
     by_drawn (inl box) = by_tap tap.tap box
     by_drawn (inr via) =
         let p = margin_positive s.wire is.source.drawn.laid.sizes in
@@ -356,7 +355,7 @@ module _ (connections : List Connect) (s : Source) (by reach : ℤ) (is : IsSeen
         og : (x m c w a : ℤ) → pos 1 ≤ℤ m → w ≡ c +ℤ (m +ℤ m) → a ≡ (x +ℤ m) +ℤ c → a ≤ℤ (x +ℤ w)
         og x m c w a h1 h2 h3 = omega (arith, ints, h1, h2, h3)
 
-  bank_case : (k : ℕ) → k < banks_of s.plan → (n net : Net) (t inner : Shape) → n ≡ in_bank k net → IsShifted (q k) (pos 0) inner t → IsBankWireOf s.plan s.kit s.wire s.tracks f net inner → IsNearZone S z t.rect → IsNearZone reach z t.rect → IsWireSeen connections (stated_parts s) i n t
+  bank_case : (k : ℕ) → k < banks_of s.plan → (n net : Net) (t inner : Shape) → n ≡ in_bank k net → IsShifted (q k) (pos 0) inner t → IsBankWireOf s.plan s.kit s.wire s.tracks f net inner → IsNearZone S z t.rect → IsNearZone reach z t.rect → SeenThere connections s by reach is window i n t
   bank_case k lt n net t inner named sh (inl w) near_s near_r = elim (channel_kind (IsColumnChannel s.plan s.kit s.wire f) s.wire s.tracks.column (column_nets s.plan) net inner w is.source.drawn.laid.sizes) [
     | inl middle ↦ absurd (above_bank k t inner sh near_s (let a = middle.above in omega (arith, ints, a, low)))
     | inr (inl top) ↦ absurd (above_bank k t inner sh near_s (let a = top.above in let h = top.box.low in omega (arith, ints, a, h, low)))
@@ -371,8 +370,8 @@ module _ (connections : List Connect) (s : Source) (by reach : ℤ) (is : IsSeen
   bank_case k lt n net t inner named sh (inr (inr (inr (inr (e, inr joiner))))) near_s near_r = absurd (over_bank k t inner sh near_s (let a = corner_level connections s by reach is in let h = joiner.low in omega (arith, ints, a, h)))
 
   -- A wire that is near an instance of a slice is seen with it.
-  pub slice_wire : (n : Net) (t : Shape) → WireHere connections s by reach is window n t → IsNearZone S z t.rect → IsNearZone reach z t.rect → IsWireSeen connections (stated_parts s) i n t
+  pub slice_wire : (n : Net) (t : Shape) → WireHere connections s by reach is window n t → IsNearZone S z t.rect → IsNearZone reach z t.rect → SeenThere connections s by reach is window i n t
   slice_wire n t (inl (inl w)) near_s near_r = main_case n t w near_s near_r
-  slice_wire n t (inl (inr (inl power))) near_s near_r = subst (λ (v : Net). IsWireSeen connections (stated_parts s) i v t) (sym power.0) (power_contact t power.1 near_s)
-  slice_wire n t (inl (inr (inr ground))) near_s near_r = subst (λ (v : Net). IsWireSeen connections (stated_parts s) i v t) (sym ground.0) (ground_contact t ground.1 near_s)
+  slice_wire n t (inl (inr (inl power))) near_s near_r = subst (λ (v : Net). SeenThere connections s by reach is window i v t) (sym power.0) (power_contact t power.1 near_s)
+  slice_wire n t (inl (inr (inr ground))) near_s near_r = subst (λ (v : Net). SeenThere connections s by reach is window i v t) (sym ground.0) (ground_contact t ground.1 near_s)
   slice_wire n t (inr bank) near_s near_r = bank_case bank.bank bank.below n bank.net t bank.inner bank.named bank.shifted bank.is near_s near_r

@@ -8,14 +8,14 @@ abbrev pub IsFewOf : ℕ → ℕ → Type 0
 IsFewOf n k = ((k ≡ n) × (k ≤ 4)) ⊎ ((k ≡ 4) × (4 ≤ n))
 
 pub among_few : (n k q : ℕ) → q < n → IsFewOf n k → (m : ℕ) × IsAmongFew n k q m
-among_few n k q lt (inl all) = let e = all.0 in (0, record { d = q; sum = omega arith; inside = omega (arith, e, lt); next = λ h. omega (arith, e, h); left = inl refl; right = inl (omega (arith, e)) })
-among_few n k zero lt (inr four) = let e = four.0 in let g = four.1 in (0, record { d = 0; sum = refl; inside = omega (arith, e); next = λ h. omega (arith, e); left = inl refl; right = inr (omega (arith, e)) })
+among_few n k q lt (inl all) = let e = all.0 in (0, record { d = q; sum = omega arith; inside = omega (arith, e, lt); within = omega (arith, e); next = λ h. omega (arith, e, h); left = inl refl; right = inl (omega (arith, e)) })
+among_few n k zero lt (inr four) = let e = four.0 in let g = four.1 in (0, record { d = 0; sum = refl; inside = omega (arith, e); within = omega (arith, e, g); next = λ h. omega (arith, e); left = inl refl; right = inr (omega (arith, e)) })
 among_few n k (suc q) lt (inr four) =
     let e = four.0 in
     let g = four.1 in
     elim (cases_lt (q + 4) n) [
-      | inl low ↦ (q, record { d = 1; sum = omega arith; inside = omega (arith, e); next = λ h. omega (arith, e); left = inr (omega arith); right = inr (omega (arith, e)) })
-      | inr high ↦ (n - 4, record { d = (suc q + 4) - n; sum = omega (arith, g, high); inside = omega (arith, e, g, lt, high); next = λ h. omega (arith, e, g, h, high); left = inr (omega (arith, g, high)); right = inl (omega (arith, e, g)) })
+      | inl low ↦ (q, record { d = 1; sum = omega arith; inside = omega (arith, e); within = omega (arith, e, low); next = λ h. omega (arith, e); left = inr (omega arith); right = inr (omega (arith, e)) })
+      | inr high ↦ (n - 4, record { d = (suc q + 4) - n; sum = omega (arith, g, high); inside = omega (arith, e, g, lt, high); within = omega (arith, e, g); next = λ h. omega (arith, e, g, h, high); left = inr (omega (arith, g, high)); right = inl (omega (arith, e, g)) })
     ]
 
 -- so many units make a number
@@ -54,6 +54,7 @@ among_columns n k w c q r m is lt few =
       d = few.d * w + r;
       sum = omega (arith, is, a);
       inside = omega (arith, up, one, lt);
+      within = (let g : (k + m) * w ≤ n * w = mul-le-mul_right w few.within in let b = add-mul k m w in omega (arith, g, b));
       next = λ h. next h up one a;
       left = left few.left;
       right = right few.right;

@@ -42,13 +42,13 @@ module _ (plan : Organization) (kit : LayoutKit) (wire : Wire) (word write masks
   inputs_there : inputs_of other ≡ word
   inputs_there = written_all write word size.written
 
-  few : IsFewOf (inputs_of plan) (inputs_of other)
+  pub few : IsFewOf (inputs_of plan) (inputs_of other)
   few = by size.few where
     by : ((word ≡ plan.word_size) × (word ≤ 4)) ⊎ ((word ≡ 4) × (4 ≤ plan.word_size)) → IsFewOf (inputs_of plan) (inputs_of other)
     by (inl all) = let a = inputs_here in let b = inputs_there in let c = all.0 in let d = all.1 in inl (omega (arith, a, b, c), omega (arith, b, d))
     by (inr four) = let a = inputs_here in let b = inputs_there in let c = four.0 in let d = four.1 in inr (omega (arith, b, c), omega (arith, a, d))
 
-  no_more : (inputs_of other ≤ inputs_of plan) × (1 ≤ inputs_of other)
+  pub no_more : (inputs_of other ≤ inputs_of plan) × (1 ≤ inputs_of other)
   no_more = by few where
     by : IsFewOf (inputs_of plan) (inputs_of other) → (inputs_of other ≤ inputs_of plan) × (1 ≤ inputs_of other)
     by (inl all) = let a = all.0 in let b = inputs_here in (omega (arith, a), omega (arith, a, b, words))
@@ -63,29 +63,29 @@ module _ (plan : Organization) (kit : LayoutKit) (wire : Wire) (word write masks
     by zero (suc k) (suc l) a b = refl
     by (suc n) (suc k) (suc l) a b = refl
 
-  same_gates : gate_inputs plan.bank_bits plan.masks ≡ gate_inputs other.bank_bits other.masks
+  pub same_gates : gate_inputs plan.bank_bits plan.masks ≡ gate_inputs other.bank_bits other.masks
   same_gates = same_inputs plan.bank_bits plan.masks masks (elim size.masks_are [ inl none ↦ inl none | inr more ↦ inr (more.0, more.1) ])
 
   pub same_begin : begin_cells plan ≡ begin_cells other
   same_begin = ap (λ (l : List LogicCell). l ++ (tabulate_lists (addr_bits plan) address_cells ++ (choice_gates plan.col_bits ++ groups_gates plan.groups plan.col_bits))) (same_fixed plan.write_size write some size.written)
 
-  wide_there : (cells : List LogicCell) → total_width plan kit cells ≡ total_width other kit cells
+  pub wide_there : (cells : List LogicCell) → total_width plan kit cells ≡ total_width other kit cells
   wide_there cells = same_widths plan other kit cells cells (same_roles plan other same_gates cells)
 
-  start_there : data_start plan kit ≡ data_start other kit
+  pub start_there : data_start plan kit ≡ data_start other kit
   start_there = wide_there (begin_cells plan) ∙ ap (total_width other kit) same_begin
 
-  gate_there : enable_width plan kit ≡ enable_width other kit
+  pub gate_there : enable_width plan kit ≡ enable_width other kit
   gate_there = ap (λ (n : ℕ). kit.width (gate_of n)) same_gates
 
   pub pair_there : pair_width plan kit ≡ pair_width other kit
   pair_there = ap (λ (n : ℕ). n + kit.width Inv) gate_there
 
-  banks_there : total_width plan kit (banks_cells plan plan.bank_bits) ≡ total_width other kit (banks_cells other other.bank_bits)
+  pub banks_there : total_width plan kit (banks_cells plan plan.bank_bits) ≡ total_width other kit (banks_cells other other.bank_bits)
   banks_there = wide_there (banks_cells plan plan.bank_bits)
 
   -- the row begins with a flip-flop and more
-  start_wide : D ≤ data_start other kit
+  pub start_wide : D ≤ data_start other kit
   start_wide = by write size.written where
     by : (n : ℕ) → 0 < n → D ≤ total_width other kit (fixed_cells n ++ (tabulate_lists (addr_bits plan) address_cells ++ (choice_gates plan.col_bits ++ groups_gates plan.groups plan.col_bits)))
     by zero none = absurd (omega (arith, none))
@@ -102,7 +102,7 @@ module _ (plan : Organization) (kit : LayoutKit) (wire : Wire) (word write masks
   pub swap : (c d : LogicCell) (x y : ℕ) → Seen d c y x → Seen c d x y
   swap c d x y s = record { moves = s.moves; x2 = s.y2; y2 = s.x2; one = s.two; two = s.one; as_far = sym s.as_far }
 
-  begin_there : (v : Moves) (c : LogicCell) (x : ℕ) → IsInPart plan kit (begin_cells plan) 0 c x → There v c x x
+  pub begin_there : (v : Moves) (c : LogicCell) (x : ℕ) → IsInPart plan kit (begin_cells plan) 0 c x → There v c x x
   begin_there v c x p =
       let s = steady_in p.before p.after c (subst (AllByRecursion IsSteady) p.row (steady_begin plan)) in
       record {
@@ -130,7 +130,7 @@ module _ (plan : Organization) (kit : LayoutKit) (wire : Wire) (word write masks
         left = let w = start_wide in inr (omega (arith, w));
       }
 
-  gated_there : IsGated plan → IsGated other
+  pub gated_there : IsGated plan → IsGated other
   gated_there (inl banks) = inl banks
   gated_there (inr more) = by size.masks_are where
     by : ((plan.masks ≡ 0) × (masks ≡ 0)) ⊎ ((2 ≤ plan.masks) × (2 ≤ masks) × (write ≡ 1) × (masks ≡ word)) → IsGated other
@@ -309,7 +309,7 @@ module _ (plan : Organization) (kit : LayoutKit) (wire : Wire) (word write masks
   begin_begin c d x y a b = record { moves = same_moves 0; x2 = x; y2 = y; one = begin_there (same_moves 0) c x a; two = begin_there (same_moves 0) d y b; as_far = omega arith }
 
   -- nothing behind the first flip-flop is near to it
-  begin_unit : (c : LogicCell) (x y w j r : ℕ) → IsInPart plan kit (begin_cells plan) 0 c x → y ≡ data_start plan kit + (j * D + r) → w ≡ width c → y < (x + w) + D → 1 ≤ j → ⊥
+  pub begin_unit : (c : LogicCell) (x y w j r : ℕ) → IsInPart plan kit (begin_cells plan) 0 c x → y ≡ data_start plan kit + (j * D + r) → w ≡ width c → y < (x + w) + D → 1 ≤ j → ⊥
   begin_unit c x y w j r a is e lt one = let p = part_ends (begin_cells plan) 0 c x a in let u = one_unit j D one in omega (arith, p, is, e, lt, u)
 
   pub begin_data : (c d : LogicCell) (x y : ℕ) → IsInPart plan kit (begin_cells plan) 0 c x → IsData plan kit d y → Near c d x y → Seen c d x y
@@ -331,7 +331,7 @@ module _ (plan : Organization) (kit : LayoutKit) (wire : Wire) (word write masks
         }
   ]
 
-  inputs_some : 1 ≤ inputs_of plan
+  pub inputs_some : 1 ≤ inputs_of plan
   inputs_some = let e = inputs_here in omega (arith, e, words)
 
   pub begin_mask : (c d : LogicCell) (x y : ℕ) → IsInPart plan kit (begin_cells plan) 0 c x → IsMask plan kit d y → Near c d x y → Seen c d x y

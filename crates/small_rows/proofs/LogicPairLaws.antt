@@ -176,7 +176,7 @@ module _ (plan : Organization) (kit : LayoutKit) (wire : Wire) (word write masks
   late_late = first.late_late plan kit wire word write masks reach words some size short
 
   -- where there are no masks all that stands behind is as it is
-  plain_enable : (c : LogicCell) (x : ℕ) (e : IsEnable plan kit c x) → plan.masks ≡ 0 → masks ≡ 0 → IsLateThere (same_moves gap) c x (enable_r c x e)
+  pub plain_enable : (c : LogicCell) (x : ℕ) (e : IsEnable plan kit c x) → plan.masks ≡ 0 → masks ≡ 0 → IsLateThere (same_moves gap) c x (enable_r c x e)
   plain_enable c x e here there =
       let p = enables_here ∙ one_enable plan.masks here in
       let q = enables_there ∙ one_enable masks there in
@@ -184,7 +184,7 @@ module _ (plan : Organization) (kit : LayoutKit) (wire : Wire) (word write masks
       enable_late_there (same_moves gap) c x e.m e refl refl (omega (arith, p, q, l)) (ap (λ (n : ℕ). e.b * n + e.m) (p ∙ sym q))
 
   -- where there are masks, the first of the enables
-  first_enable : (c : LogicCell) (x : ℕ) (e : IsEnable plan kit c x) → 2 ≤ masks → e.b * enables_of plan + e.m ≡ 0 → IsLateThere last_moves c x (enable_r c x e)
+  pub first_enable : (c : LogicCell) (x : ℕ) (e : IsEnable plan kit c x) → 2 ≤ masks → e.b * enables_of plan + e.m ≡ 0 → IsLateThere last_moves c x (enable_r c x e)
   first_enable c x e two none =
       let m0 : e.m ≡ 0 = omega (arith, none) in
       let q = enables_there ∙ each_enable masks two in

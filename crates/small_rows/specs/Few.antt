@@ -7,6 +7,7 @@ pub record IsAmongFew (n k c m : ℕ) : Type 0 where
   pub d : ℕ
   pub sum : c ≡ d + m
   pub inside : d < k
+  pub within : k + m ≤ n
   pub next : c + 1 < n → d + 1 < k
   pub left : (m ≡ 0) ⊎ (1 ≤ d)
   pub right : (n ≡ k + m) ⊎ (d + 3 ≤ k)

@@ -20,10 +20,9 @@ use Rattle.good_places.specs.Beside.{moved_place}
 use Rattle.good_places.specs.Leaves.{Zone}
 use Rattle.good_places.proofs.MoveLaws.{moved_image}
 use Rattle.good_nets.specs.Ports.{upright_place}
-use Rattle.good_nets.specs.Parts.{IsWireSeen}
 use Rattle.good_nets.proofs.CellLaws.{has_image}
 use Rattle.joined_nets.specs.WireNets.{in_bank, IsBankWireOf}
-use Rattle.kit_nets.specs.StatedParts.{Source, Standing, stated_parts}
+use Rattle.kit_nets.specs.StatedParts.{Source, Standing}
 use Rattle.kit_nets.proofs.ChannelDrawnLaws.{moved_is_shifted}
 use Rattle.moved_nets.specs.Moved.{slice_net}
 use Rattle.moved_nets.proofs.SliceLaws.{slices_move}
@@ -33,7 +32,7 @@ use Rattle.seen_pairs.specs.Window.{IsSeenSource, HasSeenWindow}
 use Rattle.seen_pairs.proofs.BankPairLaws.{akin, Counter}
 use Rattle.small_wires.proofs.ColumnNetLaws.{in_bank_moved}
 use Rattle.seen_pairs.proofs.SeatLaws.{zone_at}
-use Rattle.small_wires.proofs.SeenWireLaws.{small, bank_seen}
+use Rattle.small_wires.proofs.SeenWireLaws.{small, SeenThere, bank_seen}
 
 -- what stands in a list of values stands there for an item
 pub unmapped_at : {N : Type 0} {M : Type 0} (h : N → M) (xs : List N) (place : ℕ) (y : M) → slice_get (map h xs) place ≡ Some y → (x : N) × (slice_get xs place ≡ Some x) × (h x ≡ y)
@@ -104,7 +103,7 @@ module _ (connections : List Connect) (s : Source) (by reach : ℤ) (is : IsSeen
 
   -- A wire of a bank is seen where the small memory's bank has one that covers as much.
   pub in_bank_seen : (m : ℕ) (dx dy : ℤ) (i : Standing s) → Counter connections s by reach is window m dx dy i → (b : ℕ) → b < banks_of s.plan → (n net net2 : Net) (t inner other : Shape) → n ≡ in_bank b net → slice_net s.plan m net2 ≡ net → IsShifted (q b) (pos 0) inner t
-      → IsBankWireOf there_plan s.kit s.wire window.tracks g net2 other → CoversInBank b dx dy (zone_at connections s by reach is i) inner other → IsWireSeen connections (stated_parts s) i n t
+      → IsBankWireOf there_plan s.kit s.wire window.tracks g net2 other → CoversInBank b dx dy (zone_at connections s by reach is i) inner other → SeenThere connections s by reach is window i n t
   in_bank_seen m dx dy i c b lt n net net2 t inner other named moves shifted is_wire covers =
       let u = has_image (upright_place (qg b) (pos 0)) other in
       let sh = moved_is_shifted (qg b) (pos 0) other u.0 u.1 in

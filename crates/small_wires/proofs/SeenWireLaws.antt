@@ -13,18 +13,16 @@ use Rattle.macro_layout.specs.Places.{Floorplan, columns_x, total_width, bit_wid
 use Rattle.macro_layout.specs.Wires.{trunk_x, IsPowerBarAt, IsGroundBarAt}
 use Rattle.good_places.specs.Leaves.{Zone}
 use Rattle.good_places.proofs.NumberLaws.{banks_before, times_low}
-use Rattle.good_nets.specs.Parts.{IsWireSeen}
 use Rattle.joined_nets.specs.WireNets.{IsWireOfNet}
 use Rattle.kit_nets.specs.StatedParts.{Source, Standing, stated_parts}
-use Rattle.kit_nets.proofs.ChannelDrawnLaws.{moved_is_shifted, box_there}
-use Rattle.kit_nets.proofs.PairLaws.{slice_wire_seen}
+use Rattle.kit_nets.proofs.ChannelDrawnLaws.{box_there}
+use Rattle.kit_nets.proofs.StandInLaws.{slice_stands_in}
 use Rattle.moved_nets.specs.Moved.{slice_net}
-use Rattle.small_wires.specs.Seen.{CoversThere}
+use Rattle.small_wires.specs.Seen.{CoversThere, IsWireThere}
 use Rattle.seen_pairs.specs.Window.{IsSeenSource, HasSeenWindow}
 use Rattle.small_wires.proofs.AnchorLaws.{Anchored, bar_left, trunk_right, width_there, there}
 use Rattle.seen_pairs.proofs.BankPairLaws.{w, akin, Counter, standing, stands_moved}
-use Rattle.seen_pairs.proofs.SeatLaws.{zone_at, shape_near}
-use Rattle.small_wires.proofs.TouchLaws.{touch_there}
+use Rattle.seen_pairs.proofs.SeatLaws.{zone_at}
 use Rattle.small_wires.proofs.WireLayerLaws.{wire_on, drawn_stands}
 
 module _ (connections : List Connect) (s : Source) (by reach : ℤ) (is : IsSeenSource connections s by reach) (window : HasSeenWindow connections s) where
@@ -43,14 +41,29 @@ module _ (connections : List Connect) (s : Source) (by reach : ℤ) (is : IsSeen
   abbrev pub WireThere : Net → Shape → Type 0
   WireThere n t = IsWireOfNet small.plan s.kit s.wire window.tracks window.floorplan n t
 
+  -- the wire is seen there with the instance
+  abbrev pub SeenThere : Standing s → Net → Shape → Type 0
+  SeenThere i n t = IsWireThere s small by (zone_at connections s by reach is i) i n t
+
   pub stands_there : (n : Net) (t : Shape) → WireThere n t → (stated_parts small).Wire n t
   stands_there n t is_wire = drawn_stands s.layers s.wire is.first (WireThere n) t (wire_on small.plan s.kit s.wire window.tracks window.floorplan n t is_wire) is_wire
 
   -- an instance of a bank, and a wire that covers as much
-  pub bank_seen : (m : ℕ) (dx dy : ℤ) (i : Standing s) → Counter connections s by reach is window m dx dy i → (n net : Net) (t u : Shape) → slice_net s.plan m net ≡ n → WireThere net u → CoversThere by dx dy (zone_at connections s by reach is i) t u → IsWireSeen connections (stated_parts s) i n t
-  bank_seen m dx dy i c n net t u named is_wire covers =
-      slice_wire_seen connections s small (akin connections s by reach is window) window.flat window.labels window.rows window.stated m dx dy i (standing connections s by reach is window m dx dy i c) n net t u c.inside c.is (stands_moved connections s by reach is window m dx dy i c) named (stands_there net u is_wire)
-      (λ inner shape shape' of moved touch. touch_there by dx dy (zone_at connections s by reach is i) shape shape' t u (shape_near connections s by reach is i inner shape of) (moved_is_shifted dx dy shape shape' moved) covers connections touch)
+  pub bank_seen : (m : ℕ) (dx dy : ℤ) (i : Standing s) → Counter connections s by reach is window m dx dy i → (n net : Net) (t u : Shape) → slice_net s.plan m net ≡ n → WireThere net u → CoversThere by dx dy (zone_at connections s by reach is i) t u → SeenThere i n t
+  bank_seen m dx dy i c n net t u named is_wire covers = record {
+    f = slice_net s.plan m;
+    dx = dx;
+    dy = dy;
+    one = standing connections s by reach is window m dx dy i c;
+    one_is = slice_stands_in s small (akin connections s by reach is window) m dx dy i (standing connections s by reach is window m dx dy i c) c.inside c.is (stands_moved connections s by reach is window m dx dy i c);
+    one_at = refl;
+    one_role = c.same_role;
+    net = net;
+    named = named;
+    wire = u;
+    is = stands_there net u is_wire;
+    covers = covers;
+  }
 
   -- Bars
 
@@ -114,7 +127,7 @@ module _ (connections : List Connect) (s : Source) (by reach : ℤ) (is : IsSeen
 
   module _ (m : ℕ) (dx dy : ℤ) (i : Standing s) (c : Counter connections s by reach is window m dx dy i) (b unit : ℕ) (a : Anchored connections s by reach is window b m unit (zone_at connections s by reach is i) dx) (wide : reach ≤ℤ pos unit) (lt : b < banks_of s.plan) where
     -- a power bar, and a ground bar
-    pub power_seen : (x y v trunk : ℤ) (t : Shape) → x ≤ℤ columns_x s.plan s.kit g → y +ℤ dy ≡ v → IsBox (slice_index s.wire.metals 0) x y (trunk +ℤ s.wire.width) (y +ℤ s.wire.width) t → IsPowerBarAt small.plan s.kit s.wire g x v → IsWireSeen connections (stated_parts s) i Vdd t
+    pub power_seen : (x y v trunk : ℤ) (t : Shape) → x ≤ℤ columns_x s.plan s.kit g → y +ℤ dy ≡ v → IsBox (slice_index s.wire.metals 0) x y (trunk +ℤ s.wire.width) (y +ℤ s.wire.width) t → IsPowerBarAt small.plan s.kit s.wire g x v → SeenThere i Vdd t
     power_seen x y v trunk t le up box at =
         let u = bar_there b lt x v (pos 0) le (omega (arith, ints)) in
         bank_seen m dx dy i c Vdd Vdd t u.0 refl (inl (inr (inl (refl, inr (x, v, at, inl (subst (λ (z : ℤ). IsBox (slice_index s.wire.metals 0) x v (z +ℤ s.wire.width) (v +ℤ s.wire.width) u.0) (nothing trunk_there) u.1.box))))))
@@ -123,7 +136,7 @@ module _ (connections : List Connect) (s : Source) (by reach : ℤ) (is : IsSeen
         nothing : (z : ℤ) → z +ℤ pos 0 ≡ z
         nothing z = omega (arith, ints)
 
-    pub ground_seen : (x y v trunk : ℤ) (t : Shape) → x ≤ℤ columns_x s.plan s.kit g → y +ℤ dy ≡ v → IsBox (slice_index s.wire.metals 0) x y (trunk +ℤ s.wire.width) (y +ℤ s.wire.width) t → IsGroundBarAt small.plan s.kit g x v → IsWireSeen connections (stated_parts s) i Gnd t
+    pub ground_seen : (x y v trunk : ℤ) (t : Shape) → x ≤ℤ columns_x s.plan s.kit g → y +ℤ dy ≡ v → IsBox (slice_index s.wire.metals 0) x y (trunk +ℤ s.wire.width) (y +ℤ s.wire.width) t → IsGroundBarAt small.plan s.kit g x v → SeenThere i Gnd t
     ground_seen x y v trunk t le up box at =
         let u = bar_there b lt x v (pitch s.wire) le pitch_some in
         bank_seen m dx dy i c Gnd Gnd t u.0 refl (inl (inr (inr (refl, inr (x, v, at, inl u.1.box)))))

@@ -17,16 +17,13 @@ use Rattle.small_wires.specs.Seen.{IsNearZone, CoversThere}
 
 -- Near
 
-joined_near : (m : ℤ) (z : Zone) (a t : Rect) → pos 1 ≤ℤ m → LiesNear (pos 0) z a → AreJoined a t → IsNearZone m z t
-joined_near m z a t some near j =
-    let pa = j.p_in_a in
-    let pb = j.p_in_b in
-    record {
-      left = let x = near.left in let y = pa.left in let w = pb.right in omega (arith, ints, some, x, y, w);
-      right = let x = near.right in let y = pa.right in let w = pb.left in omega (arith, ints, some, x, y, w);
-      low = let x = near.low in let y = pa.low in let w = pb.high in omega (arith, ints, some, x, y, w);
-      high = let x = near.high in let y = pa.high in let w = pb.low in omega (arith, ints, some, x, y, w);
-    }
+pub point_near : (m : ℤ) (z : Zone) (a t : Rect) (p : Point) → pos 1 ≤ℤ m → LiesNear (pos 0) z a → IsIn a p → IsIn t p → IsNearZone m z t
+point_near m z a t p some near pa pb = record {
+  left = let x = near.left in let y = pa.left in let w = pb.right in omega (arith, ints, some, x, y, w);
+  right = let x = near.right in let y = pa.right in let w = pb.left in omega (arith, ints, some, x, y, w);
+  low = let x = near.low in let y = pa.low in let w = pb.high in omega (arith, ints, some, x, y, w);
+  high = let x = near.high in let y = pa.high in let w = pb.low in omega (arith, ints, some, x, y, w);
+}
 
 area_near : (by m : ℤ) (z : Zone) (a t : Rect) → by ≤ℤ m → LiesNear by z a → ShareArea a t → IsNearZone m z t
 area_near by m z a t le near s =
@@ -53,7 +50,7 @@ module _ (connections : List Connect) (wire : Wire) (only : JoinsOnlyWires conne
 
   -- What touches a wire: it is near the zone in which the shape lies.
   pub touch_near : (z : Zone) (a t : Shape) → LiesNear by z a.rect → (IsOfWires wire a.layer → LiesNear (pos 0) z a.rect) → IsOnWireLayer wire t → IsOfWires wire t.layer → Touch connections a t → IsNearZone m z t.rect
-  touch_near z a t near inside on of (inl same) = joined_near m z a.rect t.rect some (inside (subst (IsOfWires wire) (sym same.one_layer) of)) same.joined
+  touch_near z a t near inside on of (inl same) = let j = same.joined in point_near m z a.rect t.rect j.p some (inside (subst (IsOfWires wire) (sym same.one_layer) of)) j.p_in_a j.p_in_b
   touch_near z a t near inside on of (inr (inl cut)) = area_near by m z a.rect t.rect le near cut.area
   touch_near z a t near inside on of (inr (inr cut)) = by_cut z a t inside on cut.connects cut.area
 
@@ -80,7 +77,7 @@ reaches_high by d z a t other p (inl e) n in_a in_t = omega (arith, ints, e, in_
 reaches_high by d z a t other p (inr e) n in_a in_t = omega (arith, ints, e, n, in_a)
 
 module _ (by dx dy : ℤ) (z : Zone) (a b t u : Shape) (near : LiesNear by z a.rect) (at : IsShifted dx dy a b) (covers : CoversThere by dx dy z t u) where
-  in_cover : (p : Point) → IsIn a.rect p → IsIn t.rect p → IsIn u.rect (moved_point dx dy p)
+  pub in_cover : (p : Point) → IsIn a.rect p → IsIn t.rect p → IsIn u.rect (moved_point dx dy p)
   in_cover p in_a in_t = record {
     left = reaches_low by dx z.left a.rect.x1 t.rect.x1 u.rect.x1 p.x covers.left near.left in_a.left in_t.left;
     right = reaches_high by dx z.right a.rect.x2 t.rect.x2 u.rect.x2 p.x covers.right near.right in_a.right in_t.right;

@@ -1,0 +1,10 @@
+pub mod SideLaws
+pub mod CaughtLaws
+pub mod LineLaws
+pub mod OwnLaws
+pub mod ReadLaws
+pub mod SignalLaws
+pub mod SeatLaws
+pub mod RowPinLaws
+pub mod RowLaws
+pub mod BoundLaws
