@@ -73,14 +73,17 @@ def write(name, data):
         file.write(data)
 
 
-def measured(words, limit=120):
-    """Status, user seconds, wall seconds, MiB at most, and lines printed."""
+def measured(words, limit=120, stack=None):
+    """Status, user seconds, wall seconds, MiB at most, and lines printed; of a run that is ended after `limit` seconds of processor time, and
+    may have so many KiB of stack."""
     read, sent = os.pipe()
     start = time.time()
     pid = os.fork()
     if pid == 0:
         os.close(read)
         resource.setrlimit(resource.RLIMIT_CPU, (limit, limit))
+        if stack:
+            resource.setrlimit(resource.RLIMIT_STACK, (stack << 10, stack << 10))
         os.dup2(sent, 1)
         os.execvp(words[0], words)
     os.close(sent)

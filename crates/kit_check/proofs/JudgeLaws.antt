@@ -1,6 +1,6 @@
 -- What is wrong with a made macro, from what its checks find.
-use Rattle.std.proofs.Common.{◌≡◌, inl, inr, ℕ, ℤ, List, [], ◌∷◌, Option, None, Some, Ok, Err, refl, sym, subst}
-use Rattle.std.specs.Prelude.{◌↔◌, MatchOption, MatchBool, is_some, slice_get}
+use Rattle.std.proofs.Common.{◌≡◌, inl, inr, ℕ, ℤ, List, [], Option, None, Some, Ok, Err, refl}
+use Rattle.std.specs.Prelude.{◌↔◌, MatchOption, MatchBool, is_some}
 use Rattle.gds_library.specs.declared.library.Library.{Library}
 use Rattle.netlist.specs.declared.deck.Deck.{Deck}
 use Rattle.netlist.specs.declared.rows.RowPin.{RowPin}
@@ -10,7 +10,7 @@ use Rattle.cell_hierarchy.specs.FlatLists.{AreFlatLists, IsFault}
 use Rattle.cell_hierarchy.specs.Plain.{FlatLists}
 use Rattle.cell_hierarchy.specs.declared.fault.FlattenFault.TheVariants as flatten_fault
 use Rattle.tile_checker.specs.declared.violation.Violation.{Violation}
-use Rattle.tile_checker.specs.RuleReport.{IsReport}
+use Rattle.tile_checker.specs.RuleReport.{IsFirstOfReport, IsReport}
 use Rattle.net_extractor.specs.declared.label.NetLabel.{NetLabel}
 use Rattle.net_extractor.specs.declared.difference.NetDiff.{NetDiff}
 use Rattle.net_extractor.specs.Difference.{AreAlike}
@@ -23,11 +23,9 @@ use Rattle.kit_check.specs.Good.{Answers, IsWindowGood, HasWindowFault}
 
 -- the report
 
-pub has_violations : (rules : List Rule) (shapes : List Shape) (list : List Violation) (found : Option Violation) → found ≡ slice_get list 0 → IsReport rules shapes list
-    → MatchBool (is_some found) (HasViolations rules shapes) (IsReport rules shapes [])
-has_violations rules shapes [] found is report = subst (λ (o : Option Violation). MatchBool (is_some o) (HasViolations rules shapes) (IsReport rules shapes [])) (sym is) report
-has_violations rules shapes (v ∷ more) found is report =
-    subst (λ (o : Option Violation). MatchBool (is_some o) (HasViolations rules shapes) (IsReport rules shapes [])) (sym is) (record { first = v; more = more; reported = report })
+pub has_violations : (rules : List Rule) (shapes : List Shape) (found : Option Violation) → IsFirstOfReport rules shapes found → MatchBool (is_some found) (HasViolations rules shapes) (IsReport rules shapes [])
+has_violations rules shapes None clean = clean
+has_violations rules shapes (Some v) first = record { first = v; more = first.0; reported = first.1 }
 
 -- the comparison
 

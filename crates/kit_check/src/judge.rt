@@ -29,7 +29,7 @@ use or_geom::{Memory, Name};
 use shape_bins::{Bins, index};
 use std::alloc::Global;
 use std::thread::Threads;
-use tile_checker::{OpenGate, check_all, first_fault};
+use tile_checker::{OpenGate, first_violation};
 
 /// What windows are made of, and by what: the kit with the loose shapes of its leaf cells, the maker, and the name.
 #[derive(Clone, Copy)]
@@ -74,8 +74,8 @@ fn breaks_rule<'b, R: Threads + Sync>(
     requires reach { AreReachable flat.now.shapes.now }
     ensures { IfOk result (λ broken. MatchBool broken (HasViolations kit.now.tech.rules flat.now.shapes.now) (IsReport kit.now.tech.rules flat.now.shapes.now [])) }
 {
-    let violations = check_all(rt, alloc, &OpenGate, &kit.tech, flat, bins, 1)?;
-    Ok(first_fault(&violations).is_some())
+    let first = first_violation(rt, alloc, &OpenGate, &kit.tech, flat, bins, 1)?;
+    Ok(first.is_some())
 }
 
 /// Whether a flat macro's labels are joined otherwise than its netlist says.

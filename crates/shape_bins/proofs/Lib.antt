@@ -6,3 +6,4 @@ pub mod HitLaws
 pub mod CoverLaws
 pub mod NumberLaws
 pub mod FullLaws
+pub mod FilledLaws

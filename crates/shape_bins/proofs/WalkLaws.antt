@@ -10,8 +10,8 @@ use Rattle.shape_bins.specs.declared.node.Node.{Node}
 use Rattle.shape_bins.specs.declared.query.Query.{Query}
 use Rattle.or_geom.specs.declared.shape.Point.{Point}
 use Rattle.or_geom.specs.Joined.{IsIn}
-use Rattle.shape_bins.specs.declared.query.Query.TheVariants.{Meets, Joins, Overlaps, At}
-use Rattle.shape_bins.specs.Meets.{HoldsRect}
+use Rattle.shape_bins.specs.declared.query.Query.TheVariants.{Meets, MeetsOutside, Joins, Overlaps, At}
+use Rattle.shape_bins.specs.Meets.{HoldsRect, Meet}
 use Rattle.shape_bins.specs.Query.{FitsQuery}
 use Rattle.shape_bins.specs.Nodes.{IsUnder, IsLeafUnder, AreBoxNodes, IsBoxNode, IsNodeNear, IsLeafNear}
 
@@ -28,14 +28,27 @@ in_outer outer inner p h i = record {
   high = omega (arith, ints, h.high, i.high);
 }
 
--- a rectangle that holds one that is looked for is looked for
-pub fits_outer : (query : Query) (outer inner : Rect) → HoldsRect outer inner → FitsQuery query inner → FitsQuery query outer
-fits_outer (Meets area) outer inner h m = record {
+meet_outer : (area outer inner : Rect) → HoldsRect outer inner → Meet inner area → Meet outer area
+meet_outer area outer inner h m = record {
   left = omega (arith, ints, h.left, m.left);
   right = omega (arith, ints, h.right, m.right);
   low = omega (arith, ints, h.low, m.low);
   high = omega (arith, ints, h.high, m.high);
 }
+
+-- what holds the outer rectangle holds the inner
+held_inner : (held outer inner : Rect) → HoldsRect outer inner → HoldsRect held outer → HoldsRect held inner
+held_inner held outer inner h o = record {
+  left = omega (arith, ints, h.left, o.left);
+  right = omega (arith, ints, h.right, o.right);
+  low = omega (arith, ints, h.low, o.low);
+  high = omega (arith, ints, h.high, o.high);
+}
+
+-- a rectangle that holds one that is looked for is looked for
+pub fits_outer : (query : Query) (outer inner : Rect) → HoldsRect outer inner → FitsQuery query inner → FitsQuery query outer
+fits_outer (Meets area) outer inner h m = meet_outer area outer inner h m
+fits_outer (MeetsOutside area held) outer inner h o = record { meets = meet_outer area outer inner h o.meets; outside = λ all. o.outside (held_inner held outer inner h all) }
 fits_outer (Joins area) outer inner h j = record {
   p = j.p;
   q = j.q;

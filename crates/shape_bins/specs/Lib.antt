@@ -10,3 +10,4 @@ pub mod Forest
 pub mod Over
 pub mod Numbers
 pub mod Full
+pub mod Filled

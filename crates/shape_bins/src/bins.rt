@@ -1,13 +1,14 @@
-ghost use Rattle.std.specs.Prelude.{◌≡◌, ◌↔◌, ◌≤◌, length, IsTrue, IfOk, MatchOption, OnOk};
+ghost use Rattle.std.specs.Prelude.{◌≡◌, ◌↔◌, ◌≤◌, length, IsTrue, IfOk, IfSome, MatchOption, OnOk};
 ghost use Rattle.or_geom.specs.Adds.{Adds};
 ghost use Rattle.or_geom.specs.Covered.{HasCellInSome, IsCovered};
 ghost use Rattle.or_geom.specs.Row.{IsFound};
 ghost use Rattle.shape_bins.specs.Layers.{rects_on};
 ghost use Rattle.shape_bins.specs.Forest.{IsForest};
 ghost use Rattle.shape_bins.specs.Hits.{IsHit, IsNearShape, NoHitFrom, IsFirstHit};
-ghost use Rattle.shape_bins.specs.declared.query.Query.TheVariants.{Meets, Overlaps, At};
+ghost use Rattle.shape_bins.specs.declared.query.Query.TheVariants.{Meets, MeetsOutside, Overlaps, At};
 
 use crate::cover::{box_covered, rect_at};
+use crate::filled::filled_boxes;
 use crate::layers::forest;
 use crate::node::Node;
 use crate::query::Query;
@@ -25,18 +26,21 @@ use std::marker::Model;
 pub struct Bins<'b> {
     shapes: &'b [Shape],
     nodes: &'b [Node],
+    /// Boxes that shapes of their layers fill, and the trees over them.
+    boxes: &'b [Shape],
+    box_nodes: &'b [Node],
 }
 
 impl<'b> Model for Bins<'b> {
     ghost use Rattle.std.specs.Prelude.{List};
     ghost use Rattle.or_geom.specs.declared.shape.Shape.{Shape};
-    ghost use Rattle.shape_bins.specs.Forest.{IsForest};
+    ghost use Rattle.shape_bins.specs.Filled.{AreBins};
 
     ghost Value = { List Shape };
 
     ghost view = { λ b. b.shapes.now };
 
-    ghost invariant = { λ b. IsForest b.shapes.now b.nodes.now };
+    ghost invariant = { λ b. AreBins b.shapes.now b.nodes.now b.boxes.now b.box_nodes.now };
 }
 
 impl<'b> Bins<'b> {
@@ -83,11 +87,19 @@ impl<'b> Bins<'b> {
         rect_at(self.shapes, self.nodes, layer, cell)
     }
 
+    /// A box that the layer covers and that holds the unit cell with this lower left corner. None says nothing: only boxes
+    /// are known that many shapes fill together.
+    pub fn filled_at(&self, layer: u16, cell: Point) -> Option<Rect>
+        ensures { IfSome result (IsFound (rects_on layer self.now) cell) }
+    {
+        rect_at(self.boxes, self.box_nodes, layer, cell)
+    }
+
     /// Whether each unit cell of the area lies in some shape of the layer.
     pub fn box_covered(&self, layer: u16, area: Rect) -> bool
         ensures { IsTrue result ↔ IsCovered area (rects_on layer self.now) }
     {
-        box_covered(self.shapes, self.nodes, layer, area)
+        box_covered(self, layer, area)
     }
 
     /// Adds the places of all shapes of the layer whose closed box meets the area.
@@ -95,6 +107,19 @@ impl<'b> Bins<'b> {
         ensures { OnOk result (Adds out.old.items out.new.items (IsNearShape self.now layer area)) }
     {
         add_near(self.nodes, layer, Query::Meets(area), out)
+    }
+
+    /// Adds the places of those alone that `held` doesn't hold.
+    pub fn add_outside(
+        &self,
+        layer: u16,
+        area: Rect,
+        held: Rect,
+        out: &mut Vec<usize>,
+    ) -> Result<(), Memory>
+        ensures { OnOk result (Adds out.old.items out.new.items (IsHit self.now layer (MeetsOutside area held))) }
+    {
+        add_near(self.nodes, layer, Query::MeetsOutside(area, held), out)
     }
 }
 
@@ -104,9 +129,13 @@ pub fn index<'b>(alloc: Global, bump: &'b Bump, flat: &Flat<'b>) -> Result<Bins<
     ensures { IfOk result (λ bins. bins ≡ flat.now.shapes.now) }
 {
     let nodes = forest(alloc, bump, flat.shapes)?;
+    let boxes = filled_boxes(alloc, bump, flat.shapes)?;
+    let box_nodes = forest(alloc, bump, &boxes)?;
     Ok(Bins {
         shapes: flat.shapes,
         nodes: into_bump_slice(nodes),
+        boxes: into_bump_slice(boxes),
+        box_nodes: into_bump_slice(box_nodes),
     })
 }
 

@@ -5,6 +5,7 @@ ghost use Rattle.shape_bins.specs.Forest.{IsForest};
 ghost use Rattle.shape_bins.specs.Layers.{rects_on};
 ghost use Rattle.shape_bins.specs.Over.{IsNodeOver};
 
+use crate::bins::Bins;
 use crate::node::Node;
 use or_geom::{Point, Rect, Shape};
 
@@ -53,17 +54,20 @@ pub fn rect_at(_shapes: &[Shape], nodes: &[Node], layer: u16, cell: Point) -> Op
     None
 }
 
+/// A rectangle that the layer covers and that holds the cell: a filled box where one is known, which reaches far.
+fn covered_at(bins: &Bins, layer: u16, cell: Point) -> Option<Rect>
+    ensures { MatchOption result (HasCellInSome (rects_on layer bins.now) cell.x cell.y → ⊥) (IsFound (rects_on layer bins.now) cell) }
+{
+    if let Some(rect) = bins.filled_at(layer, cell) {
+        return Some(rect);
+    }
+    bins.rect_at(layer, cell)
+}
+
 /// Whether the area's row of cells at `row` is covered, and then up to which row all above it are too.
-fn covered_rows(
-    shapes: &[Shape],
-    nodes: &[Node],
-    layer: u16,
-    area: Rect,
-    row: Point,
-) -> Option<Point>
-    requires forest { IsForest shapes.now nodes.now }
-    requires row { IsRowOf area row }
-    ensures { MatchOption result (IsCovered area (rects_on layer shapes.now) → ⊥) (AreRowsTo (rects_on layer shapes.now) area row) }
+fn covered_rows(bins: &Bins, layer: u16, area: Rect, row: Point) -> Option<Point>
+    requires { IsRowOf area row }
+    ensures { MatchOption result (IsCovered area (rects_on layer bins.now) → ⊥) (AreRowsTo (rects_on layer bins.now) area row) }
 {
     // The upper right corner of what is known to be covered, whose lower left corner is `row`.
     let mut corner = Point {
@@ -75,7 +79,7 @@ fn covered_rows(
             x: corner.x,
             y: row.y,
         };
-        let Some(rect) = rect_at(shapes, nodes, layer, cell) else {
+        let Some(rect) = covered_at(bins, layer, cell) else {
             return None;
         };
         let y = corner.y.min(rect.y2);
@@ -87,16 +91,15 @@ fn covered_rows(
 }
 
 /// Whether each unit cell of the area lies in some shape of the layer.
-pub fn box_covered(shapes: &[Shape], nodes: &[Node], layer: u16, area: Rect) -> bool
-    requires { IsForest shapes.now nodes.now }
-    ensures { IsTrue result ↔ IsCovered area (rects_on layer shapes.now) }
+pub fn box_covered(bins: &Bins, layer: u16, area: Rect) -> bool
+    ensures { IsTrue result ↔ IsCovered area (rects_on layer bins.now) }
 {
     let mut row = Point {
         x: area.x1,
         y: area.y1,
     };
     'upward: loop {
-        let Some(next) = covered_rows(shapes, nodes, layer, area, row) else {
+        let Some(next) = covered_rows(bins, layer, area, row) else {
             return false;
         };
         if area.y2 <= next.y {

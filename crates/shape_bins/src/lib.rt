@@ -3,6 +3,7 @@
 
 mod bins;
 mod cover;
+mod filled;
 mod layers;
 mod node;
 mod numbering;
@@ -14,4 +15,4 @@ mod walk;
 
 pub use bins::{Bins, bins_are_shared, index};
 pub use numbers::ShapeNumbers;
-pub use query::Query;
+pub use query::{Query, holds};

@@ -64,7 +64,7 @@ pub record IsFoundBelow (rules : List Rule) (shapes : List Shape) (tile : Rect) 
   pub below : v.rule < n
   pub found : IsFoundIn rules shapes tile v
 
-rule_to : (rules : List Rule) (shapes : List Shape) (n : ℕ) (rule : Rule) (tile : Rect) → n < length rules → rule ≡ get_or rules n rule → (v : Violation) → IsFoundBelow rules shapes tile n v ⊎ IsViolationIn n rule shapes tile v
+pub rule_to : (rules : List Rule) (shapes : List Shape) (n : ℕ) (rule : Rule) (tile : Rect) → n < length rules → rule ≡ get_or rules n rule → (v : Violation) → IsFoundBelow rules shapes tile n v ⊎ IsViolationIn n rule shapes tile v
     → IsFoundBelow rules shapes tile (n + 1) v
 rule_to rules shapes n rule tile lt is v (inl b) = record { below = omega (arith, b.below); found = b.found }
 rule_to rules shapes n rule tile lt is v (inr f) =
@@ -77,7 +77,7 @@ rule_to rules shapes n rule tile lt is v (inr f) =
       };
     }
 
-rule_from : (rules : List Rule) (shapes : List Shape) (n : ℕ) (rule : Rule) (tile : Rect) → n < length rules → rule ≡ get_or rules n rule → (v : Violation) → IsFoundBelow rules shapes tile (n + 1) v
+pub rule_from : (rules : List Rule) (shapes : List Shape) (n : ℕ) (rule : Rule) (tile : Rect) → n < length rules → rule ≡ get_or rules n rule → (v : Violation) → IsFoundBelow rules shapes tile (n + 1) v
     → IsFoundBelow rules shapes tile n v ⊎ IsViolationIn n rule shapes tile v
 rule_from rules shapes n rule tile lt is v b = elim (below_or v.rule n b.below) [
   | inl less ↦ inl (record { below = less; found = b.found })
@@ -114,20 +114,20 @@ pub record IsOwnBelow (rules : List Rule) (shapes : List Shape) (tiles : List Re
   pub dealt : index % workers ≡ worker
 
 -- of this tile
-record IsOwnAt (rules : List Rule) (shapes : List Shape) (tiles : List Rect) (workers worker n : ℕ) (v : Violation) : Type 0 where
-  tile : Rect
-  there : slice_get tiles n ≡ Some tile
-  found : IsFoundIn rules shapes tile v
-  dealt : n % workers ≡ worker
+pub record IsOwnAt (rules : List Rule) (shapes : List Shape) (tiles : List Rect) (workers worker n : ℕ) (v : Violation) : Type 0 where
+  pub tile : Rect
+  pub there : slice_get tiles n ≡ Some tile
+  pub found : IsFoundIn rules shapes tile v
+  pub dealt : n % workers ≡ worker
 
-own_from : (rules : List Rule) (shapes : List Shape) (tiles : List Rect) (workers worker n : ℕ) (v : Violation) → IsOwnBelow rules shapes tiles workers worker (n + 1) v
+pub own_from : (rules : List Rule) (shapes : List Shape) (tiles : List Rect) (workers worker n : ℕ) (v : Violation) → IsOwnBelow rules shapes tiles workers worker (n + 1) v
     → IsOwnBelow rules shapes tiles workers worker n v ⊎ IsOwnAt rules shapes tiles workers worker n v
 own_from rules shapes tiles workers worker n v b = elim (below_or b.index n b.below) [
   | inl less ↦ inl (record { index = b.index; below = less; tile = b.tile; there = b.there; found = b.found; dealt = b.dealt })
   | inr same ↦ inr (record { tile = b.tile; there = subst (λ (p : ℕ). slice_get tiles p ≡ Some b.tile) same b.there; found = b.found; dealt = subst (λ (p : ℕ). p % workers ≡ worker) same b.dealt })
 ]
 
-own_more : (rules : List Rule) (shapes : List Shape) (tiles : List Rect) (workers worker n : ℕ) (v : Violation) → IsOwnBelow rules shapes tiles workers worker n v → IsOwnBelow rules shapes tiles workers worker (n + 1) v
+pub own_more : (rules : List Rule) (shapes : List Shape) (tiles : List Rect) (workers worker n : ℕ) (v : Violation) → IsOwnBelow rules shapes tiles workers worker n v → IsOwnBelow rules shapes tiles workers worker (n + 1) v
 own_more rules shapes tiles workers worker n v b = record { index = b.index; below = omega (arith, b.below); tile = b.tile; there = b.there; found = b.found; dealt = b.dealt }
 
 pub own_begins : (rules : List Rule) (shapes : List Shape) (tiles : List Rect) (workers worker : ℕ) → Adds [] [] (IsOwnBelow rules shapes tiles workers worker 0)

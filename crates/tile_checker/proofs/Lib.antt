@@ -10,8 +10,15 @@ mod ShareLaws
 mod NearLaws
 mod PlaceLaws
 mod FirstLaws
+mod FilledLaws
 mod PairLaws
 mod BoxLaws
 mod StripLaws
 mod SideLaws
 pub mod OneReportLaws
+mod DecisionLaws
+mod PairDecisionLaws
+mod BreakDecisionLaws
+mod ReportThereLaws
+mod EarliestLaws
+mod FirstFoundLaws

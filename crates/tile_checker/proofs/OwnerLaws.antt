@@ -1,5 +1,5 @@
 -- Which shapes a tile has to look at, so that it finds all that it owns.
-use Rattle.std.proofs.Common.{◌≡◌, ◌⊎◌, inl, inr, ℕ, ◌<◌, List, [], length, ℤ, pos, ◌≤ℤ◌, ◌<ℤ◌, ◌+ℤ◌, ◌-ℤ◌, Option, Some, None, refl, sym, ap, subst, ◌∙◌, arith, ◌↔◌}
+use Rattle.std.proofs.Common.{◌≡◌, inl, inr, ℕ, ◌<◌, List, [], length, ℤ, pos, ◌≤ℤ◌, ◌+ℤ◌, ◌-ℤ◌, Option, Some, None, refl, sym, ap, subst, ◌∙◌, arith, ◌↔◌}
 use Rattle.std.specs.Prelude.{All, Contains, slice_get}
 use Rattle.std.specs.Int.{int_max, int_min}
 use Rattle.std.proofs.lemmas.Int.{ints, clamps}
@@ -23,7 +23,7 @@ use Rattle.tile_checker.specs.Minimum.{IsMinimum, HasMinimum}
 use Rattle.tile_checker.specs.Breaks.{AreNear, Breaks, IsGrown}
 use Rattle.tile_checker.specs.RuleReport.{IsLater, IsViolation}
 use Rattle.tile_checker.specs.Firsts.{IsAt, IsFrom, ArePlaces}
-use Rattle.tile_checker.specs.Tiles.{minimum, corner, Owns, HasCorners, AreTiles, IsViolationIn, IsFoundIn, IsFromIn, IsFromPlace, IsListed, IsNearOnSome, AreFirsts}
+use Rattle.tile_checker.specs.Tiles.{minimum, corner, Owns, HasCorners, AreTiles, IsViolationIn, IsFoundIn, IsFromIn, IsFromPlace, IsListed, IsNearOnSome, AreFirstPlaces}
 use Rattle.tile_checker.proofs.AloneLaws.{IsForOne}
 use Rattle.tile_checker.proofs.NearLaws.{near_meets}
 use Rattle.tile_checker.proofs.PlaceLaws.{place_of}
@@ -68,7 +68,7 @@ pub place_read : (shapes read : List Shape) (place : ℕ) (s : Shape) → read �
 place_read shapes read place s same at = subst (λ (l : List Shape). slice_get l place ≡ Some s) same at
 
 -- all first shapes were looked at
-pub rule_found : (number : ℕ) (rule : Rule) (shapes : List Shape) (tile : Rect) (firsts : List ℕ) (old new : List Violation) → AreFirsts rule shapes tile firsts
+pub rule_found : (number : ℕ) (rule : Rule) (shapes : List Shape) (tile : Rect) (firsts : List ℕ) (old new : List Violation) → AreFirstPlaces rule shapes tile firsts
     → Adds old new (SomeGives (IsFromPlace number rule shapes tile) firsts) → Adds old new (IsViolationIn number rule shapes tile)
 rule_found number rule shapes tile firsts old new are a =
     adds_as old new (SomeGives (IsFromPlace number rule shapes tile) firsts) (IsViolationIn number rule shapes tile)
@@ -127,7 +127,7 @@ width_each : (layer : ℕ) (min : ℤ) (shapes : List Shape) (tile : Rect) (plac
 width_each layer min shapes tile places hits a None h breaks owned = near_listed shapes layer tile places a hits h breaks.on (own_meets tile a.rect owned)
 width_each layer min shapes tile places hits a (Some b) h breaks owned = absurd breaks
 
-pub width_firsts : (layer : ℕ) (min : ℤ) (shapes : List Shape) (tile : Rect) (places : List ℕ) → ArePlaces shapes places → AreListed shapes layer tile places → AreFirsts (Width layer min) shapes tile places
+pub width_firsts : (layer : ℕ) (min : ℤ) (shapes : List Shape) (tile : Rect) (places : List ℕ) → ArePlaces shapes places → AreListed shapes layer tile places → AreFirstPlaces (Width layer min) shapes tile places
 width_firsts layer min shapes tile places are hits = record { inside = are; each = width_each layer min shapes tile places hits }
 
 enclose_each : (layer : ℕ) (by : List ℕ) (min : ℤ) (shapes : List Shape) (tile : Rect) (places : List ℕ) → AreListed shapes layer tile places → (a : Shape) (b : Option Shape) → Contains shapes a → Breaks (Enclose layer by min) shapes a b
@@ -135,10 +135,10 @@ enclose_each : (layer : ℕ) (by : List ℕ) (min : ℤ) (shapes : List Shape) (
 enclose_each layer by min shapes tile places hits a None h breaks owned = near_listed shapes layer tile places a hits h breaks.on (own_meets tile a.rect owned)
 enclose_each layer by min shapes tile places hits a (Some b) h breaks owned = absurd breaks
 
-pub enclose_firsts : (layer : ℕ) (by : List ℕ) (min : ℤ) (shapes : List Shape) (tile : Rect) (places : List ℕ) → ArePlaces shapes places → AreListed shapes layer tile places → AreFirsts (Enclose layer by min) shapes tile places
+pub enclose_firsts : (layer : ℕ) (by : List ℕ) (min : ℤ) (shapes : List Shape) (tile : Rect) (places : List ℕ) → ArePlaces shapes places → AreListed shapes layer tile places → AreFirstPlaces (Enclose layer by min) shapes tile places
 enclose_firsts layer by min shapes tile places are hits = record { inside = are; each = enclose_each layer by min shapes tile places hits }
 
-grown_of : (min : ℤ) (r : Rect) → pos 1 ≤ℤ min → (g : Rect) × IsGrown min r g
+pub grown_of : (min : ℤ) (r : Rect) → pos 1 ≤ℤ min → (g : Rect) × IsGrown min r g
 grown_of min r some =
     let w = r.wide in
     let h = r.tall in
@@ -156,7 +156,7 @@ space_each layer other min shapes tile area places some t one two a (Some b) h b
     ]
 
 pub space_firsts : (layer other : ℕ) (min : ℤ) (shapes : List Shape) (tile area : Rect) (places : List ℕ) → pos 1 ≤ℤ min → IsGrown min tile area → ArePlaces shapes places → AreListed shapes layer area places → AreListed shapes other area places
-    → AreFirsts (Space layer other min) shapes tile places
+    → AreFirstPlaces (Space layer other min) shapes tile places
 space_firsts layer other min shapes tile area places some t are one two = record { inside = are; each = space_each layer other min shapes tile area places some t one two }
 
 near_places : (shapes : List Shape) (layer : ℕ) (area : Rect) (none places : List ℕ) → none ≡ [] → Adds none places (IsNearShape shapes layer area) → ArePlaces shapes places × AreListed shapes layer area places
@@ -164,27 +164,27 @@ near_places shapes layer area none places empty a =
     let all = adds_all places (IsNearShape shapes layer area) (subst (λ (l : List ℕ). Adds l places (IsNearShape shapes layer area)) empty a) in
     (λ place h. near_inside shapes layer area place ((all place).0 h), λ place hit. (all place).1 hit)
 
-pub width_listed : (rule : Rule) (layer : ℕ) (min : ℤ) (shapes : List Shape) (tile : Rect) (none places : List ℕ) → rule ≡ Width layer min → none ≡ [] → Adds none places (IsNearShape shapes layer tile) → AreFirsts rule shapes tile places
+pub width_listed : (rule : Rule) (layer : ℕ) (min : ℤ) (shapes : List Shape) (tile : Rect) (none places : List ℕ) → rule ≡ Width layer min → none ≡ [] → Adds none places (IsNearShape shapes layer tile) → AreFirstPlaces rule shapes tile places
 width_listed rule layer min shapes tile none places is empty a =
     let n = near_places shapes layer tile none places empty a in
-    subst (λ (r : Rule). AreFirsts r shapes tile places) (sym is) (width_firsts layer min shapes tile places n.0 n.1)
+    subst (λ (r : Rule). AreFirstPlaces r shapes tile places) (sym is) (width_firsts layer min shapes tile places n.0 n.1)
 
 pub enclose_listed : (rule : Rule) (layer : ℕ) (by : List ℕ) (min : ℤ) (shapes : List Shape) (tile : Rect) (none places : List ℕ) → rule ≡ Enclose layer by min → none ≡ [] → Adds none places (IsNearShape shapes layer tile)
-    → AreFirsts rule shapes tile places
+    → AreFirstPlaces rule shapes tile places
 enclose_listed rule layer by min shapes tile none places is empty a =
     let n = near_places shapes layer tile none places empty a in
-    subst (λ (r : Rule). AreFirsts r shapes tile places) (sym is) (enclose_firsts layer by min shapes tile places n.0 n.1)
+    subst (λ (r : Rule). AreFirstPlaces r shapes tile places) (sym is) (enclose_firsts layer by min shapes tile places n.0 n.1)
 
 near_some : (shapes : List Shape) (layer other : ℕ) (area : Rect) (place : ℕ) → IsNearOnSome shapes layer other area place → place < length shapes
 near_some shapes layer other area place (inl h) = near_inside shapes layer area place h
 near_some shapes layer other area place (inr h) = near_inside shapes other area place h
 
 pub space_listed : (rule : Rule) (layer other : ℕ) (min : ℤ) (shapes : List Shape) (tile area : Rect) (none places : List ℕ) → rule ≡ Space layer other min → HasMinimum rule → IsGrown min tile area → none ≡ []
-    → Adds none places (IsNearOnSome shapes layer other area) → AreFirsts rule shapes tile places
+    → Adds none places (IsNearOnSome shapes layer other area) → AreFirstPlaces rule shapes tile places
 space_listed rule layer other min shapes tile area none places is minimum grown empty a =
     let all = adds_all places (IsNearOnSome shapes layer other area) (subst (λ (l : List ℕ). Adds l places (IsNearOnSome shapes layer other area)) empty a) in
     let m : IsMinimum min = subst HasMinimum is minimum in
-    subst (λ (r : Rule). AreFirsts r shapes tile places) (sym is)
+    subst (λ (r : Rule). AreFirstPlaces r shapes tile places) (sym is)
     (space_firsts layer other min shapes tile area places m.positive grown (λ place h. near_some shapes layer other area place ((all place).0 h)) (λ place hit. (all place).1 (inl hit)) (λ place hit. (all place).1 (inr hit)))
 
 pub both_near : (shapes : List Shape) (layer other : ℕ) (area : Rect) (old now new : List ℕ) → Adds old now (IsNearShape shapes layer area) → Adds now new (IsNearShape shapes other area) → Adds old new (IsNearOnSome shapes layer other area)

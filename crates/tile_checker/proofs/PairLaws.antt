@@ -25,11 +25,11 @@ use Rattle.tile_checker.specs.declared.violation.Violation.{Violation}
 use Rattle.tile_checker.specs.declared.space.SpaceRule.{SpaceRule}
 use Rattle.tile_checker.proofs.SpaceLaws.{gap_in, gap_out}
 use Rattle.tile_checker.specs.declared.first.First.{First}
-use Rattle.tile_checker.specs.Firsts.{IsAt, IsPartner, HasNoPartner, IsPartnerAt, ArePartners}
+use Rattle.tile_checker.specs.Firsts.{IsAt, IsPartner, HasNoPartner, IsPartnerAt, ArePartners, ArePartnersIn}
 use Rattle.tile_checker.specs.Tiles.{Owns, IsFromIn, IsPairAt, IsPartIn}
 use Rattle.tile_checker.proofs.NearLaws.{near_meets}
 use Rattle.tile_checker.proofs.PlaceLaws.{sorted_at, later_place, place_of}
-use Rattle.tile_checker.proofs.PlaceLaws.{adds_all}
+use Rattle.tile_checker.proofs.FilledLaws.{one_box_covers}
 
 abbrev kind : SpaceRule → Rule
 kind rule = Space rule.layer rule.other rule.min.value
@@ -83,7 +83,7 @@ grown_corner min a b tile grown g h =
     (subst (λ (z : ℤ). HasCell tile (int_max (a.rect.x1 -ℤ min) b.rect.x1) (int_max z b.rect.y1)) (sym g.low) h)
 
 pair_each : (rule : SpaceRule) (shapes : List Shape) (tile : Rect) (first : First) (partner : ℕ) (grown area : Rect) (places : List ℕ) (v : Violation) (second : Option Shape) → IsStrictlySortedBy shape_order shapes → IsAt shapes first
-    → IsPartner rule first.shape.layer partner → IsGrown rule.min.value first.shape.rect grown → IsPartIn tile grown area → ((place : ℕ) → IsNearShape shapes partner area place → Contains places place) → v.first ≡ first.shape → v.rule ≡ rule.number
+    → IsPartner rule first.shape.layer partner → IsGrown rule.min.value first.shape.rect grown → IsPartIn tile grown area → ArePartnersIn shapes partner first.shape area places → v.first ≡ first.shape → v.rule ≡ rule.number
     → v.second ≡ second → IsLater shapes first.shape second → Breaks (kind rule) shapes first.shape second → Owns tile (kind rule) first.shape second → SomeGives (IsPairAt rule shapes tile first) places v
 pair_each rule shapes tile first partner grown area places v None rises at partners is_grown part hits of numbered is later breaks owned = absurd breaks
 pair_each rule shapes tile first partner grown area places v (Some b) rises at partners is_grown part hits of numbered is later breaks owned =
@@ -94,24 +94,25 @@ pair_each rule shapes tile first partner grown area places v (Some b) rises at p
       there = p.1;
       on = on_partner rule first.shape b partner partners breaks.on;
       fits = part b.rect meets (grown_corner rule.min.value first.shape b tile grown is_grown owned);
-    } in
-    gives_some (IsPairAt rule shapes tile first) places v p.0 (hits p.0 hit) (record {
-      second = b;
-      there = p.1;
-      later = later_place shape_order shapes first.place p.0 first.shape b shape_total rises at p.1 later.1;
-      is = λ i. record { rule = numbered i; first = of i; second = is i };
-      found = record { on = breaks.on; near = breaks.near; bare = λ c. breaks.bare (gap_out rule shapes first.shape b breaks.on c) };
-      owned = owned;
-    })
+    } in elim (hits.each p.0 b p.1 hit) [
+      | inl among ↦ gives_some (IsPairAt rule shapes tile first) places v p.0 among (record {
+        second = b;
+        there = p.1;
+        later = later_place shape_order shapes first.place p.0 first.shape b shape_total rises at p.1 later.1;
+        is = λ i. record { rule = numbered i; first = of i; second = is i };
+        found = record { on = breaks.on; near = breaks.near; bare = λ c. breaks.bare (gap_out rule shapes first.shape b breaks.on c) };
+        owned = owned;
+      })
+      | inr one ↦ absurd (breaks.bare (one_box_covers shapes first.shape b one))
+    ]
 
-pub pairs_found : (rule : SpaceRule) (shapes : List Shape) (tile : Rect) (first : First) (partner : ℕ) (grown area : Rect) (none places : List ℕ) (old new : List Violation) → IsStrictlySortedBy shape_order shapes → IsAt shapes first
-    → IsPartner rule first.shape.layer partner → IsGrown rule.min.value first.shape.rect grown → IsPartIn tile grown area → none ≡ [] → Adds none places (IsNearShape shapes partner area)
+pub pairs_found : (rule : SpaceRule) (shapes : List Shape) (tile : Rect) (first : First) (partner : ℕ) (grown area : Rect) (places : List ℕ) (old new : List Violation) → IsStrictlySortedBy shape_order shapes → IsAt shapes first
+    → IsPartner rule first.shape.layer partner → IsGrown rule.min.value first.shape.rect grown → IsPartIn tile grown area → ArePartnersIn shapes partner first.shape area places
     → Adds old new (SomeGives (IsPairAt rule shapes tile first) places) → Adds old new (IsFromIn rule.number (kind rule) shapes tile first)
-pairs_found rule shapes tile first partner grown area none places old new rises at partners is_grown part empty hits a =
+pairs_found rule shapes tile first partner grown area places old new rises at partners is_grown part hits a =
     adds_as old new (SomeGives (IsPairAt rule shapes tile first) places) (IsFromIn rule.number (kind rule) shapes tile first)
     (λ v g. pair_is rule shapes tile first places v rises at g)
-    (λ v f. pair_each rule shapes tile first partner grown area places v v.second rises at partners is_grown part
-    (λ place hit. (adds_all places (IsNearShape shapes partner area) (subst (λ (l : List ℕ). Adds l places (IsNearShape shapes partner area)) empty hits) place).1 hit)
+    (λ v f. pair_each rule shapes tile first partner grown area places v v.second rises at partners is_grown part hits
     f.from.of f.from.violation.numbered refl
     (subst (λ (s : Shape). IsLater shapes s v.second) f.from.of f.from.violation.second)
     (subst (λ (s : Shape). Breaks (kind rule) shapes s v.second) f.from.of f.from.violation.breaks)
@@ -119,9 +120,9 @@ pairs_found rule shapes tile first partner grown area none places old new rises 
     a
 
 -- those at the places that were found are partners
-pub hits_partners : (rule : SpaceRule) (shapes : List Shape) (a : Shape) (partner : ℕ) (area : Rect) (none places : List ℕ) → IsPartner rule a.layer partner → none ≡ [] → Adds none places (IsNearShape shapes partner area) → ArePartners rule shapes a places
-hits_partners rule shapes a partner area none places partners empty hits place h =
-    let hit = (adds_all places (IsNearShape shapes partner area) (subst (λ (l : List ℕ). Adds l places (IsNearShape shapes partner area)) empty hits) place).0 h in
+pub hits_partners : (rule : SpaceRule) (shapes : List Shape) (a : Shape) (partner : ℕ) (area : Rect) (places : List ℕ) → IsPartner rule a.layer partner → ArePartnersIn shapes partner a area places → ArePartners rule shapes a places
+hits_partners rule shapes a partner area places partners hits place h =
+    let hit = hits.only place h in
     record { shape = hit.shape; there = hit.there; on = partner_on rule a hit.shape partner partners hit.on }
 
 pub partner_inside : (rule : SpaceRule) (shapes read : List Shape) (a : Shape) (place : ℕ) → read ≡ shapes → IsPartnerAt rule shapes a place → place < length read

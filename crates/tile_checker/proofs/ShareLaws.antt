@@ -1,5 +1,5 @@
 -- Lists of workers, and what all of them hold.
-use Rattle.std.proofs.Common.{◌≡◌, Some, inl, inr, ◌↔◌, ℕ, ◌+◌, ◌<◌, ◌%◌, List, [], ◌++◌, length, get_or, refl, sym, ap, subst, ◌∙◌, arith, Result, Ok, Err}
+use Rattle.std.proofs.Common.{◌≡◌, Some, inl, inr, ◌↔◌, ℕ, ◌+◌, ◌<◌, ◌%◌, List, ◌++◌, length, get_or, refl, sym, ap, subst, ◌∙◌, arith, Result, Ok, Err}
 use Rattle.std.specs.Prelude.{All, Contains, IfOk, slice_get}
 use Rattle.std.proofs.lemmas.Option.{slice_get-get_or, same_Some, slice_get_cases}
 use Rattle.std.specs.List.Sorted.{IsStrictlySortedBy}
@@ -41,7 +41,7 @@ only_violations rules shapes tiles workers lists v count shares g =
     owned_by rules shapes tiles workers at.0 v r.0
     (subst (λ (list : Result (Vec Violation Global) Memory). IfOk list (λ (l : Vec Violation Global). IsShare rules shapes tiles workers at.0 l.items)) at.2 (shares at.0 r.0 (subst (λ (n : ℕ). at.0 < n) count at.1))) r.2
 
-mod_below : (n m : ℕ) → 0 < m → (n % m) < m
+pub mod_below : (n m : ℕ) → 0 < m → (n % m) < m
 mod_below n m some = grind arith
 
 -- one list more is there
@@ -85,7 +85,7 @@ union_report rules shapes tiles workers lists all minimums are some count shares
   each = λ v violation. (u.holds v).1 (held rules shapes tiles workers lists v minimums are some count shares u.there violation);
 }
 
-all_own : (n : ℕ) → n % 1 ≡ 0
+pub all_own : (n : ℕ) → n % 1 ≡ 0
 all_own n = grind arith
 
 -- so a worker alone has it

@@ -1,8 +1,11 @@
 -- What is found from one first shape.
 use Rattle.std.specs.Prelude.{◌≡◌, ◌⊎◌, ℕ, ◌<◌, List, Contains, slice_get, length, Some}
+use Rattle.or_geom.specs.declared.shape.Rect.{Rect}
 use Rattle.or_geom.specs.declared.shape.Shape.{Shape}
 use Rattle.tech_rules.specs.declared.tech.Rule.{Rule}
-use Rattle.shape_bins.specs.Layers.{rects_on}
+use Rattle.shape_bins.specs.Hits.{IsNearShape}
+use Rattle.shape_bins.specs.Layers.{rects_on, IsCoveredBy}
+use Rattle.shape_bins.specs.Meets.{HoldsRect}
 use Rattle.tile_checker.specs.declared.violation.Violation.{Violation}
 use Rattle.tile_checker.specs.declared.space.SpaceRule.{SpaceRule}
 use Rattle.tile_checker.specs.RuleReport.{IsViolation}
@@ -36,3 +39,20 @@ ArePartners rule shapes a places = (place : ℕ) → Contains places place → I
 
 abbrev pub ArePlaces : List Shape → List ℕ → Type 0
 ArePlaces shapes places = (place : ℕ) → Contains places place → place < length shapes
+
+-- a box that the shape's layer covers and that holds the shape
+pub record IsFilledAround (shapes : List Shape) (a : Shape) (box : Rect) : Type 0 where
+  pub holds : HoldsRect box a.rect
+  pub covered : IsCoveredBy a.layer shapes box
+
+-- two shapes of one layer lie in a box that the layer covers
+pub record LieInOneBox (shapes : List Shape) (a b : Shape) : Type 0 where
+  pub one_layer : a.layer ≡ b.layer
+  pub box : Rect
+  pub first : IsFilledAround shapes a box
+  pub second : HoldsRect box b.rect
+
+-- shapes of the layer that meet the area stand at the places; any that are left out lie in one covered box with this one
+pub record ArePartnersIn (shapes : List Shape) (layer : ℕ) (a : Shape) (area : Rect) (places : List ℕ) : Type 0 where
+  pub only : (place : ℕ) → Contains places place → IsNearShape shapes layer area place
+  pub each : (place : ℕ) (b : Shape) → slice_get shapes place ≡ Some b → IsNearShape shapes layer area place → Contains places place ⊎ LieInOneBox shapes a b

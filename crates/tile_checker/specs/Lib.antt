@@ -10,3 +10,4 @@ pub mod Tiles
 pub mod Strips
 pub mod Share
 pub mod WideArea
+pub mod Earliest

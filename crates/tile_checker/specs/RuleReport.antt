@@ -1,5 +1,5 @@
 -- The report: all that breaks the rules, in order, each once.
-use Rattle.std.specs.Prelude.{◌≡◌, List, slice_get, Contains, Option, Some, None}
+use Rattle.std.specs.Prelude.{◌≡◌, List, [], ◌∷◌, slice_get, Contains, MatchOption, Option, Some, None}
 use Rattle.std.specs.List.Sorted.{IsStrictlySortedBy}
 use Rattle.std.specs.Ordering.{ordering_then, nat_cmp}
 use Rattle.std.specs.declared.cmp.Ordering.{Ordering}
@@ -33,3 +33,7 @@ pub record IsReport (rules : List Rule) (shapes : List Shape) (violations : List
   pub rises : IsStrictlySortedBy violation_order violations
   pub only : (v : Violation) → Contains violations v → IsViolation rules shapes v
   pub each : (v : Violation) → IsViolation rules shapes v → Contains violations v
+
+-- the first entry of the report; none where the report is empty
+abbrev pub IsFirstOfReport : List Rule → List Shape → Option Violation → Type 0
+IsFirstOfReport rules shapes found = MatchOption found (IsReport rules shapes []) (λ first. (more : List Violation) × IsReport rules shapes (first ∷ more))

@@ -105,7 +105,7 @@ pub record IsListed (shapes : List Shape) (places : List ℕ) (a : Shape) : Type
   pub there : slice_get shapes place ≡ Some a
 
 -- the first shapes of all that breaks the rule and the tile owns stand at some of the places
-pub record AreFirsts (rule : Rule) (shapes : List Shape) (tile : Rect) (places : List ℕ) : Type 0 where
+pub record AreFirstPlaces (rule : Rule) (shapes : List Shape) (tile : Rect) (places : List ℕ) : Type 0 where
   pub inside : ArePlaces shapes places
   pub each : (a : Shape) (b : Option Shape) → Contains shapes a → Breaks rule shapes a b → Owns tile rule a b → IsListed shapes places a
 

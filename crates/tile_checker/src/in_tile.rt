@@ -7,7 +7,7 @@ ghost use Rattle.or_geom.specs.Distance.{IsReachable};
 ghost use Rattle.or_geom.specs.Reachable.{AreReachable};
 ghost use Rattle.tile_checker.specs.Minimum.{HasMinimum};
 ghost use Rattle.tile_checker.specs.Firsts.{IsAt, ArePlaces};
-ghost use Rattle.tile_checker.specs.Tiles.{AreFirsts, IsNearOnSome, IsFromIn, IsFromPlace, IsViolationIn};
+ghost use Rattle.tile_checker.specs.Tiles.{AreFirstPlaces, IsNearOnSome, IsFromIn, IsFromPlace, IsViolationIn};
 ghost use Rattle.tile_checker.specs.WideArea.{IsSeen};
 
 use crate::enclose::{add_encloses, grown};
@@ -40,10 +40,15 @@ fn add_of_layers(
 }
 
 /// Lists the places of all first shapes of what breaks the rule and the tile owns, and perhaps of others.
-fn list_firsts(bins: &Bins, rule: &Rule, tile: Rect, firsts: &mut Vec<usize>) -> Result<(), Memory>
+pub fn list_firsts(
+    bins: &Bins,
+    rule: &Rule,
+    tile: Rect,
+    firsts: &mut Vec<usize>,
+) -> Result<(), Memory>
     requires minimum { HasMinimum rule.now }
     requires tile { IsReachable tile }
-    ensures { OnOk result (AreFirsts rule.now bins.now tile firsts.new.items) }
+    ensures { OnOk result (AreFirstPlaces rule.now bins.now tile firsts.new.items) }
 {
     firsts.clear();
     match rule {
@@ -58,7 +63,7 @@ fn list_firsts(bins: &Bins, rule: &Rule, tile: Rect, firsts: &mut Vec<usize>) ->
 
 /// Adds what breaks the rule, has this first shape, and is owned by the tile. `near` is a list to use again, and `seen`
 /// what the last shape showed of the next ones.
-fn add_violations(
+pub fn add_violations(
     alloc: Global,
     bins: &Bins,
     number: u32,

@@ -2,9 +2,13 @@
 #![tactic(auto)]
 
 mod check;
+mod earliest;
 mod enclose;
 mod extent;
 mod first;
+mod first_found;
+mod first_in_tile;
+mod first_share;
 mod frame;
 mod gate;
 mod in_tile;
@@ -21,6 +25,7 @@ mod violation;
 mod width;
 
 pub use check::check_all;
+pub use first_found::first_violation;
 pub use gate::{Gate, OpenGate};
-pub use laws::{reports_are_unique, width_of_unjoined_shapes};
-pub use violation::{Violation, first_fault};
+pub use laws::{reports_are_there, reports_are_unique, width_of_unjoined_shapes};
+pub use violation::Violation;

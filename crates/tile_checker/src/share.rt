@@ -55,7 +55,7 @@ fn add_of_tile(
 }
 
 /// Whether the worker has the tile: tiles are dealt out one by one.
-fn is_own(index: usize, worker: usize, workers: usize) -> bool
+pub fn is_own(index: usize, worker: usize, workers: usize) -> bool
     requires { 0 < workers }
     ensures { IsTrue result ↔ (index % workers ≡ worker) }
 {

@@ -1,4 +1,4 @@
-ghost use Rattle.std.specs.Prelude.{◌↔◌, ◌<ℤ◌, ◌≤ℤ◌, IsTrue, OnOk, MatchOption};
+ghost use Rattle.std.specs.Prelude.{◌↔◌, ◌<ℤ◌, ◌≤ℤ◌, IsTrue, IfSome, OnOk, MatchOption};
 ghost use Rattle.std.specs.List.Sorted.{IsStrictlySortedBy};
 ghost use Rattle.or_geom.specs.Distance.{IsReachable};
 ghost use Rattle.or_geom.specs.Adds.{Adds};
@@ -10,7 +10,7 @@ ghost use Rattle.tile_checker.specs.Breaks.{AreNear};
 ghost use Rattle.tile_checker.specs.Found.{AreOn, IsSpaceFound};
 ghost use Rattle.tech_rules.specs.declared.tech.Rule.TheVariants as kind;
 ghost use Rattle.std.specs.Int.{int_max, int_min};
-ghost use Rattle.tile_checker.specs.Firsts.{IsAt, IsPartner, HasNoPartner, ArePartners};
+ghost use Rattle.tile_checker.specs.Firsts.{IsAt, IsPartner, HasNoPartner, ArePartners, IsFilledAround, ArePartnersIn};
 ghost use Rattle.tile_checker.specs.Tiles.{IsFromIn, IsPairAt, IsPartIn};
 
 use crate::enclose::grown;
@@ -19,8 +19,8 @@ use crate::first::{First, shape_at};
 use crate::minimum::Minimum;
 use crate::owner::owns_pair;
 use crate::violation::Violation;
-use or_geom::{Memory, Rect, Shape, dist2, gap_box, joined};
-use shape_bins::Bins;
+use or_geom::{Memory, Point, Rect, Shape, dist2, gap_box, joined};
+use shape_bins::{Bins, holds};
 
 /// A space rule with its number.
 #[derive(Clone, Copy)]
@@ -135,6 +135,41 @@ fn add_pairs(
     Ok(())
 }
 
+/// A box that the shape's layer covers and that holds the shape, if one is known.
+fn filled_around(bins: &Bins, shape: Shape) -> Option<Rect>
+    ensures { IfSome result (IsFilledAround bins.now shape) }
+{
+    let corner = Point {
+        x: shape.rect.x1,
+        y: shape.rect.y1,
+    };
+    let filled = bins.filled_at(shape.layer, corner)?;
+    if holds(filled, shape.rect) {
+        return Some(filled);
+    }
+    None
+}
+
+/// Lists the places of the partner's shapes that meet the area, but for some that lie in one covered box with the first
+/// shape: the layer covers the gap between these.
+fn list_partners(
+    bins: &Bins,
+    partner: u16,
+    first: Shape,
+    area: Rect,
+    near: &mut Vec<usize>,
+) -> Result<(), Memory>
+    ensures { OnOk result (ArePartnersIn bins.now partner first area near.new.items) }
+{
+    near.clear();
+    if partner == first.layer {
+        if let Some(filled) = filled_around(bins, first) {
+            return bins.add_outside(partner, area, filled, near);
+        }
+    }
+    bins.add_near(partner, area, near)
+}
+
 /// Adds the pairs of shapes that break the rule, whose first is this one and which the tile owns. `near` is a list to use
 /// again.
 pub fn add_spaces(
@@ -153,11 +188,7 @@ pub fn add_spaces(
     let Some(partner) = partner_of(rule, first.shape.layer) else {
         return Ok(());
     };
-    near.clear();
-    bins.add_near(
-        partner,
-        part_in(tile, grown(first.shape.rect, rule.min)),
-        near,
-    )?;
+    let area = part_in(tile, grown(first.shape.rect, rule.min));
+    list_partners(bins, partner, first.shape, area, near)?;
     add_pairs(bins, rule, tile, first, near, out)
 }

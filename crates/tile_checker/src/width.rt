@@ -9,7 +9,6 @@ ghost use Rattle.tile_checker.specs.Firsts.{IsAt, IsFrom};
 ghost use Rattle.tile_checker.specs.Strips.{IsFrameHull};
 ghost use Rattle.tile_checker.specs.Frame.{HasBoxAt};
 ghost use Rattle.tile_checker.specs.WideArea.{IsWideArea, IsSeen};
-ghost use Rattle.shape_bins.specs.Meets.{HoldsRect};
 
 use crate::first::First;
 use crate::frame::Frame;
@@ -17,7 +16,7 @@ use crate::minimum::Minimum;
 use crate::sides::covered_box;
 use crate::violation::Violation;
 use or_geom::{Memory, Point, Rect};
-use shape_bins::Bins;
+use shape_bins::{Bins, holds};
 use std::alloc::Global;
 
 /// An area that the layer covers, with both sides at least `least`.
@@ -54,25 +53,6 @@ fn hull(frame: Frame) -> Rect
         x2: frame.high.x + frame.width,
         y2: frame.high.y + frame.height,
     }
-}
-
-/// Whether the outer rectangle contains the inner.
-fn holds(outer: Rect, inner: Rect) -> bool
-    ensures { IsTrue result ↔ HoldsRect outer inner }
-{
-    if inner.x1 < outer.x1 {
-        return false;
-    }
-    if outer.x2 < inner.x2 {
-        return false;
-    }
-    if inner.y1 < outer.y1 {
-        return false;
-    }
-    if outer.y2 < inner.y2 {
-        return false;
-    }
-    true
 }
 
 /// Whether the area that was seen last shows that the rectangle has the width.

@@ -15,9 +15,9 @@ grown-requires c = reachable_in c.args.bins.now c.args.first.shape c.requires.re
 pub add_pairs-requires-clause-partners : goal.add_pairs-requires-clause-partners
 add_pairs-requires-clause-partners c =
     subst (λ (l : List ℕ). ArePartners c.args.rule c.args.bins.now c.args.first.shape l) (sym c.deref.ensures.value)
-    (hits_partners c.args.rule c.args.bins.now c.args.first.shape c.in-Some.partner c.part_in.result _ _ c.in-Some.ensures c.clear.ensures.items c.in_ok-add_near.ensures)
+    (hits_partners c.args.rule c.args.bins.now c.args.first.shape c.in-Some.partner c.part_in-area.result _ c.in-Some.ensures c.in_ok-list_partners.ensures)
 
 pub returns : goal.returns
 returns c =
-    on_ok_weaker _ (λ a. pairs_found c.args.rule c.args.bins.now c.args.tile c.args.first c.in-Some.partner c.grown.result c.part_in.result _ _ _ _ c.requires.rises c.requires.at c.in-Some.ensures c.grown.ensures c.part_in.ensures c.clear.ensures.items c.in_ok-add_near.ensures
+    on_ok_weaker _ (λ a. pairs_found c.args.rule c.args.bins.now c.args.tile c.args.first c.in-Some.partner c.grown.result c.part_in-area.result _ _ _ c.requires.rises c.requires.at c.in-Some.ensures c.grown.ensures c.part_in-area.ensures c.in_ok-list_partners.ensures
     (rw c.deref.ensures.value at a)) c.add_pairs.ensures

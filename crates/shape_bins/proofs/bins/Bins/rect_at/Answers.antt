@@ -4,4 +4,4 @@ pub returns : goal.returns
 returns c = rw (← c.self.view_is) c.rect_at.ensures
 
 pub rect_at-requires : goal.rect_at-requires
-rect_at-requires c = c.self.invariant
+rect_at-requires c = c.self.invariant.forest

@@ -1,0 +1,114 @@
+ghost use Rattle.std.specs.Prelude.{IfOk};
+ghost use Rattle.std.specs.List.Sorted.{IsStrictlySortedBy};
+ghost use Rattle.or_geom.specs.Distance.{IsReachable};
+ghost use Rattle.or_geom.specs.Reachable.{AreReachable};
+ghost use Rattle.or_geom.specs.ShapeOrder.{shape_order};
+ghost use Rattle.tile_checker.specs.Earliest.{IsEarliestWith};
+ghost use Rattle.tile_checker.specs.Minimum.{HasMinimum};
+ghost use Rattle.tile_checker.specs.Tiles.{AreFirstPlaces, IsViolationIn};
+ghost use Rattle.tile_checker.specs.WideArea.{IsSeen};
+
+use crate::earliest::{earliest_of, is_past, is_past_first};
+use crate::first::{First, shape_at};
+use crate::in_tile::{add_violations, list_firsts};
+use crate::violation::Violation;
+use crate::width::WideArea;
+use or_geom::{Memory, Rect};
+use shape_bins::Bins;
+use std::alloc::Global;
+use tech_rules::Rule;
+
+/// What a worker uses again from look to look: lists, of which `found` has what one first shape breaks, and what the last
+/// shape showed of the next ones.
+#[derive(Drop)]
+pub struct Notes {
+    pub alloc: Global,
+    pub near: Vec<usize>,
+    pub found: Vec<Violation>,
+    pub seen: Option<WideArea>,
+}
+
+impl Notes {
+    /// Nothing yet.
+    pub fn new(_bins: &Bins, alloc: Global) -> Notes
+        ensures { IsSeen _bins.now result.seen }
+    {
+        Notes {
+            alloc,
+            near: Vec::new(alloc),
+            found: Vec::new(alloc),
+            seen: None,
+        }
+    }
+}
+
+/// The first of what is kept and of what breaks the rule, has its first shape at one of the places, and is owned by the
+/// tile. A shape that has only later violations isn't looked at.
+fn first_of_places(
+    bins: &Bins,
+    number: u32,
+    rule: &Rule,
+    tile: Rect,
+    places: &[usize],
+    notes: &mut Notes,
+    kept: Option<Violation>,
+) -> Result<Option<Violation>, Memory>
+    requires minimum { HasMinimum rule.now }
+    requires rises { IsStrictlySortedBy shape_order bins.now }
+    requires reach { AreReachable bins.now }
+    requires places { AreFirstPlaces rule.now bins.now tile places.now }
+    requires seen { IsSeen bins.now notes.old.seen }
+    ensures seen { IsSeen bins.now notes.new.seen }
+    ensures first { IfOk result (IsEarliestWith kept (IsViolationIn number rule.now bins.now tile)) }
+{
+    let shapes = bins.shapes();
+    let mut least = kept;
+    for place in places {
+        let first = First {
+            place: *place,
+            shape: shape_at(shapes, *place),
+        };
+        if is_past_first(least, number, first.shape) {
+            continue;
+        }
+        notes.found.clear();
+        add_violations(
+            notes.alloc,
+            bins,
+            number,
+            rule,
+            tile,
+            first,
+            &mut notes.near,
+            &mut notes.seen,
+            &mut notes.found,
+        )?;
+        least = earliest_of(least, &notes.found);
+    }
+    Ok(least)
+}
+
+/// The first of what is kept and of what breaks the rule and the tile owns. `places` is a list to use again.
+pub fn first_of_rule(
+    bins: &Bins,
+    number: u32,
+    rule: &Rule,
+    tile: Rect,
+    places: &mut Vec<usize>,
+    notes: &mut Notes,
+    kept: Option<Violation>,
+) -> Result<Option<Violation>, Memory>
+    requires minimum { HasMinimum rule.now }
+    requires rises { IsStrictlySortedBy shape_order bins.now }
+    requires reach { AreReachable bins.now }
+    requires tile { IsReachable tile }
+    requires seen { IsSeen bins.now notes.old.seen }
+    ensures seen { IsSeen bins.now notes.new.seen }
+    ensures first { IfOk result (IsEarliestWith kept (IsViolationIn number rule.now bins.now tile)) }
+{
+    if is_past(kept, number) {
+        return Ok(kept);
+    }
+    list_firsts(bins, rule, tile, places)?;
+    first_of_places(bins, number, rule, tile, places, notes, kept)
+}
