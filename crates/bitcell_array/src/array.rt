@@ -15,8 +15,9 @@ ghost use Rattle.part_edges.specs.PartPins.{AreEdgesOf};
 use crate::columns::column_edges;
 use cell_builder::Cells;
 use cell_roles::Role;
+use control_logic::sides_of_memory;
 use leaf_tables::{Edges, Kit, PartFault};
-use macro_cells::{array_cell, pre_cell, row_cell, sides_of};
+use macro_cells::{array_cell, pre_cell, row_cell};
 use macro_wires::LeafSides;
 use netlist::Deck;
 use or_geom::{Memory, Name};
@@ -48,7 +49,7 @@ pub fn build(
 {
     add_cells(alloc, kit, plan, name, cells)?;
     add_subckts(alloc, kit, plan, name, deck)?;
-    Ok(edges_of(alloc, kit, plan, name)?)
+    Ok(edges_of(alloc, kit, plan)?)
 }
 
 /// Adds the cells.
@@ -92,14 +93,14 @@ fn add_subckts(
 }
 
 /// The edges of the array: the bit lines of its columns, at both sides.
-fn edges_of(alloc: Global, kit: &Kit, plan: &Plan, name: &Name) -> Result<Edges, Memory>
+fn edges_of(alloc: Global, kit: &Kit, plan: &Plan) -> Result<Edges, Memory>
     requires kit { IsKit kit.now }
     requires plan { ArePlanNumbers (numbers_of plan.now) }
     ensures edges { IfOk result (AreEdgesOf (array_pins kit.now (organization plan.now))) }
     ensures width { IfOk result (λ edges. edges.width ≡ pos (array_width (organization plan.now) (layout_kit kit.now))) }
     ensures height { IfOk result (λ edges. edges.height ≡ pos (array_height (organization plan.now) (layout_kit kit.now))) }
 {
-    let sides = sides_of(alloc, kit, plan, name)?;
+    let sides = sides_of_memory(alloc, kit, plan)?;
     Ok(Edges {
         top: column_edges(alloc, kit, plan, &sides)?,
         bottom: column_edges(alloc, kit, plan, &sides)?,

@@ -1,2 +1,6 @@
 mod RoleLaws
 mod RowLaws
+mod ControlLaws
+mod EnableLaws
+mod LogicLaws
+mod WidthLaws

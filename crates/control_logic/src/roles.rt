@@ -2,7 +2,7 @@ ghost use Rattle.std.specs.Prelude.{◌≡◌, ◌++◌, ◌∷◌, [], ◌≤�
 ghost use Rattle.std.specs.List.{AllByRecursion};
 ghost use Rattle.cell_roles.specs.declared.role.Role.TheVariants.{Nand2, Inv, Dff};
 ghost use Rattle.sram_netlist.specs.Organization.{IsGroupSize, inputs_of, addr_bits, power_of_two};
-ghost use Rattle.sram_netlist.specs.Netlist.{gate_of, logic_role, enable_inputs, enables_of};
+ghost use Rattle.sram_netlist.specs.Netlist.{logic_role, enable_inputs, enables_of};
 ghost use Rattle.sram_netlist.specs.Instances.{Dd, Dm};
 ghost use Rattle.sram_netlist.specs.InstanceList.{tabulate, tabulate_lists, fixed_cells, address_cells, choice_gates, banks_cells, enable_gates, enable_cells, logic_cells};
 ghost use Rattle.sram_netlist.specs.Numbers.{ArePlanNumbers};
@@ -12,6 +12,7 @@ ghost use Rattle.control_logic.specs.LogicRoles.{command_roles, line_gate_roles}
 use cell_roles::Role;
 use or_geom::Memory;
 use port_lists::{enables_of, groups_of, lines_of};
+use row_decoder::gate_role;
 use sram_plan::{Plan, inputs_of};
 use std::alloc::Global;
 
@@ -31,17 +32,6 @@ pub fn logic_roles(alloc: Global, plan: &Plan) -> Result<Vec<Role>, Memory>
     add_banks(plan, &mut roles)?;
     add_enables(plan, &mut roles)?;
     Ok(roles)
-}
-
-/// The gate of so many inputs.
-fn gate_role(inputs: u32) -> Role
-    ensures { result ≡ gate_of inputs }
-{
-    match inputs {
-        0 | 1 => Role::Inv,
-        2 => Role::Nand2,
-        _ => Role::Nand3,
-    }
 }
 
 /// Adds two roles so many times.

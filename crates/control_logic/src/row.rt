@@ -1,84 +1,98 @@
-ghost use Rattle.std.specs.Prelude.{◌≡◌, ◌<◌, ◌^◌, length, pos, IfOk, IfErr, OnOk, OnErr};
+ghost use Rattle.std.specs.Prelude.{◌≡◌, ◌++◌, ◌≤◌, map, IfOk, OnOk};
 ghost use Rattle.leaf_tables.specs.Kits.{IsKit};
-ghost use Rattle.leaf_tables.specs.declared.part.PartFault.TheVariants as part_fault;
+ghost use Rattle.sram_netlist.specs.InstanceList.{choice_gates, groups_gates, logic_cells};
 ghost use Rattle.sram_netlist.specs.Numbers.{ArePlanNumbers};
 ghost use Rattle.sram_plan.specs.PlanNumbers.{numbers_of, organization};
-ghost use Rattle.cell_builder.specs.CellList.{with_drawn};
+ghost use Rattle.sram_deck.specs.Deck.{logic_cell, logic_instances};
 ghost use Rattle.port_lists.specs.Cells.{cell_in};
-ghost use Rattle.macro_layout.specs.Cells.{logic_row_cell};
+ghost use Rattle.macro_layout.specs.Places.{total_width};
+ghost use Rattle.macro_wires.specs.Sides.{AreLeafSides, AreSidesOf};
 ghost use Rattle.macro_cells.specs.LayoutOfKit.{layout_kit};
-ghost use Rattle.part_edges.specs.Additions.{with_subckt};
-ghost use Rattle.part_edges.specs.PartPins.{AreEdgesOf};
-ghost use Rattle.control_logic.specs.LogicPart.{logic_row_subckt, logic_pins, logic_width, logic_height};
+ghost use Rattle.control_logic.specs.LogicPart.{IsLogicRow};
 
+use crate::cell::width_of_cell;
+use crate::control::add_control;
+use crate::enables::{add_bank_choices, add_write_enable_gates};
+use crate::latches::{add_address, add_data_latches, add_mask_latches};
 use crate::roles::logic_roles;
-use cell_builder::{Cells, DrawnCell};
-use leaf_tables::{Edges, Kit, PartFault};
-use macro_cells::{logic_row_cell, sides_of};
-use netlist::{Deck, Subckt};
-use or_geom::{Memory, Name};
-use part_edges::{add_part, edges_of};
+use cell_roles::Role;
+use leaf_tables::Kit;
+use macro_wires::LeafSides;
+use netlist::Instance;
+use or_geom::Memory;
+use row_decoder::gates as decoder_gates;
 use sram_plan::Plan;
-use sram_subckts::logic_subckt;
 use std::alloc::Global;
+use tech_rules::RoleName;
 
-/// Adds the cell and the subcircuit of a memory's logic row. Answers where nets come to the row's edges, in nanometres
-/// from its lower left corner. `name` is the macro's. Only memory may be wanting, and then nothing is added.
-pub fn build(
-    alloc: Global,
-    kit: &Kit,
-    plan: &Plan,
-    name: &Name,
-    cells: &mut Cells,
-    deck: &mut Deck,
-) -> Result<Edges, PartFault>
-    requires kit { IsKit kit.now }
-    requires plan { ArePlanNumbers (numbers_of plan.now) }
-    requires few { length cells.old.cells < 2 ^ 31 }
-    ensures cells { OnOk result (cells.new ≡ with_drawn (logic_row_cell (organization plan.now) (layout_kit kit.now) name.now) cells.old) }
-    ensures deck { OnOk result (deck.new ≡ with_subckt (logic_row_subckt (organization plan.now) (cell_in kit.now.tech.roles) name.now) deck.old) }
-    ensures edges { IfOk result (AreEdgesOf (logic_pins kit.now (organization plan.now))) }
-    ensures width { IfOk result (λ edges. edges.width ≡ pos (logic_width (organization plan.now) (layout_kit kit.now))) }
-    ensures height { IfOk result (λ edges. edges.height ≡ pos (logic_height (layout_kit kit.now))) }
-    ensures memory { IfErr result (λ fault. fault ≡ part_fault.Memory) }
-    ensures same_cells { OnErr result (cells.new ≡ cells.old) }
-    ensures same_deck { OnErr result (deck.new ≡ deck.old) }
-{
-    let cell = logic_row_cell(alloc, kit, plan, name)?;
-    let subckt = logic_subckt(alloc, plan, kit.tech.roles.as_slice(), name)?;
-    let edges = row_edges(alloc, kit, plan, name, &subckt, &cell)?;
-    add_part(alloc, cell, subckt, cells, deck)?;
-    Ok(edges)
+/// The logic row of a memory: its gates from the left, each with its nodes and the name of its cell, and the role of each.
+#[derive(Drop)]
+pub struct LogicRow {
+    pub gates: Vec<Instance>,
+    pub roles: Vec<Role>,
 }
 
-/// The edges of the logic row, which is this cell and this subcircuit.
-fn row_edges(
+/// Makes the logic row of a memory. Its cell, its subcircuit, its width and its pins follow from this list.
+pub fn logic_row(alloc: Global, kit: &Kit, plan: &Plan) -> Result<LogicRow, Memory>
+    requires { ArePlanNumbers (numbers_of plan.now) }
+    ensures { IfOk result (IsLogicRow (organization plan.now) (cell_in kit.now.tech.roles)) }
+{
+    let roles = logic_roles(alloc, plan)?;
+    let lines = decoder_gates(alloc, kit, plan)?;
+    let mut gates = Vec::new(alloc);
+    add_cells(alloc, plan, kit.tech.roles.as_slice(), lines, &mut gates)?;
+    Ok(LogicRow { gates, roles })
+}
+
+/// Adds the gates of the logic row, in their order; `lines` are those of the decoder.
+fn add_cells(
     alloc: Global,
-    kit: &Kit,
     plan: &Plan,
-    name: &Name,
-    subckt: &Subckt,
-    cell: &DrawnCell,
-) -> Result<Edges, Memory>
+    roles: &[RoleName],
+    lines: Vec<Instance>,
+    instances: &mut Vec<Instance>,
+) -> Result<(), Memory>
+    requires numbers { ArePlanNumbers (numbers_of plan.now) }
+    requires lines { lines.items ≡ map (logic_cell (organization plan.now) (cell_in roles.now)) (choice_gates plan.now.col_bits ++ groups_gates (organization plan.now).groups plan.now.col_bits) }
+    ensures { OnOk result (instances.new.items ≡ instances.old.items ++ map (logic_cell (organization plan.now) (cell_in roles.now)) (logic_cells (organization plan.now))) }
+{
+    let mut decoder = lines;
+    add_control(alloc, plan, roles, instances)?;
+    add_address(alloc, plan, roles, instances)?;
+    instances.append(&mut decoder)?;
+    add_data_latches(alloc, plan, roles, instances)?;
+    add_mask_latches(alloc, plan, roles, instances)?;
+    add_bank_choices(alloc, plan, roles, instances)?;
+    add_write_enable_gates(alloc, plan, roles, instances)?;
+    Ok(())
+}
+
+/// The width of the logic row, in nanometres: that of all its gates' cells.
+pub fn row_width(kit: &Kit, plan: &Plan, gates: &[Instance]) -> u32
     requires kit { IsKit kit.now }
     requires plan { ArePlanNumbers (numbers_of plan.now) }
-    requires subckt { subckt.now ≡ logic_row_subckt (organization plan.now) (cell_in kit.now.tech.roles) name.now }
-    requires cell { cell.now ≡ logic_row_cell (organization plan.now) (layout_kit kit.now) name.now }
-    ensures edges { IfOk result (AreEdgesOf (logic_pins kit.now (organization plan.now))) }
-    ensures width { IfOk result (λ edges. edges.width ≡ pos (logic_width (organization plan.now) (layout_kit kit.now))) }
-    ensures height { IfOk result (λ edges. edges.height ≡ pos (logic_height (layout_kit kit.now))) }
+    requires gates { gates.now ≡ logic_instances (organization plan.now) (cell_in kit.now.tech.roles) }
+    ensures is { result ≡ total_width (organization plan.now) (layout_kit kit.now) (logic_cells (organization plan.now)) }
+    ensures few { result ≤ 536870912 }
 {
-    let sides = sides_of(alloc, kit, plan, name)?;
-    let roles = logic_roles(alloc, plan)?;
-    let width = i64::from(sides.logic_width);
-    let height = i64::from(sides.inv_height);
-    edges_of(
-        alloc,
-        kit,
-        &roles,
-        subckt.instances.as_slice(),
-        cell.instances.as_slice(),
-        width,
-        height,
-    )
+    let mut width = 0;
+    let mut rest = gates;
+    while let Some((gate, others)) = rest.split_first() {
+        width += width_of_cell(kit, gate.of.as_bytes());
+        rest = others;
+    }
+    width
+}
+
+/// The sides of the leaf cells that stand in a memory's rows, and the width of its logic row, for a part that is built by
+/// itself.
+pub fn sides_of_memory(alloc: Global, kit: &Kit, plan: &Plan) -> Result<LeafSides, Memory>
+    requires kit { IsKit kit.now }
+    requires plan { ArePlanNumbers (numbers_of plan.now) }
+    ensures are { IfOk result AreLeafSides }
+    ensures of { IfOk result (AreSidesOf (organization plan.now) (layout_kit kit.now)) }
+    ensures few { IfOk result (λ sides. sides.logic_width ≤ 536870912) }
+{
+    let row = logic_row(alloc, kit, plan)?;
+    macro_cells::sides_of(alloc, kit, plan, row_width(kit, plan, &row.gates))
 }

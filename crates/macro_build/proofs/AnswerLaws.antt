@@ -19,6 +19,7 @@ use Rattle.port_lists.specs.Held.{Held}
 use Rattle.port_lists.specs.Held.Held.{Stored, Fixed}
 use Rattle.port_lists.proofs.NumberLaws.{banks_are, rows_are, words_are}
 use Rattle.sram_macro.specs.Leaves.{HasCellsFor, IsHeld}
+use Rattle.sram_macro.proofs.MemoryLaws.{memory_of}
 use Rattle.macro_build.specs.Memory.{AnswersFrom, AreFixedWords, FitsPlan}
 use Rattle.macro_build.specs.Verilog.{SpellsHeld, verilog_of}
 
@@ -52,11 +53,7 @@ words_for plan words numbers fit =
     }
 
 pub answers_from : RunsExist → RunsAnswerNumbers → RunsObey → RomsHoldWords → (plan : Plan) (held : Held) → ArePlanNumbers (numbers_of plan) → FitsPlan plan held → AnswersFrom (organization plan) held
-answers_from exist answer obey hold plan Stored numbers written = record {
-  runs = λ s cs. exist (organization plan) s cs numbers.plan written;
-  answers = λ s cs vs end. answer (organization plan) s cs vs end numbers.plan written;
-  obeys = λ s cs vs end. obey (organization plan) s cs vs end numbers.plan written;
-}
+answers_from exist answer obey hold plan Stored numbers written = memory_of exist answer obey plan numbers written
 answers_from exist answer obey hold plan (Fixed words) numbers fit = hold (organization plan) words (rom_plan plan words numbers fit) (words_for plan words numbers fit)
 
 pub spells_held : TextsAreMemories → RomTextsAreMemories → (plan : Plan) (held : Held) (name text : List ℕ) → ArePlanNumbers (numbers_of plan) → FitsPlan plan held → IsTrue (is_output_name name)

@@ -1,8 +1,6 @@
 -- What the checks of a macro find, and what that says.
-use Rattle.std.proofs.Common.{◌≡◌, ℕ, List, [], ◌∷◌, Option, None, Some, refl, sym, subst}
-use Rattle.std.specs.Prelude.{◌↔◌, IfSome, slice_get}
-use Rattle.or_geom.specs.declared.shape.Shape.{Shape}
-use Rattle.tech_rules.specs.declared.tech.Rule.{Rule}
+use Rattle.std.proofs.Common.{◌≡◌, ℕ, List, [], Option, None, Some, refl}
+use Rattle.std.specs.Prelude.{◌↔◌, IfSome}
 use Rattle.netlist.specs.declared.rows.RowPin.{RowPin}
 use Rattle.cell_hierarchy.specs.FlatLists.{AreFlatLists, IsFault}
 use Rattle.cell_hierarchy.specs.Plain.{FlatLists}
@@ -23,11 +21,7 @@ use Rattle.sram_macro.specs.declared.assembly.Macro.{Macro}
 use Rattle.sram_macro.specs.Macro.{IsMacro, IsMacroFault}
 use Rattle.macro_build.specs.Built.{AreNetsAndRows, IsChecked, IsSoundMacro, IsBuildFault, DiffersFirst}
 use Rattle.macro_build.specs.Causes.{of_part, of_flatten}
-use Rattle.macro_build.specs.Checks.{AreAllAlike, IsDiffering, IsFirstBroken, IsFirstDiffering}
-
-pub first_broken : (rules : List Rule) (shapes : List Shape) (list : List Violation) (found : Option Violation) → found ≡ slice_get list 0 → IsReport rules shapes list → IsFirstBroken rules shapes found
-first_broken rules shapes [] found is report = subst (IsFirstBroken rules shapes) (sym is) report
-first_broken rules shapes (v ∷ more) found is report = subst (IsFirstBroken rules shapes) (sym is) (more, report)
+use Rattle.macro_build.specs.Checks.{AreAllAlike, IsDiffering, IsFirstDiffering}
 
 pub first_differing : (kit : Kit) (held : Held) (name : List ℕ) (m : Macro) (lists : FlatLists) (labels : List NetLabel) (rows : List RowPin) (found : Option NetDiff) → AreNetsAndRows kit held name m lists labels rows
     → (found ≡ None) ↔ AreAlike labels rows → IfSome found (IsFirstDifference labels rows) → IsFirstDiffering kit held name m lists found

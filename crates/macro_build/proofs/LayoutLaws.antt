@@ -23,7 +23,7 @@ use Rattle.view_cover.specs.Cover.{LefCoversLayout}
 use Rattle.view_cover.proofs.BitLaws.{fixed_inside, stored_inside}
 use Rattle.macro_build.specs.Built.{IsSoundMacro}
 use Rattle.macro_build.specs.Written.{SpellCoveredLayout, SpellSoundLayout}
-use Rattle.macro_build.proofs.NetlistLaws.{netlist_of}
+use Rattle.sram_macro.proofs.MemoryLaws.{netlist_of}
 
 -- what the bytes spell is flat as the macro that was checked, which is the stated layout
 pub spells_sound : WritingKeepsFlat → MacrosAreStated → RowsEqualNetlist → (kit : Kit) (plan : Plan) (held : Held) (name : List ℕ) (m : Macro) (bytes : List ℕ) → IsKit kit → ArePlanNumbers (numbers_of plan) → IsHeld kit plan held → IsSoundMacro kit plan held name m

@@ -25,7 +25,7 @@ use sram_macro::Macro;
 use sram_plan::Plan;
 use std::alloc::Global;
 use std::thread::Threads;
-use tile_checker::{Gate, Violation, check_all, first_fault};
+use tile_checker::{Gate, Violation, first_violation};
 
 /// The flat shapes and labels of the macro, in the arena.
 fn flat_of<'b>(
@@ -67,8 +67,7 @@ fn broken_rule<'b, R: Threads + Sync, G: Gate + Sync>(
     requires at_most { workers ≤ 64 }
     ensures { IfOk result (IsFirstBroken kit.now.tech.rules flat.now.shapes.now) }
 {
-    let violations = check_all(rt, alloc, gate, &kit.tech, flat, bins, workers)?;
-    Ok(first_fault(&violations))
+    first_violation(rt, alloc, gate, &kit.tech, flat, bins, workers)
 }
 
 /// The first difference of the nets of a flat layout from the macro's netlist.

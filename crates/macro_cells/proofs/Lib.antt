@@ -1,6 +1,4 @@
 pub mod SideLaws
-mod PlaceLaws
-mod WidthLaws
-mod LogicLaws
+pub mod PlaceLaws
 pub mod DemandLaws
 pub mod UprightLaws

@@ -1,12 +1,12 @@
 -- Places in a row.
-use Rattle.std.proofs.Common.{◌≡◌, ℕ, ◌*◌, ◌<◌, ◌≤◌, pos, ℤ, List, ◌∷◌, [], ◌++◌, ap, sym, subst, le_trans, ◌∙◌, append_assoc, arith}
+use Rattle.std.proofs.Common.{◌≡◌, ℕ, zero, suc, ◌*◌, ◌<◌, ◌≤◌, pos, ℤ, List, ◌∷◌, [], ◌++◌, ap, sym, subst, le_trans, ◌∙◌, append_assoc, arith}
 use Rattle.std.proofs.lemmas.Nat.{mul-le}
 use Rattle.cell_builder.specs.declared.cell.PlacedInstance.{PlacedInstance}
 use Rattle.cell_builder.specs.declared.cell.DrawnCell.{DrawnCell}
 use Rattle.cell_builder.specs.Additions.{instance_at}
 use Rattle.sram_netlist.specs.Numbers.{PlanNumbers, ArePlanNumbers}
+use Rattle.sram_netlist.specs.Organization.{power_of_two}
 use Rattle.port_lists.proofs.NumberLaws.{columns_are, rows_are, banks_are}
-use Rattle.macro_cells.proofs.LogicLaws.{few_banks as few_bank_count}
 use Rattle.macro_layout.specs.Places.{upright}
 use Rattle.macro_layout.specs.Cells.{bare_cell}
 
@@ -24,8 +24,14 @@ few_columns n are = subst (λ (k : ℕ). k ≤ 256) (sym (columns_are n are)) ar
 pub few_rows : (n : PlanNumbers) → ArePlanNumbers n → n.rows ≤ 256
 few_rows n are = subst (λ (k : ℕ). k ≤ 256) (sym (rows_are n are)) are.plan.rows
 
+pub few_powers : (n : ℕ) → n ≤ 2 → power_of_two n ≤ 4
+few_powers zero few = omega arith
+few_powers (suc zero) few = omega arith
+few_powers (suc (suc zero)) few = omega arith
+few_powers (suc (suc (suc n))) few = absurd (omega (arith, few))
+
 pub few_banks : (n : PlanNumbers) → ArePlanNumbers n → n.banks ≤ 4
-few_banks n are = subst (λ (k : ℕ). k ≤ 4) (sym (banks_are n are)) (few_bank_count n.bank_bits are.plan.banks)
+few_banks n are = subst (λ (k : ℕ). k ≤ 4) (sym (banks_are n are)) (few_powers n.bank_bits are.plan.banks)
 
 -- the first column of a bit of the word
 pub few_before : (n : PlanNumbers) → ArePlanNumbers n → (bit : ℕ) → bit < n.word_size → bit * n.wpr ≤ 256

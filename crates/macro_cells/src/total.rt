@@ -4,37 +4,36 @@ ghost use Rattle.sram_netlist.specs.Netlist.{row_gate};
 ghost use Rattle.sram_netlist.specs.InstanceList.{logic_cells};
 ghost use Rattle.sram_netlist.specs.Numbers.{ArePlanNumbers};
 ghost use Rattle.sram_plan.specs.PlanNumbers.{numbers_of, organization};
-ghost use Rattle.sram_deck.specs.Deck.{logic_instances};
-ghost use Rattle.port_lists.specs.Cells.{cell_in};
 ghost use Rattle.macro_layout.specs.Floorplan.{column_role, write_height};
 ghost use Rattle.macro_layout.specs.Places.{total_width};
 ghost use Rattle.macro_wires.specs.Sides.{AreLeafSides, AreSidesOf};
 ghost use Rattle.macro_cells.specs.LayoutOfKit.{layout_kit};
 
-use crate::logic::width_of_cell;
 use crate::row::gate_of_row;
 use crate::sides::{leaf_height, leaf_width};
 use cell_roles::Role;
 use leaf_tables::Kit;
 use macro_wires::LeafSides;
-use netlist::Instance;
-use or_geom::{Memory, Name};
+use or_geom::Memory;
 use port_lists::groups_of;
 use sram_plan::Plan;
-use sram_subckts::logic_subckt;
 use std::alloc::Global;
 
-/// The sides of the leaf cells that stand in a memory's rows, and the width of its logic row.
-pub fn sides_of(alloc: Global, kit: &Kit, plan: &Plan, name: &Name) -> Result<LeafSides, Memory>
+/// The sides of the leaf cells that stand in a memory's rows, beside the width of its logic row, which is `logic_width`.
+pub fn sides_of(
+    alloc: Global,
+    kit: &Kit,
+    plan: &Plan,
+    logic_width: u32,
+) -> Result<LeafSides, Memory>
     requires kit { IsKit kit.now }
     requires plan { ArePlanNumbers (numbers_of plan.now) }
+    requires width { logic_width ≡ total_width (organization plan.now) (layout_kit kit.now) (logic_cells (organization plan.now)) }
     ensures are { IfOk result AreLeafSides }
     ensures of { IfOk result (AreSidesOf (organization plan.now) (layout_kit kit.now)) }
-    ensures few { IfOk result (λ sides. sides.logic_width ≤ 536870912) }
+    ensures same { IfOk result (λ sides. sides.logic_width ≡ logic_width) }
 {
     let groups = groups_of(alloc, plan)?;
-    let subckt = logic_subckt(alloc, plan, kit.tech.roles.as_slice(), name)?;
-    let logic_width = total_width(kit, plan, subckt.instances.as_slice());
     Ok(LeafSides {
         inv_height: leaf_height(kit, Role::Inv),
         write_height: write_height(kit, plan),
@@ -71,21 +70,4 @@ fn end_role(plan: &Plan) -> Role
     } else {
         Role::Mux
     }
-}
-
-/// The width of all cells of the logic row.
-fn total_width(kit: &Kit, plan: &Plan, gates: &[Instance]) -> u32
-    requires kit { IsKit kit.now }
-    requires plan { ArePlanNumbers (numbers_of plan.now) }
-    requires gates { gates.now ≡ logic_instances (organization plan.now) (cell_in kit.now.tech.roles) }
-    ensures is { result ≡ total_width (organization plan.now) (layout_kit kit.now) (logic_cells (organization plan.now)) }
-    ensures few { result ≤ 536870912 }
-{
-    let mut width = 0;
-    let mut rest = gates;
-    while let Some((gate, others)) = rest.split_first() {
-        width += width_of_cell(kit, gate.of.as_bytes());
-        rest = others;
-    }
-    width
 }

@@ -5,28 +5,30 @@ ghost use Rattle.leaf_tables.specs.Kits.{IsKit};
 ghost use Rattle.sram_netlist.specs.InstanceList.{tabulate};
 ghost use Rattle.sram_netlist.specs.Numbers.{ArePlanNumbers};
 ghost use Rattle.sram_plan.specs.PlanNumbers.{numbers_of, organization};
+ghost use Rattle.port_lists.specs.Cells.{cell_in};
 ghost use Rattle.macro_layout.specs.Channels.{ArePins, LeavesLeft};
 ghost use Rattle.macro_layout.specs.Pins.{main_nets};
 ghost use Rattle.macro_cells.specs.LayoutOfKit.{layout_kit};
+ghost use Rattle.control_logic.specs.LogicPart.{IsLogicRow};
 ghost use Rattle.macro_wires.specs.FloorplanNumbers.{IsNearFloorplan};
 ghost use Rattle.main_channel.specs.Formula.{main_exit};
 ghost use Rattle.main_channel.specs.Main.{IsNearMainChannel, IsMainChannelAcross, IsMainChannelByFormula};
 ghost use Rattle.main_channel.specs.Pins.{AreMainPins};
 
 use crate::bottom::add_row_pins;
-use crate::gates::{logic_gates, net_names, port_count};
+use crate::gates::{net_names, port_count};
 use crate::names::number_names;
 use crate::top::add_bank_pins;
 use cell_roles::Role;
 use channel_router::{Channel, ChannelPin};
-use control_logic::logic_roles;
+use control_logic::LogicRow;
 use leaf_tables::{Kit, leaf_of};
 use macro_wires::FloorplanNumbers;
 use or_geom::{Items, Memory};
 use sram_plan::Plan;
 use std::alloc::Global;
 
-/// The main channel of a macro: between its logic row and the banks. Its nets are the macro's signal
+/// The main channel of a macro: between its logic row, which is `row`, and the banks. Its nets are the macro's signal
 /// ports and then the outputs of the logic row. At its upper side stand the rails of each bank, the data and the enable of
 /// each write cell and the output of each sense cell; at its lower side the ports of the logic row but for supplies. Each
 /// signal port leaves it at the macro's left edge, where x is 0; lengths are nanometres. `Memory`; nothing is refused here:
@@ -35,10 +37,12 @@ pub fn main_channel(
     alloc: Global,
     kit: &Kit,
     plan: &Plan,
+    row: &LogicRow,
     floorplan: &FloorplanNumbers,
 ) -> Result<Channel, Memory>
     requires kit { IsKit kit.now }
     requires plan { ArePlanNumbers (numbers_of plan.now) }
+    requires row { IsLogicRow (organization plan.now) (cell_in kit.now.tech.roles) row.now }
     requires near { IsNearFloorplan floorplan.now }
     ensures channel { IfOk result IsChannel }
     ensures few { IfOk result (λ ch. ch.nets ≤ 4096) }
@@ -49,16 +53,14 @@ pub fn main_channel(
     ensures stated { IfOk result (IsMainChannelAcross kit.now (organization plan.now) floorplan.now) }
     ensures formula { IfOk result (IsMainChannelByFormula kit.now (organization plan.now) floorplan.now) }
 {
-    let gates = logic_gates(alloc, kit, plan)?;
-    let roles = logic_roles(alloc, plan)?;
-    let names = net_names(alloc, plan, &gates)?;
+    let names = net_names(alloc, plan, &row.gates)?;
     let numbers = number_names(alloc, &names)?;
     let ports = port_count(plan);
     let mut top = Vec::new(alloc);
     add_bank_pins(alloc, kit, plan, floorplan, &numbers, &mut top)?;
     let mut bottom = Vec::new(alloc);
     let left = floorplan.logic_x;
-    add_row_pins(kit, &numbers, &gates, &roles, left, &mut bottom)?;
+    add_row_pins(kit, &numbers, &row.gates, &row.roles, left, &mut bottom)?;
     Ok(Channel {
         low: leaf_of(kit, Role::Inv).height,
         top: Items::from_vec(top),

@@ -2,28 +2,13 @@ ghost use Rattle.std.specs.Prelude.{◌≡◌, ◌++◌, ◌≤◌, map, length,
 ghost use Rattle.sram_netlist.specs.Organization.{written_bits};
 ghost use Rattle.sram_netlist.specs.Numbers.{ArePlanNumbers};
 ghost use Rattle.sram_plan.specs.PlanNumbers.{numbers_of, organization};
-ghost use Rattle.sram_deck.specs.Deck.{logic_instances};
-ghost use Rattle.port_lists.specs.Cells.{cell_in};
 ghost use Rattle.main_channel.specs.Names.{output_name, AreGates, channel_names, port_count};
 
-use leaf_tables::Kit;
 use netlist::Instance;
-use or_geom::{Items, Memory, Name};
+use or_geom::{Memory, Name};
 use port_lists::NameList;
 use sram_plan::{Plan, inputs_of};
-use sram_subckts::logic_subckt;
 use std::alloc::Global;
-
-/// The cells of the logic row as the netlist has them.
-pub fn logic_gates(alloc: Global, kit: &Kit, plan: &Plan) -> Result<Items<Instance>, Memory>
-    requires { ArePlanNumbers (numbers_of plan.now) }
-    ensures { IfOk result (λ gates. gates ≡ logic_instances (organization plan.now) (cell_in kit.now.tech.roles)) }
-{
-    // The subcircuit's own name is in none of its instances.
-    let name = Name::from_bytes(alloc, b"macro")?;
-    let subckt = logic_subckt(alloc, plan, kit.tech.roles.as_slice(), &name)?;
-    Ok(subckt.instances)
-}
 
 /// How many signal ports the macro has.
 pub fn port_count(plan: &Plan) -> u32

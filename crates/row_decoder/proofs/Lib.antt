@@ -1,1 +1,3 @@
 pub mod TapLaws
+mod LineLaws
+pub mod KindLaws

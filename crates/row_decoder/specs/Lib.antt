@@ -1,1 +1,2 @@
 pub mod RowTaps
+pub mod Lines

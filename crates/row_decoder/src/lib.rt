@@ -1,8 +1,10 @@
 //! The row decoder of a memory: the gates of its column choices and predecode lines, and the taps of its rows.
 #![tactic(auto)]
 
+mod decoder;
 mod lines;
 mod rows;
 
-pub use lines::gates;
+pub use decoder::gates;
+pub use lines::{LineChoice, add_lines, gate_role};
 pub use rows::taps;

@@ -9,3 +9,4 @@ mod LabelFacts
 mod AssemblyLaws
 pub mod MainChannelLaws
 pub mod StatedLaws
+pub mod MemoryLaws

@@ -7,3 +7,4 @@ pub mod View
 pub mod Layout
 pub mod Macro
 pub mod Stated
+pub mod Memory

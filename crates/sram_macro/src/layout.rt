@@ -5,6 +5,7 @@ ghost use Rattle.tech_rules.specs.Facts.{AreSizes, IsWire};
 ghost use Rattle.leaf_tables.specs.Kits.{IsKit};
 ghost use Rattle.sram_netlist.specs.Numbers.{ArePlanNumbers};
 ghost use Rattle.sram_plan.specs.PlanNumbers.{numbers_of, organization};
+ghost use Rattle.port_lists.specs.Cells.{cell_in};
 ghost use Rattle.macro_layout.specs.LayoutKit.{LayoutKit};
 ghost use Rattle.macro_layout.specs.Floorplan.{Tracks, IsFloorplan};
 ghost use Rattle.macro_layout.specs.Wires.{IsPowerWire, IsGroundWire};
@@ -13,18 +14,20 @@ ghost use Rattle.macro_wires.specs.Sides.{AreLeafSides, AreSidesOf};
 ghost use Rattle.macro_wires.specs.FloorplanNumbers.{floorplan_of, IsNearFloorplan};
 ghost use Rattle.macro_wires.specs.Trunks.{IsBehind};
 ghost use Rattle.port_data.specs.Column.{IsColumnOf};
+ghost use Rattle.control_logic.specs.LogicPart.{IsLogicRow};
 ghost use Rattle.sram_macro.specs.Extents.{AreExtents, AreNearExtents};
 ghost use Rattle.sram_macro.specs.Layout.{IsMainRouted, IsMainFault, IsMacroLayout, IsMacroLayoutFault};
 
 use crate::extents::{Extents, extents_of};
 use bank_layout::bank_wires;
 use channel_router::{Routed, route};
+use control_logic::{LogicRow, row_width};
 use leaf_tables::{Kit, PartFault, wire_of};
 use macro_bounds::{routed_shapes_are_near, tracks_are_few};
 use macro_cells::sides_of;
 use macro_wires::{FloorplanNumbers, LeafSides, add_ground_wires, add_power_wires, floorplan};
 use main_channel::main_channel;
-use or_geom::{Memory, Name, Shape};
+use or_geom::{Memory, Shape};
 use sram_plan::Plan;
 use std::alloc::Global;
 use tech_rules::{RouteFault, Wire};
@@ -45,11 +48,13 @@ fn route_main(
     alloc: Global,
     kit: &Kit,
     plan: &Plan,
+    row: &LogicRow,
     wire: &Wire,
     floorplan: &FloorplanNumbers,
 ) -> Result<Routed, RouteFault>
     requires kit { IsKit kit.now }
     requires plan { ArePlanNumbers (numbers_of plan.now) }
+    requires row { IsLogicRow (organization plan.now) (cell_in kit.now.tech.roles) row.now }
     requires wire { IsWire kit.now.tech.layers wire.now }
     requires wired { kit.now.tech.wire ≡ Some wire.now }
     requires near { IsNearFloorplan floorplan.now }
@@ -57,7 +62,7 @@ fn route_main(
     ensures routed { IfOk result (IsMainRouted (organization plan.now) (layout_kit kit.now) wire.now) }
     ensures fault { IfErr result (IsMainFault (organization plan.now) (layout_kit kit.now) wire.now) }
 {
-    let channel = main_channel(alloc, kit, plan, floorplan)?;
+    let channel = main_channel(alloc, kit, plan, row, floorplan)?;
     // The channel has at most as many tracks as nets, by this law.
     tracks_are_few();
     route(alloc, &channel, wire)
@@ -75,24 +80,25 @@ fn tracks_of(main: &Result<Routed, RouteFault>) -> u32
     }
 }
 
-/// Lays the macro out around a routed column channel. A bank is refused before the main channel.
+/// Lays the macro out around a routed column channel and its logic row. A bank is refused before the main channel.
 pub fn lay_out(
     alloc: Global,
     kit: &Kit,
     plan: &Plan,
-    name: &Name,
+    row: &LogicRow,
     column: &Routed,
 ) -> Result<Layout, PartFault>
     requires kit { IsKit kit.now }
     requires plan { ArePlanNumbers (numbers_of plan.now) }
+    requires row { IsLogicRow (organization plan.now) (cell_in kit.now.tech.roles) row.now }
     requires column { IsColumnOf kit.now (organization plan.now) column.now }
     ensures layout { IfOk result (IsMacroLayout kit.now (organization plan.now) column.now) }
     ensures fault { IfErr result (IsMacroLayoutFault kit.now (organization plan.now) column.now) }
 {
     let wire = wire_of(kit);
-    let sides = sides_of(alloc, kit, plan, name)?;
+    let sides = sides_of(alloc, kit, plan, row_width(kit, plan, &row.gates))?;
     let begun = floorplan(plan, &sides, wire, 0, column.tracks);
-    let main = route_main(alloc, kit, plan, wire, &begun);
+    let main = route_main(alloc, kit, plan, row, wire, &begun);
     let stands = floorplan(plan, &sides, wire, tracks_of(&main), column.tracks);
     // The column channel lies near the origin, by this law.
     routed_shapes_are_near();

@@ -1,5 +1,1 @@
 pub mod SubcktLaws
-pub mod ControlLaws
-pub mod LineLaws
-pub mod KindLaws
-pub mod EnableLaws

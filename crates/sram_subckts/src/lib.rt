@@ -1,13 +1,9 @@
-//! Makes the subcircuits of a memory: its rows, the array, the precharge, the data, a bank, the logic row and the macro.
+//! Makes the subcircuits of a memory but for its logic row: its rows, the array, the precharge, the data, a bank and the macro.
 #![tactic(auto)]
 
 mod array;
 mod bank;
-mod control;
 mod data;
-mod decoder;
-mod enables;
-mod lines;
 mod logic;
 mod row;
 mod top;
@@ -15,7 +11,6 @@ mod top;
 pub use array::{array_subckt, precharge_subckt};
 pub use bank::bank_subckt;
 pub use data::data_subckt;
-pub use decoder::{add_column_lines, add_group_lines};
-pub use logic::logic_subckt;
+pub use logic::logic_port_list;
 pub use row::{row_gate_role, row_subckt};
 pub use top::macro_subckt;

@@ -4,7 +4,7 @@ use Rattle.spice_netlist.specs.Faults.{AreFlatRows, IsFlatFault}
 use Rattle.port_lists.specs.Held.{held_of}
 use Rattle.sram_macro.specs.Leaves.{leaf_names}
 use Rattle.macro_build.specs.Built.{all_subckts}
-use Rattle.macro_build.proofs.NetlistLaws.{netlist_of}
+use Rattle.sram_macro.proofs.MemoryLaws.{netlist_of}
 use Rattle.macro_build.proofs.rows.rows_of.Goals as goal
 
 pub returns-in-Ok : goal.returns-in-Ok

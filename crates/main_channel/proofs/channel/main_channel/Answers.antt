@@ -25,25 +25,25 @@ use Rattle.main_channel.proofs.ChannelLaws.{sides_are, outputs_there, is_channel
 use Rattle.main_channel.proofs.channel.main_channel.Goals as goal
 
 pub net_names-requires-clause-gates : goal.net_names-requires-clause-gates
-net_names-requires-clause-gates c = are_gates (organization c.args.plan.now) (cell_in c.args.kit.now.tech.roles) c.deref.result.now (c.deref.ensures ∙ c.in_ok-gates.ensures)
+net_names-requires-clause-gates c = are_gates (organization c.args.plan.now) (cell_in c.args.kit.now.tech.roles) c.deref.result.now (c.deref.ensures.value ∙ c.requires.row.gates)
 
 pub number_names-requires : goal.number_names-requires
 number_names-requires c =
     let plan = organization c.args.plan.now in
     let named = ap length (c.deref-2.ensures.value ∙ c.in_ok-names.ensures) in
     let sized = names_sized plan c.deref.result.now in
-    let gates = gates_sized plan (cell_in c.args.kit.now.tech.roles) c.deref.result.now (c.deref.ensures ∙ c.in_ok-gates.ensures) in
+    let gates = gates_sized plan (cell_in c.args.kit.now.tech.roles) c.deref.result.now (c.deref.ensures.value ∙ c.requires.row.gates) in
     let cells = few_cells plan c.requires.plan.plan in
     let ports = few_ports plan c.requires.plan.plan in
     omega (arith, named, sized, gates, cells, ports)
 
 pub add_row_pins-requires-clause-fit : goal.add_row_pins-requires-clause-fit
-add_row_pins-requires-clause-fit c = fit_roles (organization c.args.plan.now) (cell_in c.args.kit.now.tech.roles) c.deref-3.result.now c.deref-4.result.now c.requires.plan.plan (c.deref-3.ensures ∙ c.in_ok-gates.ensures) (c.deref-4.ensures.value ∙ c.in_ok-roles.ensures)
+add_row_pins-requires-clause-fit c = fit_roles (organization c.args.plan.now) (cell_in c.args.kit.now.tech.roles) c.deref-3.result.now c.deref-4.result.now c.requires.plan.plan (c.deref-3.ensures.value ∙ c.requires.row.gates) (c.deref-4.ensures.value ∙ c.requires.row.roles)
 
 pub add_row_pins-requires-clause-few : goal.add_row_pins-requires-clause-few
 add_row_pins-requires-clause-few c =
     let plan = organization c.args.plan.now in
-    let gates = gates_sized plan (cell_in c.args.kit.now.tech.roles) c.deref-3.result.now (c.deref-3.ensures ∙ c.in_ok-gates.ensures) in
+    let gates = gates_sized plan (cell_in c.args.kit.now.tech.roles) c.deref-3.result.now (c.deref-3.ensures.value ∙ c.requires.row.gates) in
     let cells = few_cells plan c.requires.plan.plan in
     omega (arith, gates, cells)
 
@@ -53,7 +53,7 @@ overflow_cast-result c =
     let count = c.len.ensures in
     let named = ap length c.in_ok-names.ensures in
     let sized = names_sized plan c.deref.result.now in
-    let gates = gates_sized plan (cell_in c.args.kit.now.tech.roles) c.deref.result.now (c.deref.ensures ∙ c.in_ok-gates.ensures) in
+    let gates = gates_sized plan (cell_in c.args.kit.now.tech.roles) c.deref.result.now (c.deref.ensures.value ∙ c.requires.row.gates) in
     let cells = few_cells plan c.requires.plan.plan in
     let ports = few_ports plan c.requires.plan.plan in
     omega (arith, count, named, sized, gates, cells, ports)
@@ -64,12 +64,12 @@ returns-clause-channel c =
     let plan = organization c.args.plan.now in
     let built = c.requires.plan.plan in
     let cell = cell_in kit.tech.roles in
-    let gates_are = c.deref-3.ensures ∙ c.in_ok-gates.ensures in
+    let gates_are = c.deref-3.ensures.value ∙ c.requires.row.gates in
     let long = c.len.ensures in
     let same = ap length c.deref-2.ensures.value in
     let count : c.len.result ≡ length c.deref-2.result.now = omega (arith, long, same) in
-    let named = (c.deref-2.ensures.value ∙ c.in_ok-names.ensures) ∙ ap (channel_names plan) (c.deref.ensures ∙ sym c.deref-3.ensures) in
-    let looked : (name : List ℕ) → found_number c.in_ok-numbers.numbers name ≡ main_number plan name = λ name. c.in_ok-numbers.ensures name ∙ ap (λ (l : List (List ℕ)). index_of l name) (c.deref-2.ensures.value ∙ (c.in_ok-names.ensures ∙ (ap (channel_names plan) (c.deref.ensures ∙ c.in_ok-gates.ensures) ∙ channel_named plan cell))) in
+    let named = (c.deref-2.ensures.value ∙ c.in_ok-names.ensures) ∙ ap (channel_names plan) (c.deref.ensures.value ∙ sym c.deref-3.ensures.value) in
+    let looked : (name : List ℕ) → found_number c.in_ok-numbers.numbers name ≡ main_number plan name = λ name. c.in_ok-numbers.ensures name ∙ ap (λ (l : List (List ℕ)). index_of l name) (c.deref-2.ensures.value ∙ (c.in_ok-names.ensures ∙ (ap (channel_names plan) (c.deref.ensures.value ∙ c.requires.row.gates) ∙ channel_named plan cell))) in
     let a = c.requires.near.logic_x.above in
     let b = c.requires.near.logic_x.below in
     let begins : to_z w64 (of_z w64 c.args.floorplan.now.logic_x) ≡ c.args.floorplan.now.logic_x = omega (arith, ints, a, b) in
@@ -78,7 +78,7 @@ returns-clause-channel c =
     let ports : c.port_count-ports.result ≡ length (port_nets plan) = omega (arith, port, counted) in
     let floorplan = floorplan_of c.args.floorplan.now in
     let bottom = bottom_formula kit c.requires.kit plan built floorplan (found_number c.in_ok-numbers.numbers) c.deref-3.result.now c.deref-4.result.now _ _ _ _ looked c.new-bottom.ensures.items c.in_ok-add_row_pins.ensures.is c.from_vec-2.ensures gates_are
-    (c.deref-4.ensures.value ∙ c.in_ok-roles.ensures) begins in
+    (c.deref-4.ensures.value ∙ c.requires.row.roles) begins in
     let outputs = outputs_there _ (main_bottom plan (layout_kit kit) floorplan) c.port_count-ports.result (length (port_nets plan)) (length c.deref-3.result.now) (length (logic_cells plan)) bottom ports (gates_sized plan cell c.deref-3.result.now gates_are) (main_outputs plan built (layout_kit kit) floorplan) in
     let sides = sides_are c.len.result c.port_count-ports.result (found_number c.in_ok-numbers.numbers) c.deref-2.result.now c.deref-3.result.now plan _ _ _ _ _ _ _ count named port c.in_ok-numbers.ensures
     c.new-top.ensures.items c.in_ok-add_bank_pins.ensures.main c.from_vec.ensures c.new-bottom.ensures.items c.in_ok-add_row_pins.ensures.main c.from_vec-2.ensures outputs c.in_ok-exits.ensures.main
@@ -91,7 +91,7 @@ returns-clause-few c =
     let count = c.len.ensures in
     let named = ap length c.in_ok-names.ensures in
     let sized = names_sized plan c.deref.result.now in
-    let gates = gates_sized plan (cell_in c.args.kit.now.tech.roles) c.deref.result.now (c.deref.ensures ∙ c.in_ok-gates.ensures) in
+    let gates = gates_sized plan (cell_in c.args.kit.now.tech.roles) c.deref.result.now (c.deref.ensures.value ∙ c.requires.row.gates) in
     let cells = few_cells plan c.requires.plan.plan in
     let ports = few_ports plan c.requires.plan.plan in
     omega (arith, count, named, sized, gates, cells, ports)
@@ -102,12 +102,12 @@ returns-clause-near c =
     let plan = organization c.args.plan.now in
     let built = c.requires.plan.plan in
     let cell = cell_in kit.tech.roles in
-    let gates_are = c.deref-3.ensures ∙ c.in_ok-gates.ensures in
+    let gates_are = c.deref-3.ensures.value ∙ c.requires.row.gates in
     let long = c.len.ensures in
     let same = ap length c.deref-2.ensures.value in
     let count : c.len.result ≡ length c.deref-2.result.now = omega (arith, long, same) in
-    let named = (c.deref-2.ensures.value ∙ c.in_ok-names.ensures) ∙ ap (channel_names plan) (c.deref.ensures ∙ sym c.deref-3.ensures) in
-    let looked : (name : List ℕ) → found_number c.in_ok-numbers.numbers name ≡ main_number plan name = λ name. c.in_ok-numbers.ensures name ∙ ap (λ (l : List (List ℕ)). index_of l name) (c.deref-2.ensures.value ∙ (c.in_ok-names.ensures ∙ (ap (channel_names plan) (c.deref.ensures ∙ c.in_ok-gates.ensures) ∙ channel_named plan cell))) in
+    let named = (c.deref-2.ensures.value ∙ c.in_ok-names.ensures) ∙ ap (channel_names plan) (c.deref.ensures.value ∙ sym c.deref-3.ensures.value) in
+    let looked : (name : List ℕ) → found_number c.in_ok-numbers.numbers name ≡ main_number plan name = λ name. c.in_ok-numbers.ensures name ∙ ap (λ (l : List (List ℕ)). index_of l name) (c.deref-2.ensures.value ∙ (c.in_ok-names.ensures ∙ (ap (channel_names plan) (c.deref.ensures.value ∙ c.requires.row.gates) ∙ channel_named plan cell))) in
     let a = c.requires.near.logic_x.above in
     let b = c.requires.near.logic_x.below in
     let begins : to_z w64 (of_z w64 c.args.floorplan.now.logic_x) ≡ c.args.floorplan.now.logic_x = omega (arith, ints, a, b) in
@@ -116,7 +116,7 @@ returns-clause-near c =
     let ports : c.port_count-ports.result ≡ length (port_nets plan) = omega (arith, port, counted) in
     let floorplan = floorplan_of c.args.floorplan.now in
     let bottom = bottom_formula kit c.requires.kit plan built floorplan (found_number c.in_ok-numbers.numbers) c.deref-3.result.now c.deref-4.result.now _ _ _ _ looked c.new-bottom.ensures.items c.in_ok-add_row_pins.ensures.is c.from_vec-2.ensures gates_are
-    (c.deref-4.ensures.value ∙ c.in_ok-roles.ensures) begins in
+    (c.deref-4.ensures.value ∙ c.requires.row.roles) begins in
     let outputs = outputs_there _ (main_bottom plan (layout_kit kit) floorplan) c.port_count-ports.result (length (port_nets plan)) (length c.deref-3.result.now) (length (logic_cells plan)) bottom ports (gates_sized plan cell c.deref-3.result.now gates_are) (main_outputs plan built (layout_kit kit) floorplan) in
     let sides = sides_are c.len.result c.port_count-ports.result (found_number c.in_ok-numbers.numbers) c.deref-2.result.now c.deref-3.result.now plan _ _ _ _ _ _ _ count named port c.in_ok-numbers.ensures
     c.new-top.ensures.items c.in_ok-add_bank_pins.ensures.main c.from_vec.ensures c.new-bottom.ensures.items c.in_ok-add_row_pins.ensures.main c.from_vec-2.ensures outputs c.in_ok-exits.ensures.main
@@ -132,7 +132,7 @@ returns-clause-nets c =
     let count = c.len.ensures in
     let named = ap length c.in_ok-names.ensures in
     let sized = names_sized plan c.deref.result.now in
-    let gates = gates_sized plan (cell_in c.args.kit.now.tech.roles) c.deref.result.now (c.deref.ensures ∙ c.in_ok-gates.ensures) in
+    let gates = gates_sized plan (cell_in c.args.kit.now.tech.roles) c.deref.result.now (c.deref.ensures.value ∙ c.requires.row.gates) in
     let counted = nets_counted plan in
     omega (arith, count, named, sized, gates, counted)
 
@@ -149,12 +149,12 @@ returns-clause-formula c = λ wire floorplan wired across.
     let plan = organization c.args.plan.now in
     let built = c.requires.plan.plan in
     let cell = cell_in kit.tech.roles in
-    let gates_are = c.deref-3.ensures ∙ c.in_ok-gates.ensures in
+    let gates_are = c.deref-3.ensures.value ∙ c.requires.row.gates in
     let long = c.len.ensures in
     let same = ap length c.deref-2.ensures.value in
     let count : c.len.result ≡ length c.deref-2.result.now = omega (arith, long, same) in
-    let named = (c.deref-2.ensures.value ∙ c.in_ok-names.ensures) ∙ ap (channel_names plan) (c.deref.ensures ∙ sym c.deref-3.ensures) in
-    let looked : (name : List ℕ) → found_number c.in_ok-numbers.numbers name ≡ main_number plan name = λ name. c.in_ok-numbers.ensures name ∙ ap (λ (l : List (List ℕ)). index_of l name) (c.deref-2.ensures.value ∙ (c.in_ok-names.ensures ∙ (ap (channel_names plan) (c.deref.ensures ∙ c.in_ok-gates.ensures) ∙ channel_named plan cell))) in
+    let named = (c.deref-2.ensures.value ∙ c.in_ok-names.ensures) ∙ ap (channel_names plan) (c.deref.ensures.value ∙ sym c.deref-3.ensures.value) in
+    let looked : (name : List ℕ) → found_number c.in_ok-numbers.numbers name ≡ main_number plan name = λ name. c.in_ok-numbers.ensures name ∙ ap (λ (l : List (List ℕ)). index_of l name) (c.deref-2.ensures.value ∙ (c.in_ok-names.ensures ∙ (ap (channel_names plan) (c.deref.ensures.value ∙ c.requires.row.gates) ∙ channel_named plan cell))) in
     let a = c.requires.near.logic_x.above in
     let b = c.requires.near.logic_x.below in
     let begins : to_z w64 (of_z w64 c.args.floorplan.now.logic_x) ≡ c.args.floorplan.now.logic_x = omega (arith, ints, a, b) in
@@ -164,14 +164,14 @@ returns-clause-formula c = λ wire floorplan wired across.
     let count = c.len.ensures in
     let sized = names_sized plan c.deref.result.now in
     let long = ap length c.in_ok-names.ensures in
-    let gates = gates_sized plan cell c.deref.result.now (c.deref.ensures ∙ c.in_ok-gates.ensures) in
+    let gates = gates_sized plan cell c.deref.result.now (c.deref.ensures.value ∙ c.requires.row.gates) in
     let all_nets = nets_counted plan in
     let nets : c.len.result ≡ length (main_nets plan) = omega (arith, count, long, sized, gates, all_nets) in
     same_channel plan (layout_kit kit) wire floorplan _ _ _ _ _ (height_is kit Inv c.leaf_of.result.now c.leaf_of.ensures.is c.leaf_of.ensures.near.height)
     (top_formula kit c.requires.kit plan wire floorplan (found_number c.in_ok-numbers.numbers) c.args.floorplan.now.row_x c.args.floorplan.now.bank_width c.args.plan.now.banks _ _ _ looked c.new-top.ensures.items
     (c.in_ok-add_bank_pins.ensures.is wire wired) c.from_vec.ensures (banks_are (numbers_of c.args.plan.now) c.requires.plan) (sym across.row_x) (sym across.bank_width))
     (bottom_formula kit c.requires.kit plan built floorplan (found_number c.in_ok-numbers.numbers) c.deref-3.result.now c.deref-4.result.now _ _ _ _ looked c.new-bottom.ensures.items c.in_ok-add_row_pins.ensures.is c.from_vec-2.ensures gates_are
-    (c.deref-4.ensures.value ∙ c.in_ok-roles.ensures) (begins ∙ sym across.logic_x)) (c.in_ok-exits.ensures.is ∙ ap (λ (n : ℕ). tabulate n main_exit) ports) nets
+    (c.deref-4.ensures.value ∙ c.requires.row.roles) (begins ∙ sym across.logic_x)) (c.in_ok-exits.ensures.is ∙ ap (λ (n : ℕ). tabulate n main_exit) ports) nets
 
 pub returns-clause-stated : goal.returns-clause-stated
 returns-clause-stated c = λ wire floorplan wired across.

@@ -14,6 +14,6 @@ returns-clause-writable c =
     let kit = layout_kit c.args.kit.now in
     let n = c.args.name.now in
     let held = held_of c.args.contents in
-    let d = drawing_with (macro_bits c.args.kit.now c.args.plan.now held) c.args.floorplan.now c.args.wires in
+    let d = drawing_with (macro_bits c.args.kit.now c.args.plan.now held) c.args.frame.now.floorplan c.args.wires in
     c.macro_libraries_are_writable.ensures.writable c.args.kit.now.tech.layers (macro_list c.args.kit.now plan n d) c.in_ok-library.field-0 plan kit n d c.in_ok-library.ensures refl
     (free_structures c.args.kit.now (names_of_macro c.args.kit.now c.args.plan.now held n) c.requires.kit c.requires.free) c.requires.plan.plan (small_kit c.args.kit.now c.requires.kit) (c.output_names_are_short.ensures n c.requires.name) c.requires.drawing

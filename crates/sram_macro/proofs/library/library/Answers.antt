@@ -17,20 +17,20 @@ use Rattle.sram_macro.proofs.library.library.Goals as goal
 pub draw-requires : goal.draw-requires
 draw-requires c =
     let bits = macro_bits c.args.kit.now c.args.plan.now (held_of c.args.contents) in
-    let few = few_parts c.args.kit.now (organization c.args.plan.now) bits c.args.name.now (floorplan_of c.args.floorplan.now) _ c.requires.plan.plan c.in_ok-draw_parts.ensures.cells in
+    let few = few_parts c.args.kit.now (organization c.args.plan.now) bits c.args.name.now (floorplan_of c.args.frame.now.floorplan) _ c.requires.plan.plan c.in_ok-draw_parts.ensures.cells in
     record { few = omega (arith, few) }
 
 pub draw-requires-2 : goal.draw-requires-2
 draw-requires-2 c =
     let bits = macro_bits c.args.kit.now c.args.plan.now (held_of c.args.contents) in
-    let few = few_parts c.args.kit.now (organization c.args.plan.now) bits c.args.name.now (floorplan_of c.args.floorplan.now) _ c.requires.plan.plan c.in_ok-draw_parts.ensures.cells in
+    let few = few_parts c.args.kit.now (organization c.args.plan.now) bits c.args.name.now (floorplan_of c.args.frame.now.floorplan) _ c.requires.plan.plan c.in_ok-draw_parts.ensures.cells in
     let one = one_longer _ _ _ 259 c.in_ok-draw.ensures.ok few in
     record { few = omega (arith, one) }
 
 pub draw-requires-3 : goal.draw-requires-3
 draw-requires-3 c =
     let bits = macro_bits c.args.kit.now c.args.plan.now (held_of c.args.contents) in
-    let few = few_parts c.args.kit.now (organization c.args.plan.now) bits c.args.name.now (floorplan_of c.args.floorplan.now) _ c.requires.plan.plan c.in_ok-draw_parts.ensures.cells in
+    let few = few_parts c.args.kit.now (organization c.args.plan.now) bits c.args.name.now (floorplan_of c.args.frame.now.floorplan) _ c.requires.plan.plan c.in_ok-draw_parts.ensures.cells in
     let one = one_longer _ _ _ 259 c.in_ok-draw.ensures.ok few in
     let two = one_longer _ _ _ 260 c.in_ok-draw-2.ensures.ok one in
     record { few = omega (arith, two) }
@@ -40,25 +40,25 @@ finish-requires c =
     let plan = organization c.args.plan.now in
     let kit = layout_kit c.args.kit.now in
     let n = c.args.name.now in
-    let fl = floorplan_of c.args.floorplan.now in
+    let fl = floorplan_of c.args.frame.now.floorplan in
     let bits = macro_bits c.args.kit.now c.args.plan.now (held_of c.args.contents) in
     let parts = part_cells c.args.kit.now plan bits n fl in
-    let d = drawing_with bits c.args.floorplan.now c.args.wires in
+    let d = drawing_with bits c.args.frame.now.floorplan c.args.wires in
     let cells =
     three_more parts _ _ _ _ _ _ _ (bank_cell plan kit fl n d.bank_wires) (logic_row_cell plan kit n) (macro_cell plan fl n d.wires d.labels) c.in_ok-draw_parts.ensures.cells c.in_ok-draw.ensures.ok c.in_ok-draw-2.ensures.ok c.in_ok-draw-3.ensures.ok
     (c.in_ok-bank_cell.ensures plan kit c.requires.of) c.in_ok-logic_row_cell.ensures c.in_ok-macro_cell.ensures
     ∙ all_cells c.args.kit.now plan n d in
-    record { layers = subst (AllByRecursion (HasLayers c.args.kit.now.tech.layers)) (sym cells) (on_layers c.args.kit.now.tech.layers c.args.kit.now plan n bits c.args.floorplan.now c.args.wires c.requires.layers) }
+    record { layers = subst (AllByRecursion (HasLayers c.args.kit.now.tech.layers)) (sym cells) (on_layers c.args.kit.now.tech.layers c.args.kit.now plan n bits c.args.frame.now.floorplan c.args.wires c.requires.layers) }
 
 pub returns : goal.returns
 returns c =
     let plan = organization c.args.plan.now in
     let kit = layout_kit c.args.kit.now in
     let n = c.args.name.now in
-    let fl = floorplan_of c.args.floorplan.now in
+    let fl = floorplan_of c.args.frame.now.floorplan in
     let bits = macro_bits c.args.kit.now c.args.plan.now (held_of c.args.contents) in
     let parts = part_cells c.args.kit.now plan bits n fl in
-    let d = drawing_with bits c.args.floorplan.now c.args.wires in
+    let d = drawing_with bits c.args.frame.now.floorplan c.args.wires in
     let cells =
     three_more parts _ _ _ _ _ _ _ (bank_cell plan kit fl n d.bank_wires) (logic_row_cell plan kit n) (macro_cell plan fl n d.wires d.labels) c.in_ok-draw_parts.ensures.cells c.in_ok-draw.ensures.ok c.in_ok-draw-2.ensures.ok c.in_ok-draw-3.ensures.ok
     (c.in_ok-bank_cell.ensures plan kit c.requires.of) c.in_ok-logic_row_cell.ensures c.in_ok-macro_cell.ensures

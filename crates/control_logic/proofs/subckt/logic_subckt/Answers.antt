@@ -1,0 +1,6 @@
+-- The name, the ports and the instances are those that are stated.
+use Rattle.sram_subckts.proofs.SubcktLaws.{made_same}
+use Rattle.control_logic.proofs.subckt.logic_subckt.Goals as goal
+
+pub returns : goal.returns
+returns c = made_same c.subckt_of.result _ _ _ _ _ _ c.subckt_of.ensures c.in_ok-part_name.ensures c.in_ok-ports.ensures c.requires.gates

@@ -1,0 +1,276 @@
+ghost use Rattle.std.specs.Prelude.{◌≡◌, ◌++◌, ◌≤◌, map, length, IfOk, OnOk};
+ghost use Rattle.sram_netlist.specs.Organization.{power_of_two};
+ghost use Rattle.sram_netlist.specs.Netlist.{enable_inputs, enables_of, bank_input, mask_input};
+ghost use Rattle.sram_netlist.specs.Names.{net_name};
+ghost use Rattle.sram_netlist.specs.Instances.{Gn, Gi};
+ghost use Rattle.sram_netlist.specs.InstanceList.{tabulate_lists, bank_cells, banks_cells, enable_gates, enable_cells};
+ghost use Rattle.sram_netlist.specs.Numbers.{ArePlanNumbers};
+ghost use Rattle.sram_plan.specs.PlanNumbers.{numbers_of, organization};
+ghost use Rattle.sram_deck.specs.Deck.{logic_cell};
+ghost use Rattle.port_lists.specs.Cells.{cell_in};
+ghost use Rattle.control_logic.specs.BankGates.{bank_word_line_gates, bank_sense_gates};
+
+use cell_roles::Role;
+use netlist::Instance;
+use or_geom::{Memory, Name};
+use port_lists::{NameList, Spelling, add_gate, cell_of, enables_of, spell};
+use row_decoder::{LineChoice, add_lines, gate_role};
+use sram_plan::Plan;
+use std::alloc::Global;
+use tech_rules::RoleName;
+
+/// The gates of a bank's word line enable.
+fn add_bank_word_line(
+    alloc: Global,
+    roles: &[RoleName],
+    bank: u32,
+    instances: &mut Vec<Instance>,
+) -> Result<(), Memory>
+    ensures { OnOk result (instances.new.items ≡ instances.old.items ++ bank_word_line_gates (cell_in roles.now) bank) }
+{
+    let complement = [
+        Spelling::Word(b"wlen"),
+        Spelling::Numbered(b"e", bank),
+        Spelling::Numbered(b"lb", bank),
+    ];
+    add_gate(
+        alloc,
+        roles,
+        Role::Nand2,
+        Spelling::Numbered(b"xln", bank),
+        &complement,
+        instances,
+    )?;
+    let enable = [
+        Spelling::Numbered(b"lb", bank),
+        Spelling::Numbered(b"wlen", bank),
+    ];
+    add_gate(
+        alloc,
+        roles,
+        Role::Inv,
+        Spelling::Numbered(b"xli", bank),
+        &enable,
+        instances,
+    )
+}
+
+/// The gates of a bank's sense enable.
+fn add_bank_sense(
+    alloc: Global,
+    roles: &[RoleName],
+    bank: u32,
+    instances: &mut Vec<Instance>,
+) -> Result<(), Memory>
+    ensures { OnOk result (instances.new.items ≡ instances.old.items ++ bank_sense_gates (cell_in roles.now) bank) }
+{
+    let complement = [
+        Spelling::Word(b"sen"),
+        Spelling::Numbered(b"e", bank),
+        Spelling::Numbered(b"kb", bank),
+    ];
+    add_gate(
+        alloc,
+        roles,
+        Role::Nand2,
+        Spelling::Numbered(b"xkn", bank),
+        &complement,
+        instances,
+    )?;
+    let enable = [
+        Spelling::Numbered(b"kb", bank),
+        Spelling::Numbered(b"sen", bank),
+    ];
+    add_gate(
+        alloc,
+        roles,
+        Role::Inv,
+        Spelling::Numbered(b"xki", bank),
+        &enable,
+        instances,
+    )
+}
+
+/// The gates of the word line and sense enables of each bank.
+fn add_bank_enables(
+    alloc: Global,
+    plan: &Plan,
+    roles: &[RoleName],
+    instances: &mut Vec<Instance>,
+) -> Result<(), Memory>
+    requires { ArePlanNumbers (numbers_of plan.now) }
+    ensures { OnOk result (instances.new.items ≡ instances.old.items ++ map (logic_cell (organization plan.now) (cell_in roles.now)) (tabulate_lists (power_of_two plan.now.bank_bits) bank_cells)) }
+{
+    for bank in 0..plan.banks {
+        add_bank_word_line(alloc, roles, bank, instances)?;
+        add_bank_sense(alloc, roles, bank, instances)?;
+    }
+    Ok(())
+}
+
+/// The gates of the bank choices and of each bank's enables, where there are several banks.
+pub fn add_bank_choices(
+    alloc: Global,
+    plan: &Plan,
+    roles: &[RoleName],
+    instances: &mut Vec<Instance>,
+) -> Result<(), Memory>
+    requires { ArePlanNumbers (numbers_of plan.now) }
+    ensures { OnOk result (instances.new.items ≡ instances.old.items ++ map (logic_cell (organization plan.now) (cell_in roles.now)) (banks_cells (organization plan.now) plan.now.bank_bits)) }
+{
+    if plan.bank_bits == 0 {
+        return Ok(());
+    }
+    let low = plan.addr_bits - plan.bank_bits;
+    add_lines(
+        alloc,
+        plan,
+        roles,
+        LineChoice::Bank,
+        low,
+        plan.bank_bits,
+        instances,
+    )?;
+    add_bank_enables(alloc, plan, roles, instances)?;
+    Ok(())
+}
+
+/// The inputs of the gate of a write enable: the macro's write enable, then the bank where there are several, then the mask
+/// where there are masks. Answers how many they are.
+fn add_enable_inputs(nodes: &mut NameList, plan: &Plan, bank: u32, mask: u32) -> Result<u32, Memory>
+    requires { ArePlanNumbers (numbers_of plan.now) }
+    ensures nodes { IfOk result (λ _. nodes.new ≡ nodes.old ++ map (net_name (organization plan.now)) (enable_inputs (organization plan.now) bank mask)) }
+    ensures count { IfOk result (λ inputs. inputs ≡ length (enable_inputs (organization plan.now) bank mask)) }
+{
+    nodes.add(Spelling::Word(b"wen"))?;
+    let banks = add_bank_input(nodes, plan, bank)?;
+    let masks = add_mask_input(nodes, plan, mask)?;
+    Ok(1 + banks + masks)
+}
+
+/// The bank's line where there are several banks.
+fn add_bank_input(nodes: &mut NameList, plan: &Plan, bank: u32) -> Result<u32, Memory>
+    requires { ArePlanNumbers (numbers_of plan.now) }
+    ensures nodes { IfOk result (λ _. nodes.new ≡ nodes.old ++ map (net_name (organization plan.now)) (bank_input (organization plan.now) plan.now.bank_bits bank)) }
+    ensures count { IfOk result (λ inputs. inputs ≡ length (bank_input (organization plan.now) plan.now.bank_bits bank)) }
+    ensures few { IfOk result (λ inputs. inputs ≤ 1) }
+{
+    if plan.bank_bits == 0 {
+        return Ok(0);
+    }
+    nodes.add(Spelling::Numbered(b"e", bank))?;
+    Ok(1)
+}
+
+/// The mask bit where there are masks.
+fn add_mask_input(nodes: &mut NameList, plan: &Plan, mask: u32) -> Result<u32, Memory>
+    ensures nodes { IfOk result (λ _. nodes.new ≡ nodes.old ++ map (net_name (organization plan.now)) (mask_input plan.now.masks mask)) }
+    ensures count { IfOk result (λ inputs. inputs ≡ length (mask_input plan.now.masks mask)) }
+    ensures few { IfOk result (λ inputs. inputs ≤ 1) }
+{
+    if plan.masks == 0 {
+        return Ok(0);
+    }
+    nodes.add(Spelling::Numbered(b"m", mask))?;
+    Ok(1)
+}
+
+/// The gate of a bank's write enable for a mask, which makes its complement.
+fn enable_gate(
+    alloc: Global,
+    plan: &Plan,
+    roles: &[RoleName],
+    bank: u32,
+    mask: u32,
+) -> Result<Instance, Memory>
+    requires { ArePlanNumbers (numbers_of plan.now) }
+    ensures { IfOk result (λ i. i ≡ logic_cell (organization plan.now) (cell_in roles.now) (Gn bank mask)) }
+{
+    let mut nodes = NameList::new(alloc);
+    let inputs = add_enable_inputs(&mut nodes, plan, bank, mask)?;
+    nodes.add(Spelling::NumberedTwice(b"wx", bank, mask))?;
+    nodes.add_supplies()?;
+    Ok(Instance {
+        name: spell(alloc, Spelling::NumberedTwice(b"xgn", bank, mask))?,
+        nodes: nodes.into_items(),
+        of: Name::from_bytes(alloc, cell_of(roles, gate_role(inputs)))?,
+    })
+}
+
+/// The gate of a bank's write enable for a mask, and its inverter.
+fn add_enable(
+    alloc: Global,
+    plan: &Plan,
+    roles: &[RoleName],
+    bank: u32,
+    mask: u32,
+    instances: &mut Vec<Instance>,
+) -> Result<(), Memory>
+    requires { ArePlanNumbers (numbers_of plan.now) }
+    ensures { OnOk result (instances.new.items ≡ instances.old.items ++ map (logic_cell (organization plan.now) (cell_in roles.now)) (enable_gates bank mask)) }
+{
+    instances.push(enable_gate(alloc, plan, roles, bank, mask)?)?;
+    let nodes = [
+        Spelling::NumberedTwice(b"wx", bank, mask),
+        Spelling::NumberedTwice(b"we", bank, mask),
+    ];
+    add_gate(
+        alloc,
+        roles,
+        Role::Inv,
+        Spelling::NumberedTwice(b"xgi", bank, mask),
+        &nodes,
+        instances,
+    )?;
+    Ok(())
+}
+
+/// The gates of a bank's write enables.
+fn add_enables_of(
+    alloc: Global,
+    plan: &Plan,
+    roles: &[RoleName],
+    bank: u32,
+    instances: &mut Vec<Instance>,
+) -> Result<(), Memory>
+    requires { ArePlanNumbers (numbers_of plan.now) }
+    ensures { OnOk result (instances.new.items ≡ instances.old.items ++ map (logic_cell (organization plan.now) (cell_in roles.now)) (tabulate_lists (enables_of (organization plan.now)) (enable_gates bank))) }
+{
+    for mask in 0..enables_of(plan) {
+        add_enable(alloc, plan, roles, bank, mask, instances)?;
+    }
+    Ok(())
+}
+
+/// The gates of the write enables of all banks.
+fn add_enables_of_banks(
+    alloc: Global,
+    plan: &Plan,
+    roles: &[RoleName],
+    instances: &mut Vec<Instance>,
+) -> Result<(), Memory>
+    requires { ArePlanNumbers (numbers_of plan.now) }
+    ensures { OnOk result (instances.new.items ≡ instances.old.items ++ map (logic_cell (organization plan.now) (cell_in roles.now)) (tabulate_lists (power_of_two plan.now.bank_bits) (λ bank. tabulate_lists (enables_of (organization plan.now)) (enable_gates bank)))) }
+{
+    for bank in 0..plan.banks {
+        add_enables_of(alloc, plan, roles, bank, instances)?;
+    }
+    Ok(())
+}
+
+/// The gates of the write enables, where there are several banks or masks.
+pub fn add_write_enable_gates(
+    alloc: Global,
+    plan: &Plan,
+    roles: &[RoleName],
+    instances: &mut Vec<Instance>,
+) -> Result<(), Memory>
+    requires { ArePlanNumbers (numbers_of plan.now) }
+    ensures { OnOk result (instances.new.items ≡ instances.old.items ++ map (logic_cell (organization plan.now) (cell_in roles.now)) (enable_cells plan.now.bank_bits plan.now.masks (enables_of (organization plan.now)))) }
+{
+    if plan.bank_bits == 0 && plan.masks == 0 {
+        return Ok(());
+    }
+    add_enables_of_banks(alloc, plan, roles, instances)?;
+    Ok(())
+}
