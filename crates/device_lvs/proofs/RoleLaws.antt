@@ -1,13 +1,18 @@
 -- Roles one after another: the first fault, and the first difference.
 use Rattle.std.proofs.Common.{◌≡◌, ◌≢◌, inl, inr, ℕ, ◌+◌, ◌<◌, ◌≤◌, ◌==◌, Bool, true, false, List, [], length, Option, None, Some, Result, Ok, Err, IfErr, refl, sym, ap, subst, ◌∙◌, arith}
 use Rattle.std.specs.Prelude.{Contains, slice_get}
+use Rattle.std.specs.List.{find}
 use Rattle.std.specs.Option.{option_or}
+use Rattle.std.specs.Str.{bytes_eq}
 use Rattle.std.proofs.lemmas.Option.{same_Some, slice_get_within, slice_get-get_or}
 use Rattle.or_geom.proofs.ListLaws.{below_or, one_at}
 use Rattle.netlist.specs.declared.deck.Subckt.{Subckt}
+use Rattle.spice_text.specs.Words.{lower}
 use Rattle.tech_rules.specs.declared.tech.RoleName.{RoleName}
 use Rattle.tech_rules.specs.declared.tech.Tech.{Tech}
+use Rattle.cell_hierarchy.specs.FlatLists.{AreFlatLists}
 use Rattle.cell_hierarchy.specs.Plain.{FlatLists}
+use Rattle.device_entries.specs.declared.entry.DeviceEntry.{DeviceEntry}
 use Rattle.drawn_devices.specs.declared.drawn.DrawnDevices.{DrawnDevices}
 use Rattle.drawn_devices.specs.Drawn.{AreDrawnDevices}
 use Rattle.device_lvs.specs.declared.difference.DeviceDiff.{DeviceDiff}
@@ -15,10 +20,10 @@ use Rattle.device_lvs.specs.declared.fault.DeviceFault.{DeviceFault}
 use Rattle.device_lvs.specs.declared.fault.DeviceFault.TheVariants.{NoDevices, Flatten, UnknownSubckt, Nested, BadDevice, Memory}
 use Rattle.device_lvs.specs.Answer.{HasPair, IsRoleAlike, AllBefore, AllRoles, IsDeviceFault, IsDeviceAnswer}
 use Rattle.device_lvs.specs.CompareSteps.{AreComparedAs}
-use Rattle.device_lvs.specs.Difference.{CellPair}
+use Rattle.device_lvs.specs.Difference.{CellPair, IsAlike}
 use Rattle.device_lvs.specs.EntrySteps.{HaveDevices}
-use Rattle.device_lvs.specs.Roles.{LeafFiles, subckt_of, IsFlat, IsPairOf, IsListFault, IsFaultOfRole}
-use Rattle.device_lvs.specs.RoleSteps.{IsRoleComparedAs, AreComparedBelow, IsFirstBelow, IsFlattenFault, IsPlainFault}
+use Rattle.device_lvs.specs.Roles.{LeafFiles, subckt_of, AreListedEntries, IsFlat, IsPairOf, IsListFault, IsFaultOfRole}
+use Rattle.device_lvs.specs.RoleSteps.{HasEarlierCell, IsRoleComparedAs, AreComparedBelow, IsFirstBelow, IsFlattenFault, IsPlainFault}
 
 pub have_devices : (tech : Tech) (lists : FlatLists) (drawn : DrawnDevices) → AreDrawnDevices tech lists.shapes lists.labels drawn → HaveDevices tech.devices drawn.channels
 have_devices tech lists drawn are = λ channel there. let of = are.each channel there in slice_get_within tech.devices channel.device of.device of.there
@@ -71,6 +76,54 @@ compared_more files place entry None (Some difference) here so_far one = (
   all_more files (HasPair files) place entry here (pairs_below files place None so_far) (has_pair files entry (Some difference) one),
   record { place = place; below = omega arith; entry = entry; there = here; is = one; before = so_far },
 )
+
+-- Roles that have one cell
+
+listed_again : (subckts : List Subckt) (other entry : RoleName) (listed : List DeviceEntry) → other.cell ≡ entry.cell → AreListedEntries subckts other listed → AreListedEntries subckts entry listed
+listed_again subckts other entry listed same are = record {
+  subckt = are.subckt;
+  there = subst (λ (cell : List ℕ). find (λ (subckt : Subckt). bytes_eq subckt.name (lower cell)) subckts ≡ Some are.subckt) same are.there;
+  plain = are.plain;
+  lines = are.lines;
+}
+
+-- what is compared of the one, under the name of the other
+abbrev pub renamed : CellPair → RoleName → CellPair
+renamed c entry = record { role = entry.role; devices = c.devices; drawn = c.drawn; listed = c.listed }
+
+pair_again : (files : LeafFiles) (other entry : RoleName) (c : CellPair) → other.cell ≡ entry.cell → IsPairOf files other c → IsPairOf files entry (renamed c entry)
+pair_again files other entry c same of = record {
+  role = refl;
+  devices = of.devices;
+  lists = of.lists;
+  flat = subst (λ (cell : List ℕ). AreFlatLists files.tech.layers files.structs cell of.lists) same of.flat;
+  drawn = of.drawn;
+  listed = listed_again files.subckts other entry c.listed same of.listed;
+}
+
+alike_again : (c : CellPair) (entry : RoleName) → IsAlike c → IsAlike (renamed c entry)
+alike_again c entry is =
+    let apart = is.comparable.apart in
+    let whole = apart.whole in
+    record {
+      comparable = record { apart = record { whole = record { sound = whole.sound; split = whole.split }; joined = apart.joined }; named = is.comparable.named };
+      entries = is.entries;
+      are = is.are;
+      even = is.even;
+    }
+
+-- a role more whose cell an earlier one has
+pub compared_again : (files : LeafFiles) (place : ℕ) (first : Option DeviceDiff) → HasEarlierCell files.tech.roles place → AreComparedBelow files place first → AreComparedBelow files (place + 1) first
+compared_again files place None again alike =
+    let a = alike again.earlier again.other again.before again.there in
+    all_more files (IsRoleAlike files) place again.entry again.here alike (renamed a.0 again.entry, pair_again files again.other again.entry a.0 again.cell a.1, alike_again a.0 again.entry a.2)
+compared_again files place (Some difference) again found =
+    let a = found.0 again.earlier again.other again.before again.there in
+    let f = found.1 in
+    let below = f.below in (
+      all_more files (HasPair files) place again.entry again.here found.0 (renamed a.0 again.entry, pair_again files again.other again.entry a.0 again.cell a.1),
+      record { place = f.place; below = omega (arith, below); entry = f.entry; there = f.there; is = f.is; before = f.before },
+    )
 
 all_roles : (files : LeafFiles) (P : RoleName → Type 0) (bound : ℕ) → length files.tech.roles ≤ bound → AllBefore files P bound → AllRoles files P
 all_roles files P bound past all = λ place entry there. let inside = slice_get_within files.tech.roles place entry there in all place entry (omega (arith, inside, past)) there

@@ -48,6 +48,16 @@ abbrev pub AreComparedBelow : LeafFiles → ℕ → Option DeviceDiff → Type 0
 AreComparedBelow files bound None = AllBefore files (IsRoleAlike files) bound
 AreComparedBelow files bound (Some difference) = AllBefore files (HasPair files) bound × IsFirstBelow files bound difference
 
+-- an earlier role has the cell of the role at the place
+pub record HasEarlierCell (roles : List RoleName) (place : ℕ) : Type 0 where
+  pub earlier : ℕ
+  pub before : earlier < place
+  pub other : RoleName
+  pub there : slice_get roles earlier ≡ Some other
+  pub entry : RoleName
+  pub here : slice_get roles place ≡ Some entry
+  pub cell : other.cell ≡ entry.cell
+
 -- a fault of flattening the cell
 abbrev pub IsFlattenFault : List Layer → List Structure → List ℕ → DeviceFault → Type 0
 IsFlattenFault layers structs cell (device_fault.Flatten fault) = (fault ≢ flatten_fault.Memory) × IsFault layers structs cell fault

@@ -1,9 +1,9 @@
-ghost use Rattle.std.specs.Prelude.{◌≡◌, IfOk, IfErr};
+ghost use Rattle.std.specs.Prelude.{◌≡◌, ◌↔◌, ◌<◌, IfOk, IfErr, IsTrue, length};
 ghost use Rattle.std.specs.Option.{option_or};
 ghost use Rattle.gds_library.specs.Writable.{IsWritable};
 ghost use Rattle.tech_rules.specs.Facts.{IsTech};
 ghost use Rattle.device_lvs.specs.Answer.{IsDeviceAnswer, IsDeviceFault};
-ghost use Rattle.device_lvs.specs.RoleSteps.{leaf_files};
+ghost use Rattle.device_lvs.specs.RoleSteps.{leaf_files, HasEarlierCell};
 
 use crate::difference::DeviceDiff;
 use crate::fault::DeviceFault;
@@ -11,7 +11,7 @@ use crate::role::role_difference;
 use gds_library::Library;
 use netlist::Deck;
 use std::alloc::Global;
-use tech_rules::Tech;
+use tech_rules::{RoleName, Tech};
 
 /// The first of two differences.
 fn earlier(first: Option<DeviceDiff>, found: Option<DeviceDiff>) -> Option<DeviceDiff>
@@ -21,6 +21,26 @@ fn earlier(first: Option<DeviceDiff>, found: Option<DeviceDiff>) -> Option<Devic
         Some(difference) => Some(difference),
         None => found,
     }
+}
+
+/// Whether two roles have one cell.
+fn have_one_cell(role: &RoleName, other: &RoleName) -> bool
+    ensures { IsTrue result ↔ (role.now.cell ≡ other.now.cell) }
+{
+    role.cell.is(other.cell.as_bytes())
+}
+
+/// Whether an earlier role has the cell of the role at the place.
+fn has_earlier_cell(roles: &[RoleName], place: usize) -> bool
+    requires { place < length roles.now }
+    ensures { IsTrue result → HasEarlierCell roles.now place }
+{
+    for earlier in 0..place {
+        if have_one_cell(&roles[earlier], &roles[place]) {
+            return true;
+        }
+    }
+    false
 }
 
 /// What the cells of a technology's roles draw otherwise than their subcircuits say, if anything: the first difference, by
@@ -43,6 +63,10 @@ pub fn devices(
     let mut first = None;
     let roles = tech.roles.as_slice();
     for place in 0..roles.len() {
+        // A cell that several roles have is looked at for the first of them, and differs for that one if it differs.
+        if has_earlier_cell(roles, place) {
+            continue;
+        }
         let found = role_difference(alloc, tech, lib, deck, &roles[place])?;
         first = earlier(first, found);
     }

@@ -39,7 +39,7 @@ all_push P [] y all one = (one, tt)
 all_push P (x ∷ xs) y all one = (all.0, all_push P xs y all.1 one)
 
 -- something behind all of a list in order
-sorted_push : {X : Type 0} (cmp : X → X → Ordering) (xs : List X) (y : X) → IsStrictlySortedBy cmp xs → ((x : X) → Contains xs x → cmp x y ≡ Less) → IsStrictlySortedBy cmp (xs ++ y ∷ [])
+pub sorted_push : {X : Type 0} (cmp : X → X → Ordering) (xs : List X) (y : X) → IsStrictlySortedBy cmp xs → ((x : X) → Contains xs x → cmp x y ≡ Less) → IsStrictlySortedBy cmp (xs ++ y ∷ [])
 unfolding IsStrictlySortedBy
 sorted_push cmp [] y rise less = (tt, tt)
 sorted_push {X} cmp (x ∷ xs) y rise less = (all_push (λ (z : X). cmp x z ≡ Less) xs y rise.0 (less x (contains_first x xs)), sorted_push cmp xs y rise.1 (λ z h. less z (contains_later x xs z h)))
@@ -49,10 +49,10 @@ nat_less x y Less is lt = refl
 nat_less x y Equal is lt = let e : x ≡ y = ranked x y Equal (sym is) in absurd (omega (arith, lt, e))
 nat_less x y Greater is lt = let gt : y < x = ranked x y Greater (sym is) in absurd (omega (arith, lt, gt))
 
-by_device : (a b : Channel) → a.device < b.device → channel_order a b ≡ Less
+pub by_device : (a b : Channel) → a.device < b.device → channel_order a b ≡ Less
 by_device a b lt = subst (λ (o : Ordering). ordering_then o (point_order a.least b.least) ≡ Less) (sym (nat_less a.device b.device (nat_cmp a.device b.device) refl lt)) refl
 
-by_least : (a b : Channel) → a.device ≡ b.device → point_order a.least b.least ≡ Less → channel_order a b ≡ Less
+pub by_least : (a b : Channel) → a.device ≡ b.device → point_order a.least b.least ≡ Less → channel_order a b ≡ Less
 by_least a b same less =
     let tied : nat_cmp a.device b.device ≡ Equal = subst (λ (k : ℕ). nat_cmp a.device k ≡ Equal) same (tied_itself nat_cmp_total a.device) in
     subst (λ (o : Ordering). ordering_then o (point_order a.least b.least) ≡ Less) (sym tied) less

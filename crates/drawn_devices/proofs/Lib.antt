@@ -16,3 +16,4 @@ mod BoxLaws
 mod TerminalLaws
 mod NameLaws
 mod DeviceLaws
+mod SameLayerLaws

@@ -19,3 +19,4 @@ pub mod Numbers
 pub mod Ends
 pub mod Drawn
 pub mod DrawnChannels
+pub mod SameLayers

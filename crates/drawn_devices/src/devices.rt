@@ -11,6 +11,7 @@ use crate::channels::channel_groups;
 use crate::cut_cell::{CutCell, cut_cell};
 use crate::drawn::{Channel, DrawnDevices};
 use crate::names::names_of;
+use crate::same_layers::{add_same_channels, earlier_alike};
 use crate::terminals::terminals_of;
 use bumpalo::Bump;
 use cell_hierarchy::Flat;
@@ -52,8 +53,8 @@ fn channel_of(
     })
 }
 
-/// Adds the channels of one device.
-fn add_channels(
+/// Adds the channels of one device, found by its layers.
+fn add_own_channels(
     alloc: Global,
     cell: &CutCell,
     index: u16,
@@ -71,6 +72,25 @@ fn add_channels(
         out.push(channel_of(alloc, cell, index, device, boxes.as_slice())?)?;
     }
     Ok(())
+}
+
+/// Adds the channels of one device.
+fn add_channels(
+    alloc: Global,
+    cell: &CutCell,
+    index: u16,
+    out: &mut Items<Channel>,
+) -> Result<(), Memory>
+    requires cut { IsCutCell cell.now }
+    requires near { AreReachable cell.now.shapes.now }
+    requires inside { index < length cell.now.tech.now.devices }
+    requires first { AreFirstChannels cell.now index out.old }
+    ensures { OnOk result (AreFirstChannels cell.now (index + 1) out.new) }
+{
+    match earlier_alike(cell.tech.devices.as_slice(), index) {
+        Some(earlier) => add_same_channels(cell, earlier, index, out),
+        None => add_own_channels(alloc, cell, index, out),
+    }
 }
 
 /// The channels of all devices.

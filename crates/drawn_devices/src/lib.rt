@@ -13,6 +13,7 @@ mod gates;
 mod groups;
 mod laws;
 mod names;
+mod same_layers;
 mod sides;
 mod terminals;
 

@@ -24,24 +24,41 @@ use Rattle.leaf_contacts.proofs.FarLaws.{moved_once, shares_overlap}
 use Rattle.cell_hierarchy.specs.FlatSet.{IsMoved}
 use Rattle.leaf_contacts.specs.declared.stand.Stand.{Stand}
 use Rattle.leaf_contacts.specs.declared.stand.ReferenceStep.{ReferenceStep}
-use Rattle.leaf_contacts.specs.Marks.{AreEntriesIn, IsContactOf, IsListedElsewhere, IsNearOnLayers, IsTouchedElsewhere, ShapeEntry, TouchesElsewhere, shape_entry}
+use Rattle.leaf_contacts.specs.Marks.{AreEntriesIn, IsContactOf, IsLayerAdded, IsListedElsewhere, IsNearOnLayers, IsTouchedElsewhere, ShapeEntry, MayTouch, TouchesElsewhere, shape_entry}
 
 -- the places on layer after layer
-pub near_none : (shapes : List Shape) (shape : Shape) (places : List ℕ) → Adds places places (IsNearOnLayers shapes shape 0)
-near_none shapes shape places = adds_none places (IsNearOnLayers shapes shape 0) (λ place near. let below = near.below in absurd (omega (arith, below)))
+pub near_none : (connections : List Connect) (shapes : List Shape) (shape : Shape) (places : List ℕ) → Adds places places (IsNearOnLayers connections shapes shape 0)
+near_none connections shapes shape places = adds_none places (IsNearOnLayers connections shapes shape 0) (λ place near. let below = near.below in absurd (omega (arith, below)))
 
-pub near_more : (shapes : List Shape) (shape : Shape) (layer : ℕ) (old mid new : List ℕ) → Adds old mid (IsNearOnLayers shapes shape layer) → Adds mid new (IsNearShape shapes layer shape.rect) → Adds old new (IsNearOnLayers shapes shape (layer + 1))
-near_more shapes shape layer old mid new before here =
-    adds_as old new (λ place. IsNearOnLayers shapes shape layer place ⊎ IsNearShape shapes layer shape.rect place) (IsNearOnLayers shapes shape (layer + 1))
+near_here : (connections : List Connect) (shapes : List Shape) (shape : Shape) (layer : ℕ) (old mid new : List ℕ) → MayTouch connections shape.layer layer → Adds old mid (IsNearOnLayers connections shapes shape layer) → Adds mid new (IsNearShape shapes layer shape.rect)
+    → Adds old new (IsNearOnLayers connections shapes shape (layer + 1))
+near_here connections shapes shape layer old mid new touching before here =
+    adds_as old new (λ place. IsNearOnLayers connections shapes shape layer place ⊎ IsNearShape shapes layer shape.rect place) (IsNearOnLayers connections shapes shape (layer + 1))
     (λ place h. elim h [
-      | inl n ↦ let below = n.below in record { layer = n.layer; below = omega (arith, below); near = n.near }
-      | inr n ↦ record { layer = layer; below = omega arith; near = n }
+      | inl n ↦ let below = n.below in record { layer = n.layer; below = omega (arith, below); touching = n.touching; near = n.near }
+      | inr n ↦ record { layer = layer; below = omega arith; touching = touching; near = n }
     ])
     (λ place n. elim (cases_lt n.layer layer) [
-      | inl less ↦ inl (record { layer = n.layer; below = less; near = n.near })
+      | inl less ↦ inl (record { layer = n.layer; below = less; touching = n.touching; near = n.near })
       | inr ge ↦ let below = n.below in let e : n.layer ≡ layer = omega (arith, below, ge) in inr (subst (λ (k : ℕ). IsNearShape shapes k shape.rect place) e n.near)
     ])
-    (adds_both old mid new (IsNearOnLayers shapes shape layer) (IsNearShape shapes layer shape.rect) before here)
+    (adds_both old mid new (IsNearOnLayers connections shapes shape layer) (IsNearShape shapes layer shape.rect) before here)
+
+near_elsewhere : (connections : List Connect) (shapes : List Shape) (shape : Shape) (layer : ℕ) (old new : List ℕ) → (MayTouch connections shape.layer layer → ⊥) → Adds old new (IsNearOnLayers connections shapes shape layer)
+    → Adds old new (IsNearOnLayers connections shapes shape (layer + 1))
+near_elsewhere connections shapes shape layer old new apart before =
+    adds_as old new (IsNearOnLayers connections shapes shape layer) (IsNearOnLayers connections shapes shape (layer + 1))
+    (λ place n. let below = n.below in record { layer = n.layer; below = omega (arith, below); touching = n.touching; near = n.near })
+    (λ place n. elim (cases_lt n.layer layer) [
+      | inl less ↦ record { layer = n.layer; below = less; touching = n.touching; near = n.near }
+      | inr ge ↦ let below = n.below in let e : n.layer ≡ layer = omega (arith, below, ge) in absurd (apart (subst (λ (k : ℕ). MayTouch connections shape.layer k) e n.touching))
+    ])
+    before
+
+pub near_more : (connections : List Connect) (shapes : List Shape) (shape : Shape) (layer : ℕ) (old mid new : List ℕ) → Adds old mid (IsNearOnLayers connections shapes shape layer) → IsLayerAdded connections shapes shape layer mid new
+    → Adds old new (IsNearOnLayers connections shapes shape (layer + 1))
+near_more connections shapes shape layer old mid new before (inl here) = near_here connections shapes shape layer old mid new here.0 before here.1
+near_more connections shapes shape layer old mid new before (inr none) = subst (λ (l : List ℕ). Adds old l (IsNearOnLayers connections shapes shape (layer + 1))) (sym none.1) (near_elsewhere connections shapes shape layer old mid none.0 before)
 
 joined_meet : (a b : Rect) → AreJoined a b → Meet b a
 joined_meet a b j =
@@ -70,28 +87,37 @@ touching_meets connections shape other (inl (inr (inl by))) = shared_meet shape.
 touching_meets connections shape other (inl (inr (inr by))) = meet_back shape.rect other.rect (shared_meet other.rect shape.rect by.area)
 touching_meets connections shape other (inr same) = subst (λ (t : Shape). Meet t.rect shape.rect) same (itself_meets shape.rect)
 
+-- and its layer is one on which it may
+pub touching_may : (connections : List Connect) (shape other : Shape) → Touch connections shape other ⊎ (shape ≡ other) → MayTouch connections shape.layer other.layer
+touching_may connections shape other (inl (inl on)) = inl on.one_layer
+touching_may connections shape other (inl (inr (inl by))) = inr (inl by.connects)
+touching_may connections shape other (inl (inr (inr by))) = inr (inr by.connects)
+touching_may connections shape other (inr same) = inl (ap (λ (s : Shape). s.layer) same)
+
 -- each of the places is one of a shape
-pub near_within : (shapes : List Shape) (shape : Shape) (layers : ℕ) (none places list : List ℕ) (place : ℕ) → none ≡ [] → list ≡ places → Adds none places (IsNearOnLayers shapes shape layers) → Contains list place → place < length shapes
-near_within shapes shape layers none places list place empty same adds h =
+pub near_within : (connections : List Connect) (shapes : List Shape) (shape : Shape) (layers : ℕ) (none places list : List ℕ) (place : ℕ) → none ≡ [] → list ≡ places → Adds none places (IsNearOnLayers connections shapes shape layers) → Contains list place → place < length shapes
+near_within connections shapes shape layers none places list place empty same adds h =
     let all : places ≡ adds.added = adds.is ∙ ap (λ (l : List ℕ). l ++ adds.added) empty in
     let n = adds.only place (subst (λ (l : List ℕ). Contains l place) (same ∙ all) h) in
     slice_get_within shapes place n.near.shape n.near.there
 
 -- a shape elsewhere is touched exactly where one at the places nearby is
-pub touched_nearby : (connections : List Connect) (shapes : List Shape) (entries : List ShapeEntry) (shape : Shape) (instance : List ReferenceStep) (layers count : ℕ) (none places list : List ℕ) → none ≡ [] → list ≡ places → layers ≡ count → AreEntriesIn count shapes entries
-    → Adds none places (IsNearOnLayers shapes shape layers) → SomeHas (IsTouchedElsewhere connections shapes entries shape instance) list ↔ TouchesElsewhere connections entries shape instance
-touched_nearby connections shapes entries shape instance layers count none places list empty same counted in_layout adds = (
+pub touched_nearby : (connections given : List Connect) (shapes : List Shape) (entries : List ShapeEntry) (shape : Shape) (instance : List ReferenceStep) (layers count : ℕ) (none places list : List ℕ) → none ≡ [] → list ≡ places → layers ≡ count → given ≡ connections → AreEntriesIn count shapes entries
+    → Adds none places (IsNearOnLayers given shapes shape layers) → SomeHas (IsTouchedElsewhere connections shapes entries shape instance) list ↔ TouchesElsewhere connections entries shape instance
+touched_nearby connections given shapes entries shape instance layers count none places list empty same counted one in_layout given_adds = (
   (λ some.
       let w = who_has (IsTouchedElsewhere connections shapes entries shape instance) list some in
       record { other = w.2.other; elsewhere = w.2.elsewhere; touch = w.2.touch }),
   (λ t.
+      let adds = subst (λ (l : List Connect). Adds none places (IsNearOnLayers l shapes shape layers)) one given_adds in
       let all : places ≡ adds.added = adds.is ∙ ap (λ (l : List ℕ). l ++ adds.added) empty in
       let listed = in_layout.listed (shape_entry t.other t.elsewhere.other) t.elsewhere.listed in
       let inside = listed.1 in
       let there : slice_get shapes listed.0 ≡ Some t.other = slice_get_read shapes _ listed.0 t.other refl inside (sym listed.2) in
-      let near : IsNearOnLayers shapes shape layers listed.0 = record {
+      let near : IsNearOnLayers connections shapes shape layers listed.0 = record {
         layer = t.other.layer;
         below = subst (λ (n : ℕ). t.other.layer < n) (sym counted) (in_layout.on (shape_entry t.other t.elsewhere.other) t.elsewhere.listed);
+        touching = touching_may connections shape t.other t.touch;
         near = record { shape = t.other; there = there; on = refl; fits = touching_meets connections shape t.other t.touch };
       } in
       some_has (IsTouchedElsewhere connections shapes entries shape instance) list listed.0 (subst (λ (l : List ℕ). Contains l listed.0) (sym (same ∙ all)) (adds.each listed.0 near))

@@ -2,11 +2,12 @@
 use Rattle.std.specs.Prelude.{◌≡◌, ◌≢◌, ◌⊎◌, ℕ, ◌<◌, ◌^◌, List, length, Contains, Option, Some, slice_get, true, false, MatchOption}
 use Rattle.std.specs.Option.{option_copied}
 use Rattle.or_geom.specs.declared.shape.Shape.{Shape}
+use Rattle.or_geom.specs.Adds.{Adds}
 use Rattle.or_geom.specs.Place.{IsWithin}
 use Rattle.or_geom.specs.Reachable.{AreReachable}
 use Rattle.shape_bins.specs.Hits.{IsNearShape}
 use Rattle.tech_rules.specs.declared.tech.Connect.{Connect}
-use Rattle.tech_rules.specs.Touch.{Touch}
+use Rattle.tech_rules.specs.Touch.{IsCutTo, Touch}
 use Rattle.or_geom.specs.Gathering.{SomeHas}
 use Rattle.leaf_nets.specs.declared.leaves.LooseLeaf.{LooseLeaf}
 use Rattle.leaf_contacts.specs.declared.contact.MarkedLayout.{MarkedLayout}
@@ -136,8 +137,17 @@ pub record AreLayoutEntries (layout : MarkedLayout) (entries : List ShapeEntry) 
 abbrev pub AreNearLeaves : List LooseLeaf → Type 0
 AreNearLeaves leaves = (leaf : LooseLeaf) → Contains leaves leaf → AreReachable leaf.shapes
 
--- the shape at this place is on one of the first layers, and its closed box meets that of the shape
-pub record IsNearOnLayers (shapes : List Shape) (shape : Shape) (layers : ℕ) (place : ℕ) : Type 0 where
+-- shapes on these layers may touch, or be one: it is one layer, or the one is a cut that connects the other
+abbrev pub MayTouch : List Connect → ℕ → ℕ → Type 0
+MayTouch connections layer other = (layer ≡ other) ⊎ (IsCutTo connections layer other ⊎ IsCutTo connections other layer)
+
+-- the shape at this place is on one of the first layers on which a shape may touch this one, and its closed box meets that of this one
+pub record IsNearOnLayers (connections : List Connect) (shapes : List Shape) (shape : Shape) (layers : ℕ) (place : ℕ) : Type 0 where
   pub layer : ℕ
   pub below : layer < layers
+  pub touching : MayTouch connections shape.layer layer
   pub near : IsNearShape shapes layer shape.rect place
+
+-- the places of the layer's shapes whose closed box meets that of the shape are added, if shapes of the layer may touch it; else nothing is
+abbrev pub IsLayerAdded : List Connect → List Shape → Shape → ℕ → List ℕ → List ℕ → Type 0
+IsLayerAdded connections shapes shape layer old new = (MayTouch connections shape.layer layer × Adds old new (IsNearShape shapes layer shape.rect)) ⊎ ((MayTouch connections shape.layer layer → ⊥) × (new ≡ old))

@@ -9,14 +9,14 @@ ghost use Rattle.cell_chains.specs.Chains.{IsSound};
 ghost use Rattle.cell_chains.specs.Hierarchy.{AreCells};
 ghost use Rattle.cell_hierarchy.specs.FlatLists.{AreFlatShapes};
 ghost use Rattle.leaf_contacts.specs.Contact.{HasLooseContact};
-ghost use Rattle.leaf_contacts.specs.Marks.{AreLayoutEntries, AreMarks, AreNearLeaves, AreStandsIn, HasContactAt, IsContactOf, IsContactWith, IsListedElsewhere, IsNearOnLayers, IsTouchedElsewhere, ShapeEntry, TouchesElsewhere};
+ghost use Rattle.leaf_contacts.specs.Marks.{AreLayoutEntries, AreMarks, AreNearLeaves, AreStandsIn, HasContactAt, IsContactOf, IsContactWith, IsLayerAdded, IsListedElsewhere, IsNearOnLayers, IsTouchedElsewhere, ShapeEntry, TouchesElsewhere};
 ghost use Rattle.leaf_contacts.specs.Stands.{AreReachedCells};
 
 use crate::cells::{ReachedCells, is_cell_named, summaries_of};
 use crate::levels::stands_of;
 use crate::marks::{Mark, is_elsewhere, marks_of};
 use crate::stand::{ReferenceStep, Stand, are_same};
-use crate::touching::touch_or_same;
+use crate::touching::{may_touch, touch_or_same};
 use bumpalo::Bump;
 use cell_chains::{Cell, ChainFault, cells_below};
 use gds_library::Library;
@@ -24,7 +24,7 @@ use leaf_nets::LooseLeaf;
 use or_geom::{Memory, Name, Shape};
 use shape_bins::Bins;
 use std::alloc::Global;
-use tech_rules::Tech;
+use tech_rules::{Connect, Tech};
 
 /// The flat layout that is looked at: its technology, its cells, its shapes, and in which instances they stand.
 #[derive(Clone, Copy)]
@@ -35,13 +35,35 @@ pub struct MarkedLayout<'a, 'b> {
     pub marks: &'a [Option<Mark<'b>>],
 }
 
-/// Adds the places of all shapes, on whichever layer, whose closed box meets that of the shape.
-fn add_near(bins: &Bins, layers: usize, shape: Shape, places: &mut Vec<usize>) -> Result<(), Memory>
+/// Adds the places of the shapes of the layer whose closed box meets that of the shape, if shapes of the layer may touch it.
+fn add_near_on(
+    bins: &Bins,
+    connects: &[Connect],
+    layer: u16,
+    shape: Shape,
+    places: &mut Vec<usize>,
+) -> Result<(), Memory>
+    ensures { OnOk result (IsLayerAdded connects.now bins.now shape layer places.old.items places.new.items) }
+{
+    if !may_touch(connects, shape.layer, layer) {
+        return Ok(());
+    }
+    bins.add_near(layer, shape.rect, places)
+}
+
+/// Adds the places of all shapes whose closed box meets that of the shape, on the layers on which a shape may touch it.
+fn add_near(
+    bins: &Bins,
+    connects: &[Connect],
+    layers: usize,
+    shape: Shape,
+    places: &mut Vec<usize>,
+) -> Result<(), Memory>
     requires { layers ≤ 64 }
-    ensures { OnOk result (Adds places.old.items places.new.items (IsNearOnLayers bins.now shape layers)) }
+    ensures { OnOk result (Adds places.old.items places.new.items (IsNearOnLayers connects.now bins.now shape layers)) }
 {
     for layer in 0..layers {
-        bins.add_near(layer as u16, shape.rect, places)?;
+        add_near_on(bins, connects, layer as u16, shape, places)?;
     }
     Ok(())
 }
@@ -109,6 +131,7 @@ fn touches_elsewhere(
     places.clear();
     add_near(
         layout.bins,
+        layout.tech.connects.as_slice(),
         layout.tech.layers.as_slice().len(),
         shape,
         places,

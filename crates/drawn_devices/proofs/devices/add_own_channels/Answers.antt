@@ -5,7 +5,7 @@ use Rattle.tech_rules.specs.declared.tech.Device.{Device}
 use Rattle.drawn_devices.specs.ChannelBoxes.{AreChannelBoxes, AreChannelGroups}
 use Rattle.drawn_devices.specs.DrawnChannels.{IsChannelOf}
 use Rattle.drawn_devices.proofs.DeviceLaws.{channels_begin, channels_next, channels_end}
-use Rattle.drawn_devices.proofs.devices.add_channels.Goals as goal
+use Rattle.drawn_devices.proofs.devices.add_own_channels.Goals as goal
 
 pub loop-boxes-init : goal.loop-boxes-init
 loop-boxes-init c = channels_begin c.args.cell.now c.args.index c.deref-boxes-items.result.now c.args.out.now c.requires.cut c.requires.first
