@@ -1,4 +1,4 @@
-"""Flattens structures and merges each of their layers. Run by tools/merge_layers, in KLayout, with source, target and tops."""
+"""Flattens structures and merges each of their layers. Run by tools/inputs/merge_layers, in KLayout, with source, target and tops."""
 import os
 import sys
 

@@ -1,4 +1,4 @@
-"""Rewrites a layout so that the program reads it. Run by tools/tidy_gds, in KLayout, with source and target."""
+"""Rewrites a layout so that the program reads it. Run by tools/inputs/tidy_gds, in KLayout, with source and target."""
 import os
 import sys
 import tempfile
