@@ -4,6 +4,7 @@ use cell_builder::Cells;
 use gds_library::{Element, Library, Structure};
 use or_geom::{Items, Name, Orient, Place, Point, Rect, Shape};
 use std::alloc::Global;
+use std::process::Abort;
 use std::test::Fail;
 use tech_rules::{Layer, Tech};
 
@@ -86,6 +87,11 @@ fn built(alloc: Global, tech: &Tech) -> Result<Library, Fail>
     Ok(cells.finish(&Name::from_bytes(alloc, b"macro")?, tech)?)
 }
 
+fn library_of_a_row(alloc: Global) -> Result<Library, Fail> {
+    let tech = one_layer(alloc)?;
+    built(alloc, &tech)
+}
+
 /// An element in words, its coordinates from its first point or its place.
 fn words(alloc: Global, element: &Element) -> Result<String, Fail> {
     let text = match element {
@@ -118,17 +124,30 @@ fn words(alloc: Global, element: &Element) -> Result<String, Fail> {
     Ok(text)
 }
 
+fn check_words(
+    rt: &impl Abort,
+    alloc: Global,
+    elements: &[Element],
+    wanted: &[&str],
+) -> Result<(), Fail> {
+    assert_eq!(rt; elements.len(), wanted.len());
+    for (element, line) in elements.iter().zip(wanted.iter()) {
+        let given = words(alloc, element)?;
+        assert_eq!(rt; given.as_str(), *line);
+    }
+    Ok(())
+}
+
 /// References first, then wires in the order of shapes, then labels in the order of their texts.
 #[test]
 fn a_cell_of_a_finished_library(rt: HostRuntime) -> Result<(), Fail> {
-    let alloc = rt.alloc();
-    let library = built(alloc, &one_layer(alloc)?)?;
-    assert_eq!(rt; library.name.as_bytes(), b"macro".as_slice());
-    assert_eq!(rt; library.structs.as_slice().len(), 2);
-    let leaf = library.structs.as_slice().get(0).ok_or("no leaf")?;
-    assert_eq!(rt; leaf.name.as_bytes(), b"leaf".as_slice());
-    let row = library.structs.as_slice().get(1).ok_or("no row")?;
-    assert_eq!(rt; row.name.as_bytes(), b"row".as_slice());
+    let library = library_of_a_row(rt.alloc())?;
+    assert!(rt; library.name.is(b"macro"));
+    let [leaf, row] = library.structs.as_slice() else {
+        return Err("not two structures".into());
+    };
+    assert!(rt; leaf.name.is(b"leaf"));
+    assert!(rt; row.name.is(b"row"));
     let wanted = [
         "leaf MX 3 4 1 xb0",
         "7 1 0 5 4 7",
@@ -136,9 +155,5 @@ fn a_cell_of_a_finished_library(rt: HostRuntime) -> Result<(), Fail> {
         "8 2 11 1 bl",
         "8 2 1 6 wl",
     ];
-    assert_eq!(rt; row.elements.as_slice().len(), wanted.len());
-    for (element, line) in row.elements.as_slice().iter().zip(wanted) {
-        assert_eq!(rt; words(alloc, element)?.as_str(), line);
-    }
-    Ok(())
+    check_words(&rt, rt.alloc(), row.elements.as_slice(), &wanted)
 }

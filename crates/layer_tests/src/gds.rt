@@ -1,6 +1,7 @@
 use gds_stream::{GdsFault, Library, Structure, is_writable, read_gds, write_gds};
 use or_geom::{Items, Memory, Name};
 use std::alloc::Global;
+use std::process::Abort;
 use std::test::Fail;
 
 /// The canonical empty library `a`, by hand from the tables of the stream format.
@@ -51,20 +52,23 @@ fn rewritten(alloc: Global, bytes: &[u8]) -> Option<Vec<u8>> {
     }
 }
 
-#[test]
-fn canonical_libraries_are_written_as_they_are(rt: HostRuntime) -> Result<(), Fail> {
-    let empty = rewritten(rt.alloc(), &EMPTY).ok_or("refused")?;
-    assert_eq!(rt; empty.as_slice(), EMPTY.as_slice());
-    let rectangle = rewritten(rt.alloc(), &RECTANGLE).ok_or("refused")?;
-    assert_eq!(rt; rectangle.as_slice(), RECTANGLE.as_slice());
-    Ok(())
+fn check_rewritten(rt: &impl Abort, alloc: Global, bytes: &[u8], wanted: &[u8]) {
+    let written = rewritten(alloc, bytes);
+    assert!(rt; written.is_some());
+    if let Some(written) = written {
+        assert_eq!(rt; written.as_slice(), wanted);
+    }
 }
 
 #[test]
-fn another_spelling_is_written_as_the_canonical_one(rt: HostRuntime) -> Result<(), Fail> {
-    let written = rewritten(rt.alloc(), &OTHER).ok_or("refused")?;
-    assert_eq!(rt; written.as_slice(), RECTANGLE.as_slice());
-    Ok(())
+fn canonical_libraries_are_written_as_they_are(rt: HostRuntime) {
+    check_rewritten(&rt, rt.alloc(), &EMPTY, &EMPTY);
+    check_rewritten(&rt, rt.alloc(), &RECTANGLE, &RECTANGLE);
+}
+
+#[test]
+fn another_spelling_is_written_as_the_canonical_one(rt: HostRuntime) {
+    check_rewritten(&rt, rt.alloc(), &OTHER, &RECTANGLE);
 }
 
 #[test]

@@ -1,9 +1,10 @@
 ghost use Rattle.std.specs.Prelude.{◌≡◌, ◌<ℤ◌};
 ghost use Rattle.or_geom.specs.Distance.{IsReachable};
 
-use or_geom::{Items, Name, Orient, Place, Point, Rect, covered, dist2, gap_box, joined};
+use or_geom::{Items, Name, Orient, Place, Point, Rect, Shape, covered, dist2, gap_box, joined};
 use std::process::Abort;
 use std::test::Fail;
+use tile_checker::{Violation, first_fault};
 
 /// A rectangle from its lower left to its upper right corner.
 fn rect(x1: i64, y1: i64, x2: i64, y2: i64) -> Rect
@@ -85,4 +86,19 @@ fn names_and_items(rt: HostRuntime) -> Result<(), Fail> {
     assert_eq!(rt; items.as_slice(), [3u8].as_slice());
     assert_eq!(rt; Items::from_vec(items.into_vec()).as_slice().len(), 1);
     Ok(())
+}
+
+#[test]
+fn the_first_violation_of_a_list(rt: HostRuntime) {
+    let first = Shape {
+        layer: 1,
+        rect: rect(0, 0, 4, 4),
+    };
+    let narrow = Violation {
+        rule: 2,
+        first,
+        second: None,
+    };
+    assert_eq!(rt; first_fault(&[narrow]), Some(narrow));
+    assert_eq!(rt; first_fault(&[]), None);
 }

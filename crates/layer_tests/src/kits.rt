@@ -28,14 +28,23 @@ fn kit_0_is_the_one_of_the_examples(rt: HostRuntime) -> Result<(), Fail> {
     Ok(())
 }
 
+/// How many structures a GDSII file has.
+fn structure_count(alloc: Global, gds: &[u8]) -> Result<usize, Fail> {
+    let library = read_gds(alloc, gds).ok().ok_or("refused")?;
+    Ok(library.structs.as_slice().len())
+}
+
+/// How many subcircuits a SPICE file has.
+fn subckt_count(alloc: Global, sp: &[u8]) -> Result<usize, Fail> {
+    let deck = read_spice(alloc, sp).ok().ok_or("refused")?;
+    Ok(deck.subckts.as_slice().len())
+}
+
 #[test]
 fn kit_0_is_read(rt: HostRuntime) -> Result<(), Fail> {
-    let alloc = rt.alloc();
-    let files = demo(alloc, 0)?;
-    let library = read_gds(alloc, &files.gds).ok().ok_or("refused")?;
-    assert_eq!(rt; library.structs.as_slice().len(), 14);
-    let deck = read_spice(alloc, &files.sp).ok().ok_or("refused")?;
-    assert_eq!(rt; deck.subckts.as_slice().len(), 14);
+    let files = demo(rt.alloc(), 0)?;
+    assert_eq!(rt; structure_count(rt.alloc(), &files.gds)?, 14);
+    assert_eq!(rt; subckt_count(rt.alloc(), &files.sp)?, 14);
     Ok(())
 }
 

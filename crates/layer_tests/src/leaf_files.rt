@@ -87,13 +87,25 @@ fn with_a_higher_inverter(alloc: Global, gds: &[u8]) -> Result<Vec<u8>, Fail> {
     Ok(bytes)
 }
 
+fn check(
+    rt: &impl Abort,
+    alloc: Global,
+    tech: &[u8],
+    gds: &[u8],
+    sp: &[u8],
+    wanted: &str,
+) -> Result<(), Fail> {
+    let given = answer(alloc, tech, gds, sp)?;
+    assert_eq!(rt; given.as_str(), wanted);
+    Ok(())
+}
+
 #[test]
 fn the_first_kits_are_kits(rt: HostRuntime) -> Result<(), Fail> {
     let alloc = rt.alloc();
     for number in 0..4 {
         let files = demo(alloc, number)?;
-        let given = answer(alloc, &files.tech, &files.gds, &files.sp)?;
-        assert_eq!(rt; given.as_str(), "a kit");
+        check(&rt, alloc, &files.tech, &files.gds, &files.sp, "a kit")?;
     }
     Ok(())
 }
@@ -103,9 +115,7 @@ fn kits_without_wires(rt: HostRuntime) -> Result<(), Fail> {
     let alloc = rt.alloc();
     let files = demo(alloc, 0)?;
     let tech = without(alloc, &files.tech, "[wire]", "[role]")?;
-    let given = answer(alloc, tech.as_bytes(), &files.gds, &files.sp)?;
-    assert_eq!(rt; given.as_str(), "NoWire");
-    Ok(())
+    check(&rt, alloc, tech.as_bytes(), &files.gds, &files.sp, "NoWire")
 }
 
 #[test]
@@ -113,9 +123,14 @@ fn tables_that_differ(rt: HostRuntime) -> Result<(), Fail> {
     let alloc = rt.alloc();
     let files = demo(alloc, 0)?;
     let tech = replaced(alloc, &files.tech, "11/x0 = 1//11", "11/x0 = 0//01")?;
-    let given = answer(alloc, tech.as_bytes(), &files.gds, &files.sp)?;
-    assert_eq!(rt; given.as_str(), "Differs dff 11/00");
-    Ok(())
+    check(
+        &rt,
+        alloc,
+        tech.as_bytes(),
+        &files.gds,
+        &files.sp,
+        "Differs dff 11/00",
+    )
 }
 
 #[test]
@@ -128,9 +143,14 @@ fn ports_in_another_order(rt: HostRuntime) -> Result<(), Fail> {
         "demo_inv a z vdd gnd",
         "demo_inv z a vdd gnd",
     )?;
-    let given = answer(alloc, &files.tech, &files.gds, sp.as_bytes())?;
-    assert_eq!(rt; given.as_str(), "PortsDiffer inv");
-    Ok(())
+    check(
+        &rt,
+        alloc,
+        &files.tech,
+        &files.gds,
+        sp.as_bytes(),
+        "PortsDiffer inv",
+    )
 }
 
 #[test]
@@ -138,9 +158,14 @@ fn an_inverter_that_is_higher(rt: HostRuntime) -> Result<(), Fail> {
     let alloc = rt.alloc();
     let files = demo(alloc, 0)?;
     let gds = with_a_higher_inverter(alloc, &files.gds)?;
-    let given = answer(alloc, &files.tech, &gds, &files.sp)?;
-    assert_eq!(rt; given.as_str(), "HeightDiffers inv");
-    Ok(())
+    check(
+        &rt,
+        alloc,
+        &files.tech,
+        &gds,
+        &files.sp,
+        "HeightDiffers inv",
+    )
 }
 
 /// The label of pin a at 7 22 in place of 4 22.
@@ -153,7 +178,5 @@ fn a_label_beside_its_pin(rt: HostRuntime) -> Result<(), Fail> {
         return Err("a short file".into());
     };
     *byte = 7;
-    let given = answer(alloc, &files.tech, &gds, &files.sp)?;
-    assert_eq!(rt; given.as_str(), "PinMissing inv a");
-    Ok(())
+    check(&rt, alloc, &files.tech, &gds, &files.sp, "PinMissing inv a")
 }

@@ -85,10 +85,21 @@ fn check_names(rt: &impl Abort, deck: &Deck, names: &[&str]) {
     }
 }
 
-/// 16 rows of a gate, a driver and two bitcells, and two precharge cells.
-#[test]
-fn the_array(rt: HostRuntime) -> Result<(), Fail> {
-    let alloc = rt.alloc();
+/// Whether the subcircuits of these names have so many leaf instances.
+fn check_counts(
+    rt: &impl Abort,
+    alloc: Global,
+    deck: &Deck,
+    counts: &[(&str, u32)],
+) -> Result<(), Fail> {
+    for (name, count) in counts {
+        assert_eq!(rt; leaf_count(alloc, deck, name)?, *count, "of {name}");
+    }
+    Ok(())
+}
+
+/// The kit's subcircuits and those of the array.
+fn array_deck(alloc: Global) -> Result<Deck, Fail> {
     let Trial {
         kit,
         plan,
@@ -96,38 +107,45 @@ fn the_array(rt: HostRuntime) -> Result<(), Fail> {
         mut cells,
         mut deck,
     } = begin(alloc)?;
-    let Ok(_) = bitcell_array::build(alloc, &kit, &plan, &name, &mut cells, &mut deck) else {
-        return Err("no array".into());
-    };
+    match bitcell_array::build(alloc, &kit, &plan, &name, &mut cells, &mut deck) {
+        Ok(_) => Ok(deck),
+        Err(_) => Err("no array".into()),
+    }
+}
+
+/// 16 rows of a gate, a driver and two bitcells, and two precharge cells.
+#[test]
+fn the_array(rt: HostRuntime) -> Result<(), Fail> {
+    let deck = array_deck(rt.alloc())?;
     check_names(&rt, &deck, &["demo_row", "demo_array", "demo_pre"]);
-    assert_eq!(rt; leaf_count(alloc, &deck, "demo_row")?, 4);
-    assert_eq!(rt; leaf_count(alloc, &deck, "demo_array")?, 64);
-    assert_eq!(rt; leaf_count(alloc, &deck, "demo_pre")?, 2);
-    Ok(())
+    let counts = [("demo_row", 4), ("demo_array", 64), ("demo_pre", 2)];
+    check_counts(&rt, rt.alloc(), &deck, &counts)
+}
+
+/// The kit's subcircuits and that of the logic row.
+fn logic_deck(alloc: Global) -> Result<Deck, Fail> {
+    let Trial {
+        kit,
+        plan,
+        name,
+        mut cells,
+        mut deck,
+    } = begin(alloc)?;
+    match control_logic::build(alloc, &kit, &plan, &name, &mut cells, &mut deck) {
+        Ok(_) => Ok(deck),
+        Err(_) => Err("no logic row".into()),
+    }
 }
 
 #[test]
 fn the_logic_row(rt: HostRuntime) -> Result<(), Fail> {
-    let alloc = rt.alloc();
-    let Trial {
-        kit,
-        plan,
-        name,
-        mut cells,
-        mut deck,
-    } = begin(alloc)?;
-    let Ok(_) = control_logic::build(alloc, &kit, &plan, &name, &mut cells, &mut deck) else {
-        return Err("no logic row".into());
-    };
+    let deck = logic_deck(rt.alloc())?;
     check_names(&rt, &deck, &["demo_logic"]);
-    assert_eq!(rt; leaf_count(alloc, &deck, "demo_logic")?, 40);
-    Ok(())
+    check_counts(&rt, rt.alloc(), &deck, &[("demo_logic", 40)])
 }
 
-/// The array, the precharge cells, and a write cell, a sense cell and a tie for each of the two bits.
-#[test]
-fn the_bank(rt: HostRuntime) -> Result<(), Fail> {
-    let alloc = rt.alloc();
+/// The kit's subcircuits and those of the bank, whose width and height these are.
+fn bank_deck(alloc: Global, width: i64, height: i64) -> Result<Deck, Fail> {
     let Trial {
         kit,
         plan,
@@ -138,20 +156,25 @@ fn the_bank(rt: HostRuntime) -> Result<(), Fail> {
     let Ok(edges) = bank_layout::build(alloc, &kit, &plan, &name, &mut cells, &mut deck) else {
         return Err("no bank".into());
     };
-    assert_eq!(rt; (edges.width, edges.height), (224, 652));
-    check_names(
-        &rt,
-        &deck,
-        &[
-            "demo_row",
-            "demo_array",
-            "demo_pre",
-            "demo_data",
-            "demo_bank",
-        ],
-    );
-    assert_eq!(rt; leaf_count(alloc, &deck, "demo_bank")?, 72);
-    Ok(())
+    if edges.width != width || edges.height != height {
+        return Err("another size".into());
+    }
+    Ok(deck)
+}
+
+/// The array, the precharge cells, and a write cell, a sense cell and a tie for each of the two bits.
+#[test]
+fn the_bank(rt: HostRuntime) -> Result<(), Fail> {
+    let deck = bank_deck(rt.alloc(), 224, 652)?;
+    let names = [
+        "demo_row",
+        "demo_array",
+        "demo_pre",
+        "demo_data",
+        "demo_bank",
+    ];
+    check_names(&rt, &deck, &names);
+    check_counts(&rt, rt.alloc(), &deck, &[("demo_bank", 72)])
 }
 
 /// Two ties and two sense cells, whose lines stand one above the other.

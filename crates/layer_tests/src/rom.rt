@@ -94,20 +94,32 @@ fn a_word_has_too_many_bits(rt: HostRuntime) -> Result<(), Fail> {
     check_fault(&rt, rt.alloc(), &bytes, RomFault::DataBits { word: 9 })
 }
 
+/// The Verilog of a read-only memory of this plan and these bytes.
+fn module(alloc: Global, lines: &str, bytes: &[u8]) -> Result<Vec<u8>, Fail> {
+    let plan = plan_of(alloc, lines)?;
+    let words = rom_words(alloc, &plan, bytes)?;
+    let name = Name::from_bytes(alloc, b"demo")?;
+    Ok(rom_verilog(alloc, &plan, &name, &words)?)
+}
+
+/// 16 words of twelve bits, of which the first and the last aren't 0.
+const WIDE: [u8; 32] = [
+    0x34, 0x02, 0, 0, 0, 0, 0, 0, 0, 0, 0, 0, 0, 0, 0, 0, 0, 0, 0, 0, 0, 0, 0, 0, 0, 0, 0, 0, 0, 0,
+    0xAB, 0x0F,
+];
+
 #[test]
 fn two_bytes_for_each_word(rt: HostRuntime) -> Result<(), Fail> {
-    let alloc = rt.alloc();
-    let plan = plan_of(alloc, "word_size = 12\nnum_words = 16")?;
-    let mut bytes = [0; 32];
-    bytes[0] = 0x34;
-    bytes[1] = 0x02;
-    bytes[30] = 0xAB;
-    bytes[31] = 0x0F;
-    let words = rom_words(alloc, &plan, &bytes)?;
-    assert_eq!(rt; words.len(), 16);
-    assert_eq!(rt; words[0], 0x234);
-    assert_eq!(rt; words[15], 0xFAB);
-    let text = rom_verilog(alloc, &plan, &Name::from_bytes(alloc, b"demo")?, &words)?;
+    let plan = plan_of(rt.alloc(), "word_size = 12\nnum_words = 16")?;
+    let words = rom_words(rt.alloc(), &plan, &WIDE)?;
+    let expected: [u64; 16] = [0x234, 0, 0, 0, 0, 0, 0, 0, 0, 0, 0, 0, 0, 0, 0, 0xFAB];
+    assert_eq!(rt; words.as_slice(), expected.as_slice());
+    Ok(())
+}
+
+#[test]
+fn lines_of_wide_words(rt: HostRuntime) -> Result<(), Fail> {
+    let text = module(rt.alloc(), "word_size = 12\nnum_words = 16", &WIDE)?;
     let text = str::from_utf8(&text)?;
     assert!(rt; text.contains("    mem[0] = 12'h234;\n    mem[1] = 12'h000;\n"));
     assert!(rt; text.contains("    mem[15] = 12'hfab;\n  end\n"));
@@ -116,10 +128,7 @@ fn two_bytes_for_each_word(rt: HostRuntime) -> Result<(), Fail> {
 
 #[test]
 fn a_whole_module(rt: HostRuntime) -> Result<(), Fail> {
-    let alloc = rt.alloc();
-    let plan = plan_of(alloc, "word_size = 2\nnum_words = 16")?;
-    let words = rom_words(alloc, &plan, &REMAINDERS)?;
-    let text = rom_verilog(alloc, &plan, &Name::from_bytes(alloc, b"demo")?, &words)?;
+    let text = module(rt.alloc(), "word_size = 2\nnum_words = 16", &REMAINDERS)?;
     assert_eq!(rt; str::from_utf8(&text)?, MODULE);
     Ok(())
 }

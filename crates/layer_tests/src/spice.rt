@@ -1,51 +1,38 @@
 //! SPICE: texts that are refused, a text that is read, decks that are written, and the flat rows of a deck of two levels.
 
-use netlist::{Deck, Subckt};
+use netlist::{Deck, Rows, Subckt};
 use or_geom::Name;
 use spice_netlist::{FlatFault, flat_rows};
 use spice_text::{SpiceFault, are_writable, read_spice, write_spice};
 use std::alloc::Global;
+use std::process::Abort;
 use std::test::Fail;
 
-fn fault(alloc: Global, text: &[u8]) -> Option<SpiceFault> {
-    match read_spice(alloc, text) {
+fn check_fault(rt: &impl Abort, alloc: Global, text: &[u8], wanted: SpiceFault) {
+    let given = match read_spice(alloc, text) {
         Ok(_) => None,
         Err(fault) => Some(fault),
-    }
+    };
+    assert_eq!(rt; given, Some(wanted));
 }
 
 #[test]
-fn texts_that_are_refused(rt: HostRuntime) -> Result<(), Fail> {
+fn texts_that_are_refused(rt: HostRuntime) {
     let alloc = rt.alloc();
-    assert_eq!(rt;
-        fault(alloc, b"+ a\n.GLOBAL\n\x7F"),
-        Some(SpiceFault::NotAscii { at: 12 })
-    );
-    assert_eq!(rt;
-        fault(alloc, b"\nr1 a b\n"),
-        Some(SpiceFault::OutsideSubckt { line: 2 })
-    );
-    assert_eq!(rt;
-        fault(alloc, b".SUBCKT a p\n.ENDS b\n"),
-        Some(SpiceFault::Unclosed { line: 2 })
-    );
-    assert_eq!(rt;
-        fault(alloc, b"* c\n.SUBCKT a p\nxi p\n"),
-        Some(SpiceFault::Unclosed { line: 2 })
-    );
-    assert_eq!(rt;
-        fault(alloc, b".SUBCKT a p P\n.ENDS\n"),
-        Some(SpiceFault::Duplicate { line: 1 })
-    );
-    assert_eq!(rt;
-        fault(alloc, b".subckt a\n.global vdd\n"),
-        Some(SpiceFault::Refused { line: 2 })
-    );
-    assert_eq!(rt;
-        fault(alloc, b"* c\n+ a\n"),
-        Some(SpiceFault::BadLine { line: 2 })
-    );
-    Ok(())
+    let fault = SpiceFault::NotAscii { at: 12 };
+    check_fault(&rt, alloc, b"+ a\n.GLOBAL\n\x7F", fault);
+    let fault = SpiceFault::OutsideSubckt { line: 2 };
+    check_fault(&rt, alloc, b"\nr1 a b\n", fault);
+    let fault = SpiceFault::Unclosed { line: 2 };
+    check_fault(&rt, alloc, b".SUBCKT a p\n.ENDS b\n", fault);
+    let fault = SpiceFault::Unclosed { line: 2 };
+    check_fault(&rt, alloc, b"* c\n.SUBCKT a p\nxi p\n", fault);
+    let fault = SpiceFault::Duplicate { line: 1 };
+    check_fault(&rt, alloc, b".SUBCKT a p P\n.ENDS\n", fault);
+    let fault = SpiceFault::Refused { line: 2 };
+    check_fault(&rt, alloc, b".subckt a\n.global vdd\n", fault);
+    let fault = SpiceFault::BadLine { line: 2 };
+    check_fault(&rt, alloc, b"* c\n+ a\n", fault);
 }
 
 /// Lines that end by CRLF, a comment between continued lines, words with `=`, and `.END` before the text ends.
@@ -103,21 +90,28 @@ fn same_subckts(deck: &Deck, other: &Deck) -> bool {
     subckts.len() == others.len() && pairs.all(|(a, b)| same_subckt(a, b))
 }
 
-#[test]
-fn a_deck_that_is_written_and_read(rt: HostRuntime) -> Result<(), Fail> {
-    let alloc = rt.alloc();
-    let deck = read_spice(alloc, WIDE).ok().ok_or("refused")?;
+/// A text's deck, as it is written.
+fn written(alloc: Global, text: &[u8]) -> Result<Vec<u8>, Fail> {
+    let deck = read_spice(alloc, text).ok().ok_or("refused")?;
     let subckts = deck.subckts.as_slice();
     if !are_writable(alloc, subckts)? {
         return Err(Fail::new("not writable"));
     }
-    let text = write_spice(alloc, subckts)?;
+    Ok(write_spice(alloc, subckts)?)
+}
+
+/// Whether two texts are read as the same subcircuits, and the second up to its end.
+fn read_alike(alloc: Global, text: &[u8], other: &[u8]) -> Result<bool, Fail> {
+    let deck = read_spice(alloc, text).ok().ok_or("refused")?;
+    let back = read_spice(alloc, other).ok().ok_or("not read back")?;
+    Ok(same_subckts(&deck, &back) && back.used == other.len() as u64)
+}
+
+#[test]
+fn a_deck_that_is_written_and_read(rt: HostRuntime) -> Result<(), Fail> {
+    let text = written(rt.alloc(), WIDE)?;
     assert!(rt; text.as_slice() == WRITTEN);
-    let back = read_spice(alloc, text.as_slice())
-        .ok()
-        .ok_or("not read back")?;
-    assert!(rt; same_subckts(&deck, &back));
-    assert_eq!(rt; back.used, 168);
+    assert!(rt; read_alike(rt.alloc(), WIDE, WRITTEN)?);
     Ok(())
 }
 
@@ -154,12 +148,16 @@ const ROWS: [(&[u8], u32); 10] = [
     (b"x2/xb", 1),
 ];
 
-#[test]
-fn rows_of_two_levels(rt: HostRuntime) -> Result<(), Fail> {
-    let alloc = rt.alloc();
+/// The flat rows of two levels.
+fn two_levels(alloc: Global) -> Result<Rows, Fail> {
     let deck = read_spice(alloc, TWO_LEVELS).ok().ok_or("refused")?;
     let top = Name::from_bytes(alloc, b"TOP")?;
-    let rows = flat_rows(alloc, &deck, &top, &[]).ok().ok_or("refused")?;
+    Ok(flat_rows(alloc, &deck, &top, &[]).ok().ok_or("refused")?)
+}
+
+#[test]
+fn rows_of_two_levels(rt: HostRuntime) -> Result<(), Fail> {
+    let rows = two_levels(rt.alloc())?;
     assert_eq!(rt; rows.pins.as_slice().len(), 10);
     for (row, (path, net)) in rows.pins.as_slice().iter().zip(ROWS.iter()) {
         assert!(rt; row.path.is(path));
@@ -195,25 +193,28 @@ fn doubling(alloc: Global) -> Result<Vec<u8>, Fail> {
     Ok(text)
 }
 
+fn check_rows_fault(
+    rt: &impl Abort,
+    alloc: Global,
+    text: &[u8],
+    number: u64,
+    name: &[u8],
+) -> Result<(), Fail> {
+    let (given, told) = rows_fault(alloc, text)?;
+    assert_eq!(rt; given, number);
+    assert!(rt; told.is(name));
+    Ok(())
+}
+
 #[test]
 fn rows_that_are_refused(rt: HostRuntime) -> Result<(), Fail> {
     let alloc = rt.alloc();
-    let (number, name) = rows_fault(alloc, b".SUBCKT top p\nxa p b\nxb p A\n.ENDS\n")?;
-    assert_eq!(rt; number, 16);
-    assert!(rt; name.is(b"a"));
-    let (number, name) = rows_fault(
-        alloc,
-        b".SUBCKT top p\nxa p b\n.ENDS\n.SUBCKT b p\nxt p top\n.ENDS\n",
-    )?;
-    assert_eq!(rt; number, 18);
-    assert!(rt; name.is(b"b"));
-    let (number, path) = rows_fault(
-        alloc,
-        b".SUBCKT top p\nxa p b\n.ENDS\n.SUBCKT b p\nxc p p c\n.ENDS\n.SUBCKT c p\n.ENDS\n",
-    )?;
-    assert_eq!(rt; number, 17);
-    assert!(rt; path.is(b"xa/xc"));
-    let (count, _) = rows_fault(alloc, &doubling(alloc)?)?;
-    assert_eq!(rt; count, 1_048_577);
-    Ok(())
+    let unknown = b".SUBCKT top p\nxa p b\nxb p A\n.ENDS\n";
+    check_rows_fault(&rt, alloc, unknown, 16, b"a")?;
+    let cycle = b".SUBCKT top p\nxa p b\n.ENDS\n.SUBCKT b p\nxt p top\n.ENDS\n";
+    check_rows_fault(&rt, alloc, cycle, 18, b"b")?;
+    let ports = b".SUBCKT top p\nxa p b\n.ENDS\n.SUBCKT b p\nxc p p c\n.ENDS\n.SUBCKT c p\n.ENDS\n";
+    check_rows_fault(&rt, alloc, ports, 17, b"xa/xc")?;
+    let many = doubling(alloc)?;
+    check_rows_fault(&rt, alloc, &many, 1_048_577, b"")
 }

@@ -86,116 +86,89 @@ fn demonstration_tables_are_good(rt: HostRuntime) -> Result<(), Fail> {
 
 #[test]
 fn roles_that_are_missing(rt: HostRuntime) -> Result<(), Fail> {
-    let alloc = rt.alloc();
-    check(
-        &rt,
-        alloc,
-        "sense = \"demo_sense\"",
-        "",
-        "MissingRole sense",
-    )?;
-    check(&rt, alloc, "tie = [\"/ = //\"]", "", "MissingRole tie")?;
-    check(
-        &rt,
-        alloc,
-        "tie = [\"/ = //\"]",
-        "tie = []",
-        "MissingRole tie",
-    )
+    let cases = [
+        ("sense = \"demo_sense\"", "", "MissingRole sense"),
+        ("tie = [\"/ = //\"]", "", "MissingRole tie"),
+        ("tie = [\"/ = //\"]", "tie = []", "MissingRole tie"),
+    ];
+    for (old, new, wanted) in cases {
+        check(&rt, rt.alloc(), old, new, wanted)?;
+    }
+    Ok(())
 }
 
 #[test]
 fn rows_that_are_bad(rt: HostRuntime) -> Result<(), Fail> {
-    let alloc = rt.alloc();
-    // Two spaces before the sign of equality, a value that no stored bit has, and a row that is too short.
-    check(
-        &rt,
-        alloc,
-        "\"1/ = zz//\"",
-        "\"1/  = zz//\"",
-        "BadRow precharge 1",
-    )?;
-    check(
-        &rt,
-        alloc,
-        "\"111/1 = zl//1\"",
-        "\"111/1 = zl//2\"",
-        "BadRow bitcell 8",
-    )?;
-    check(
-        &rt,
-        alloc,
-        "\"11/ = 10//\"",
-        "\"11/ = 1//\"",
-        "BadRow write 2",
-    )?;
-    // Rows that overlap an earlier one, which says something else or the same.
-    check(&rt, alloc, "\"1/ = /jj/\"", "\"x/ = /jj/\"", "BadRow mux 1")?;
-    check(
-        &rt,
-        alloc,
-        "\"/ = //\"",
-        "\"/ = //\", \"/ = //\"",
-        "BadRow tie 1",
-    )
+    let cases = [
+        // Two spaces before the sign of equality, a value that no stored bit has, and a row that is too short.
+        ("\"1/ = zz//\"", "\"1/  = zz//\"", "BadRow precharge 1"),
+        ("\"111/1 = zl//1\"", "\"111/1 = zl//2\"", "BadRow bitcell 8"),
+        ("\"11/ = 10//\"", "\"11/ = 1//\"", "BadRow write 2"),
+        // Rows that overlap an earlier one, which says something else or the same.
+        ("\"1/ = /jj/\"", "\"x/ = /jj/\"", "BadRow mux 1"),
+        ("\"/ = //\"", "\"/ = //\", \"/ = //\"", "BadRow tie 1"),
+    ];
+    for (old, new, wanted) in cases {
+        check(&rt, rt.alloc(), old, new, wanted)?;
+    }
+    Ok(())
 }
 
 #[test]
 fn points_that_differ(rt: HostRuntime) -> Result<(), Fail> {
-    let alloc = rt.alloc();
-    check(
-        &rt,
-        alloc,
-        "\"11/x0 = 1//11\"",
-        "\"11/x0 = 0//01\"",
-        "Differs dff 11/00",
-    )?;
-    check(
-        &rt,
-        alloc,
-        "\"0xx/x = zz//=\"",
-        "\"0xx/x = zz//0\"",
-        "Differs bitcell 000/1",
-    )?;
-    check(
-        &rt,
-        alloc,
-        "\"100/0 = lz//0\"",
-        "\"100/0 = 0z//0\"",
-        "Differs bitcell 100/0",
-    )?;
-    check(
-        &rt,
-        alloc,
-        "\"101/ = 0//\"",
-        "\"101/ = 1//\"",
-        "Differs sense 101/",
-    )?;
-    check(
-        &rt,
-        alloc,
-        "inv = [\"0/ = 1//\", \"1/ = 0//\"]",
-        "inv = [\"1/ = 0//\"]",
-        "Differs inv 0/",
-    )
+    let cases = [
+        (
+            "\"11/x0 = 1//11\"",
+            "\"11/x0 = 0//01\"",
+            "Differs dff 11/00",
+        ),
+        (
+            "\"0xx/x = zz//=\"",
+            "\"0xx/x = zz//0\"",
+            "Differs bitcell 000/1",
+        ),
+        (
+            "\"100/0 = lz//0\"",
+            "\"100/0 = 0z//0\"",
+            "Differs bitcell 100/0",
+        ),
+        ("\"101/ = 0//\"", "\"101/ = 1//\"", "Differs sense 101/"),
+        (
+            "inv = [\"0/ = 1//\", \"1/ = 0//\"]",
+            "inv = [\"1/ = 0//\"]",
+            "Differs inv 0/",
+        ),
+    ];
+    for (old, new, wanted) in cases {
+        check(&rt, rt.alloc(), old, new, wanted)?;
+    }
+    Ok(())
+}
+
+/// The answer where the bitcell's first row differs and another row is bad.
+fn check_two(
+    rt: &impl Abort,
+    alloc: Global,
+    old: &str,
+    new: &str,
+    wanted: &str,
+) -> Result<(), Fail> {
+    let differs = replaced(alloc, TECHNOLOGY, "\"0xx/x = zz//=\"", "\"0xx/x = zz//0\"")?;
+    let text = replaced(alloc, differs.as_str(), old, new)?;
+    let given = answer(alloc, text.as_str())?;
+    assert_eq!(rt; given.as_str(), wanted, "where {old} is {new}");
+    Ok(())
 }
 
 /// Of a role all rows are looked at before the first point, and a role before the next.
 #[test]
 fn the_first_of_two_faults(rt: HostRuntime) -> Result<(), Fail> {
-    let alloc = rt.alloc();
-    let differs = replaced(alloc, TECHNOLOGY, "\"0xx/x = zz//=\"", "\"0xx/x = zz//0\"")?;
-    let bad = replaced(
-        alloc,
-        differs.as_str(),
-        "\"111/1 = zl//1\"",
-        "\"111/1 = zl/1\"",
-    )?;
-    assert_eq!(rt; answer(alloc, bad.as_str())?.as_str(), "BadRow bitcell 8");
-    let later = replaced(alloc, differs.as_str(), "\"/ = //\"", "\"/ =//\"")?;
-    assert_eq!(rt;
-        answer(alloc, later.as_str())?.as_str(),
-        "Differs bitcell 000/1"
-    );
+    let cases = [
+        ("\"111/1 = zl//1\"", "\"111/1 = zl/1\"", "BadRow bitcell 8"),
+        ("\"/ = //\"", "\"/ =//\"", "Differs bitcell 000/1"),
+    ];
+    for (old, new, wanted) in cases {
+        check_two(&rt, rt.alloc(), old, new, wanted)?;
+    }
     Ok(())
 }

@@ -22,10 +22,12 @@ fn check_lines(rt: &impl Abort, text: &[u8], lines: &[&str]) -> Result<(), Fail>
     Ok(())
 }
 
-/// The lines stand in the text one after another.
-fn check_part(rt: &impl Abort, text: &[u8], lines: &str) -> Result<(), Fail> {
+/// In each of the parts the lines stand in the text one after another.
+fn check_parts(rt: &impl Abort, text: &[u8], parts: &[&str]) -> Result<(), Fail> {
     let text = str::from_utf8(text)?;
-    assert!(rt; text.contains(lines), "not in the text: {lines}");
+    for lines in parts {
+        assert!(rt; text.contains(*lines), "not in the text: {lines}");
+    }
     Ok(())
 }
 
@@ -81,43 +83,33 @@ fn demo_view(alloc: Global) -> Result<Abstract, Fail>
     })
 }
 
+/// The LEF text of the view.
+fn demo_lef(alloc: Global) -> Result<Vec<u8>, Fail> {
+    let view = demo_view(alloc)?;
+    Ok(lef_text(alloc, &view)?)
+}
+
 #[test]
 fn sizes_supplies_and_obstructions(rt: HostRuntime) -> Result<(), Fail> {
-    let view = demo_view(rt.alloc())?;
-    let text = lef_text(rt.alloc(), &view)?;
-    check_part(
-        &rt,
-        &text,
+    let text = demo_lef(rt.alloc())?;
+    let parts = [
         "MACRO demo\n  CLASS BLOCK ;\n  SIZE 0.844 BY 0.880 ;\n",
-    )?;
-    let vdd =
-        "  PIN vdd\n    DIRECTION INOUT ;\n    USE POWER ;\n    PORT\n      LAYER m2 ;\n        RECT 0.828 0.000 0.832 0.880 ;\n";
-    check_part(&rt, &text, vdd)?;
-    let gnd =
-        "  PIN gnd\n    DIRECTION INOUT ;\n    USE GROUND ;\n    PORT\n      LAYER m2 ;\n        RECT 0.836 0.000 0.840 0.880 ;\n";
-    check_part(&rt, &text, gnd)?;
-    check_part(
-        &rt,
-        &text,
+        "  PIN vdd\n    DIRECTION INOUT ;\n    USE POWER ;\n    PORT\n      LAYER m2 ;\n        RECT 0.828 0.000 0.832 0.880 ;\n",
+        "  PIN gnd\n    DIRECTION INOUT ;\n    USE GROUND ;\n    PORT\n      LAYER m2 ;\n        RECT 0.836 0.000 0.840 0.880 ;\n",
         "    LAYER m2 ;\n      RECT 0.000 0.000 0.824 0.880 ;\n",
-    )?;
-    check_part(
-        &rt,
-        &text,
         "    LAYER m3 ;\n      RECT 0.008 0.000 0.844 0.880 ;\n",
-    )
+    ];
+    check_parts(&rt, &text, &parts)
 }
 
 #[test]
 fn signals_in_order(rt: HostRuntime) -> Result<(), Fail> {
-    let view = demo_view(rt.alloc())?;
-    let text = lef_text(rt.alloc(), &view)?;
-    let clock =
-        "  PIN clk0\n    DIRECTION INPUT ;\n    USE CLOCK ;\n    PORT\n      LAYER m3 ;\n        RECT 0.000 0.036 0.008 0.040 ;\n    END\n  END clk0\n  PIN csb0\n    DIRECTION INPUT ;\n    USE SIGNAL ;\n";
-    check_part(&rt, &text, clock)?;
-    let output =
-        "  PIN dout0[0]\n    DIRECTION OUTPUT ;\n    USE SIGNAL ;\n    PORT\n      LAYER m3 ;\n        RECT 0.000 0.108 0.008 0.112 ;\n    END\n  END dout0[0]\n  PIN vdd\n";
-    check_part(&rt, &text, output)
+    let text = demo_lef(rt.alloc())?;
+    let parts = [
+        "  PIN clk0\n    DIRECTION INPUT ;\n    USE CLOCK ;\n    PORT\n      LAYER m3 ;\n        RECT 0.000 0.036 0.008 0.040 ;\n    END\n  END clk0\n  PIN csb0\n    DIRECTION INPUT ;\n    USE SIGNAL ;\n",
+        "  PIN dout0[0]\n    DIRECTION OUTPUT ;\n    USE SIGNAL ;\n    PORT\n      LAYER m3 ;\n        RECT 0.000 0.108 0.008 0.112 ;\n    END\n  END dout0[0]\n  PIN vdd\n",
+    ];
+    check_parts(&rt, &text, &parts)
 }
 
 fn plan_of(alloc: Global, lines: &str) -> Result<Plan, Fail>
@@ -131,11 +123,16 @@ fn plan_of(alloc: Global, lines: &str) -> Result<Plan, Fail>
     }
 }
 
+/// The Verilog text of a plan.
+fn module(alloc: Global, lines: &str) -> Result<Vec<u8>, Fail> {
+    let plan = plan_of(alloc, lines)?;
+    let name = Name::from_bytes(alloc, b"demo")?;
+    Ok(verilog_text(alloc, &plan, &name)?)
+}
+
 #[test]
 fn a_module_with_whole_words(rt: HostRuntime) -> Result<(), Fail> {
-    let alloc = rt.alloc();
-    let plan = plan_of(alloc, "word_size = 2\nnum_words = 16")?;
-    let text = verilog_text(alloc, &plan, &Name::from_bytes(alloc, b"demo")?)?;
+    let text = module(rt.alloc(), "word_size = 2\nnum_words = 16")?;
     let lines = [
         "module demo(",
         "    clk0, csb0, web0, addr0, din0, dout0",
@@ -148,15 +145,10 @@ fn a_module_with_whole_words(rt: HostRuntime) -> Result<(), Fail> {
 
 #[test]
 fn a_module_with_masked_writes(rt: HostRuntime) -> Result<(), Fail> {
-    let alloc = rt.alloc();
-    let plan = plan_of(alloc, "word_size = 4\nwrite_size = 2\nnum_words = 16")?;
-    let text = verilog_text(alloc, &plan, &Name::from_bytes(alloc, b"demo")?)?;
-    check_part(
-        &rt,
-        &text,
+    let text = module(rt.alloc(), "word_size = 4\nwrite_size = 2\nnum_words = 16")?;
+    let parts = [
         "  parameter NUM_WMASKS = 2;\n  parameter DATA_WIDTH = 4;\n",
-    )?;
-    let writes =
-        "    if (!csb0_reg && !web0_reg) begin\n      if (wmask0_reg[0])\n        mem[addr0_reg][1:0] <= din0_reg[1:0];\n      if (wmask0_reg[1])\n        mem[addr0_reg][3:2] <= din0_reg[3:2];\n    end\n";
-    check_part(&rt, &text, writes)
+        "    if (!csb0_reg && !web0_reg) begin\n      if (wmask0_reg[0])\n        mem[addr0_reg][1:0] <= din0_reg[1:0];\n      if (wmask0_reg[1])\n        mem[addr0_reg][3:2] <= din0_reg[3:2];\n    end\n",
+    ];
+    check_parts(&rt, &text, &parts)
 }

@@ -1,29 +1,47 @@
 //! Each call of the store and of the sink that a build, a read-only memory or a demonstration makes fails in turn.
 
-use crate::builds::{BUILD, DEMO, DEMO_LINE, FILES, inputs_with};
-use crate::roms::{ROM, ROM_FILES, ROM_LINE, WORDS, rom_files};
 use crate::run::run;
-use crate::tests::{Failing, NONE, file, list_of, run_on};
+use crate::tests::{
+    BUILD, Change, DEMO, DEMO_LINE, FIXED_BITS, Failing, NONE, ROM, ROM_LINE, file, inputs_with,
+    list_of, run_on,
+};
 use or_host::{MemFile, MemSink, MemStore};
 use std::alloc::Global;
 use std::process::Abort;
 use std::test::Fail;
 use std::thread::Threads;
 
-/// What is built.
-#[derive(Clone, Copy)]
-enum Built {
-    Memory,
-    ReadOnly,
-    Demonstration,
-}
+/// The files of a memory: those that it is built of, in the order in which they are read, and the views.
+const FILES: [&str; 8] = [
+    "demo.toml",
+    "demo_tech.toml",
+    "demo_tech.gds",
+    "demo_tech.sp",
+    "demo.sp",
+    "demo.gds",
+    "demo.lef",
+    "demo.v",
+];
+
+/// Those of a read-only memory.
+const ROM_FILES: [&str; 9] = [
+    "demo.toml",
+    "demo_tech.toml",
+    "demo_tech.gds",
+    "demo_tech.sp",
+    "rom.bin",
+    "demo.sp",
+    "demo.gds",
+    "demo.lef",
+    "demo.v",
+];
 
 /// The first of `files` are read, so many, and then the others are written: one call of the store for each. The line is the one
 /// that is printed where no call fails.
 #[derive(Clone, Copy)]
 struct Command {
-    built: Built,
     words: &'static [&'static str],
+    changes: &'static [Change],
     files: &'static [&'static str],
     reads: u64,
     line: &'static str,
@@ -31,22 +49,22 @@ struct Command {
 
 const COMMANDS: [Command; 3] = [
     Command {
-        built: Built::Memory,
         words: &BUILD,
+        changes: &[],
         files: &FILES,
         reads: 4,
         line: DEMO_LINE,
     },
     Command {
-        built: Built::ReadOnly,
         words: &ROM,
+        changes: &[FIXED_BITS],
         files: &ROM_FILES,
         reads: 5,
         line: ROM_LINE,
     },
     Command {
-        built: Built::Demonstration,
         words: &DEMO,
+        changes: &[],
         files: &FILES,
         reads: 0,
         line: DEMO_LINE,
@@ -55,11 +73,10 @@ const COMMANDS: [Command; 3] = [
 
 /// The files that it reads.
 fn inputs_of(alloc: Global, command: Command) -> Result<Vec<MemFile>, Fail> {
-    match command.built {
-        Built::Memory => inputs_with(alloc, &[]),
-        Built::ReadOnly => rom_files(alloc, &[], &WORDS),
-        Built::Demonstration => Ok(Vec::new(alloc)),
+    if command.reads == 0 {
+        return Ok(Vec::new(alloc));
     }
+    inputs_with(alloc, command.changes)
 }
 
 /// The files that are read, and old ones under the names of those that are written.

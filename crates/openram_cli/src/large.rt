@@ -1,7 +1,6 @@
 //! A memory of 1,024 words of 64 bits: a macro of 66,834 leaf cells, whose bitcells alone give 393,216 shapes.
 
-use crate::builds::{Change, inputs_with};
-use crate::tests::{Ended, NONE, run_on};
+use crate::tests::{Change, Ended, NONE, inputs_with, run_on};
 use std::alloc::Global;
 use std::process::Abort;
 use std::test::Fail;

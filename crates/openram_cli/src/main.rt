@@ -2,33 +2,17 @@
 #![tactic(auto)]
 
 mod answer;
-#[cfg(test)]
-mod builds;
 mod command;
 #[cfg(test)]
 mod failing;
-#[cfg(test)]
-mod hostile;
 mod inputs;
-#[cfg(test)]
-mod inverters;
 #[cfg(test)]
 mod large;
 #[cfg(test)]
-mod layouts;
-#[cfg(test)]
 mod meeting;
-#[cfg(test)]
-mod refused_builds;
-#[cfg(test)]
-mod roms;
 mod run;
 #[cfg(test)]
 mod tests;
-#[cfg(test)]
-mod transistors;
-#[cfg(test)]
-mod weak_kits;
 
 use crate::run::run;
 use command_steps::NO_MEMORY;

@@ -1,7 +1,7 @@
 //! That the workers of a check run beside each other.
 
 use crate::run::run_gated;
-use crate::tests::{FIRST, PLAIN, expect_reply, file, library};
+use crate::tests::{BROKEN, REPORT, inputs_with, list_of};
 use or_host::{MemSink, MemStore};
 use std::sync::atomic::{AtomicU64, Ordering};
 use std::test::Fail;
@@ -52,25 +52,22 @@ impl Gate for Meeting {
     }
 }
 
+const TWO_WORKERS: [&str; 5] = ["check", "demo_tech.toml", "demo_tech.gds", "demo_inv", "2"];
+
 #[test]
 fn two_workers_meet(rt: HostRuntime) -> Result<(), Fail> {
     let alloc = rt.alloc();
-    let mut words = Vec::new(alloc);
-    for word in ["check", "t.toml", "a.gds", "t", "2"] {
-        words.push(String::from_str(alloc, word)?)?;
-    }
-    let mut files = Vec::new(alloc);
-    files.push(file(alloc, b"t.toml", PLAIN.to_vec(alloc)?)?)?;
-    let gds = library(alloc, &[FIRST, [8, 0, 12, 4]])?;
-    files.push(file(alloc, b"a.gds", gds)?)?;
-    let mut store = MemStore::with(alloc, files, Vec::new(alloc));
+    let words = list_of(alloc, &TWO_WORKERS)?;
+    let inputs = inputs_with(alloc, &[BROKEN])?;
+    let mut store = MemStore::with(alloc, inputs, Vec::new(alloc));
     let mut out = MemSink::with(alloc, Vec::new(alloc));
     let gate = Meeting {
         first: unseen(),
         second: unseen(),
     };
     let status = run_gated(&rt, alloc, &gate, &words, &mut store, &mut out);
-    expect_reply(&rt, (status, out), 1, b"1 m1 0 0 4 4 m1 8 0 12 4\n");
+    assert_eq!(rt; status, 1);
+    assert_eq!(rt; out.written(), REPORT.as_bytes());
     assert_eq!(rt; gate.first.late.load(Ordering::SeqCst), 0);
     assert_eq!(rt; gate.second.late.load(Ordering::SeqCst), 0);
     Ok(())
