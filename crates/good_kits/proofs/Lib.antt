@@ -1,3 +1,2 @@
 pub mod ConfigLaws
 pub mod BuildLaws
-pub mod NetLaws

@@ -3,24 +3,15 @@
 #![tactic(auto)]
 
 ghost use Rattle.good_kits.specs.Builds.{GoodKitsSpareBuilds, GoodKitsSpareRuns};
-ghost use Rattle.good_kits.specs.Nets.{GoodKitsMatchBuilds, GoodKitsMatchRuns};
 
-/// The work on a configuration's file that names such a kit has none of these refusals, and is refused for a cell too wide exactly by widths.
+/// The work on a configuration that names a kit of which `kit` answers no line is never refused for pins or taps too close, a broken rule or
+/// nets that differ; and where no name is taken, it is refused for a cell too wide exactly where the sense cell or the write cell is wider than
+/// the columns of a bit.
 pub fn good_kits_spare_builds()
     ensures { GoodKitsSpareBuilds }
 {}
 
-/// No run of `build` ends with one of these.
+/// No run of `build` over a kit that `kit` passes ends with pins or taps too close, a broken rule or nets that differ.
 pub fn good_kits_spare_runs()
     ensures { GoodKitsSpareRuns }
-{}
-
-/// Nor has the work nets that differ.
-pub fn good_kits_match_builds()
-    ensures { GoodKitsMatchBuilds }
-{}
-
-/// No run of `build` ends with them.
-pub fn good_kits_match_runs()
-    ensures { GoodKitsMatchRuns }
 {}

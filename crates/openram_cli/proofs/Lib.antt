@@ -3,3 +3,4 @@ mod NearLaws
 mod WorkLaws
 mod OneAnswer
 mod OneRunLaws
+mod GoodKitLaws

@@ -5,7 +5,7 @@ use Rattle.reply_lines.specs.declared.refusal.Refusal.{Refusal}
 use Rattle.reply_lines.specs.declared.reply.Reply.{Reply}
 use Rattle.openram_cli.specs.Answer.{IsUsage, IsCommandWork, IsWork}
 use Rattle.openram_cli.specs.Command.{Command, command_of}
-use Rattle.command_steps.specs.Outside.{StoreState}
+use Rattle.or_host.specs.State.{StoreState}
 use Rattle.command_steps.specs.Reading.{HasRead}
 
 -- the work on words that are a command

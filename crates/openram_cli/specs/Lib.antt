@@ -4,3 +4,4 @@ pub mod Inputs
 pub mod Answer
 pub mod OneAnswer
 pub mod Run
+pub mod GoodKits

@@ -4,8 +4,9 @@ ghost use Rattle.openram_cli.specs.Answer.{IsWork};
 ghost use Rattle.openram_cli.specs.Command.{command_of};
 ghost use Rattle.openram_cli.specs.OneAnswer.{EndsAsAnswer, EndAsAsked};
 ghost use Rattle.command_steps.specs.Outcome.{is_usage_outcome};
-ghost use Rattle.command_steps.specs.Outside.{store_state, sink_state, outside_at};
+ghost use Rattle.command_steps.specs.Outside.{outside_at};
 ghost use Rattle.command_steps.specs.Reading.{HasRead};
+ghost use Rattle.openram_cli.specs.GoodKits.{EndsWithinGoodKit};
 ghost use Rattle.openram_cli.specs.Run.{IsAnswerRun, IsProgramRun};
 
 use crate::answer::answer;
@@ -27,7 +28,7 @@ fn reply_to<R: Threads + Sync, G: Gate + Sync, S: Store>(
     words: &[String],
     store: &mut S,
 ) -> Result<Reply, Refusal>
-    ensures read { HasRead (IsWork (map string_bytes words.now)) result (store_state (S.files store.old) (S.faults store.old) (S.failed store.old)) (store_state (S.files store.new) (S.faults store.new) (S.failed store.new)) }
+    ensures read { HasRead (IsWork (map string_bytes words.now)) result (S.state store.old) (S.state store.new) }
     ensures small { IfOk result (λ reply. reply.status < 2) }
     ensures usage { is_usage_outcome result ≡ is_none (command_of (map string_bytes words.now)) }
 {
@@ -47,8 +48,8 @@ fn answer_words<R: Threads + Sync, G: Gate + Sync, S: Store, K: Sink>(
     store: &mut S,
     out: &mut K,
 ) -> u8
-    ensures run { IsAnswerRun (map string_bytes words.now) result (outside_at (store_state (S.files store.old) (S.faults store.old) (S.failed store.old)) (sink_state (K.written out.old) (K.faults out.old) (K.puts out.old))) (outside_at (store_state (S.files store.new) (S.faults store.new) (S.failed store.new)) (sink_state (K.written out.new) (K.faults out.new) (K.puts out.new))) }
-    ensures one { EndsAsAnswer (map string_bytes words.now) result (outside_at (store_state (S.files store.old) (S.faults store.old) (S.failed store.old)) (sink_state (K.written out.old) (K.faults out.old) (K.puts out.old))) (outside_at (store_state (S.files store.new) (S.faults store.new) (S.failed store.new)) (sink_state (K.written out.new) (K.faults out.new) (K.puts out.new))) }
+    ensures run { IsAnswerRun (map string_bytes words.now) result (outside_at (S.state store.old) (K.state out.old)) (outside_at (S.state store.new) (K.state out.new)) }
+    ensures one { EndsAsAnswer (map string_bytes words.now) result (outside_at (S.state store.old) (K.state out.old)) (outside_at (S.state store.new) (K.state out.new)) }
 {
     match reply_to(rt, alloc, gate, words, store) {
         Ok(reply) => finish(alloc, &reply, out),
@@ -65,12 +66,15 @@ pub fn run_gated<R: Threads + Sync, G: Gate + Sync, S: Store, K: Sink>(
     store: &mut S,
     out: &mut K,
 ) -> u8
-    ensures run { IsProgramRun (map string_bytes words.now) result (outside_at (store_state (S.files store.old) (S.faults store.old) (S.failed store.old)) (sink_state (K.written out.old) (K.faults out.old) (K.puts out.old))) (outside_at (store_state (S.files store.new) (S.faults store.new) (S.failed store.new)) (sink_state (K.written out.new) (K.faults out.new) (K.puts out.new))) }
+    ensures run { IsProgramRun (map string_bytes words.now) result (outside_at (S.state store.old) (K.state out.old)) (outside_at (S.state store.new) (K.state out.new)) }
     // Over files of bytes words that build no memory have one answer at most, and the run ends as it says: status and text are a
     // function of words and files.
-    ensures one { EndsAsAnswer (map string_bytes words.now) result (outside_at (store_state (S.files store.old) (S.faults store.old) (S.failed store.old)) (sink_state (K.written out.old) (K.faults out.old) (K.puts out.old))) (outside_at (store_state (S.files store.new) (S.faults store.new) (S.failed store.new)) (sink_state (K.written out.new) (K.faults out.new) (K.puts out.new))) }
+    ensures one { EndsAsAnswer (map string_bytes words.now) result (outside_at (S.state store.old) (K.state out.old)) (outside_at (S.state store.new) (K.state out.new)) }
     // So they are of words that build one, with the files at the end.
-    ensures work { EndAsAsked (map string_bytes words.now) result (outside_at (store_state (S.files store.old) (S.faults store.old) (S.failed store.old)) (sink_state (K.written out.old) (K.faults out.old) (K.puts out.old))) (outside_at (store_state (S.files store.new) (S.faults store.new) (S.failed store.new)) (sink_state (K.written out.new) (K.faults out.new) (K.puts out.new))) }
+    ensures work { EndAsAsked (map string_bytes words.now) result (outside_at (S.state store.old) (K.state out.old)) (outside_at (S.state store.new) (K.state out.new)) }
+    // A build whose kit `kit` finds no weakness in is refused with none of what such a kit rules out: no pins or taps that are too close, no broken
+    // rule, no nets that differ.
+    ensures good { EndsWithinGoodKit (map string_bytes words.now) result (outside_at (S.state store.old) (K.state out.old)) (outside_at (S.state store.new) (K.state out.new)) }
 {
     match making_in(words) {
         Some(making) => make(rt, alloc, gate, making, store, out),
@@ -89,12 +93,15 @@ pub fn run<R: Threads + Sync, S: Store, K: Sink>(
     store: &mut S,
     out: &mut K,
 ) -> u8
-    ensures run { IsProgramRun (map string_bytes words.now) result (outside_at (store_state (S.files store.old) (S.faults store.old) (S.failed store.old)) (sink_state (K.written out.old) (K.faults out.old) (K.puts out.old))) (outside_at (store_state (S.files store.new) (S.faults store.new) (S.failed store.new)) (sink_state (K.written out.new) (K.faults out.new) (K.puts out.new))) }
+    ensures run { IsProgramRun (map string_bytes words.now) result (outside_at (S.state store.old) (K.state out.old)) (outside_at (S.state store.new) (K.state out.new)) }
     // Over files of bytes words that build no memory have one answer at most, and the run ends as it says: status and text are a
     // function of words and files.
-    ensures one { EndsAsAnswer (map string_bytes words.now) result (outside_at (store_state (S.files store.old) (S.faults store.old) (S.failed store.old)) (sink_state (K.written out.old) (K.faults out.old) (K.puts out.old))) (outside_at (store_state (S.files store.new) (S.faults store.new) (S.failed store.new)) (sink_state (K.written out.new) (K.faults out.new) (K.puts out.new))) }
+    ensures one { EndsAsAnswer (map string_bytes words.now) result (outside_at (S.state store.old) (K.state out.old)) (outside_at (S.state store.new) (K.state out.new)) }
     // So they are of words that build one, with the files at the end.
-    ensures work { EndAsAsked (map string_bytes words.now) result (outside_at (store_state (S.files store.old) (S.faults store.old) (S.failed store.old)) (sink_state (K.written out.old) (K.faults out.old) (K.puts out.old))) (outside_at (store_state (S.files store.new) (S.faults store.new) (S.failed store.new)) (sink_state (K.written out.new) (K.faults out.new) (K.puts out.new))) }
+    ensures work { EndAsAsked (map string_bytes words.now) result (outside_at (S.state store.old) (K.state out.old)) (outside_at (S.state store.new) (K.state out.new)) }
+    // A build whose kit `kit` finds no weakness in is refused with none of what such a kit rules out: no pins or taps that are too close, no broken
+    // rule, no nets that differ.
+    ensures good { EndsWithinGoodKit (map string_bytes words.now) result (outside_at (S.state store.old) (K.state out.old)) (outside_at (S.state store.new) (K.state out.new)) }
 {
     run_gated(rt, alloc, &OpenGate, words, store, out)
 }

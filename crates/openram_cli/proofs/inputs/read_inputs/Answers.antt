@@ -4,7 +4,6 @@ use Rattle.openram_cli.specs.CommandWords.{told_layout}
 use Rattle.openram_cli.specs.Inputs.{IsDeckFile, IsLayout, AreCompared, AreLeafCells}
 use Rattle.build_command.specs.Design.{IsKitUnder}
 use Rattle.command_steps.specs.Outcome.{WithoutRefusal}
-use Rattle.command_steps.specs.Outside.{store_state}
 use Rattle.openram_cli.specs.declared.inputs.Inputs.{Inputs}
 use Rattle.openram_cli.specs.declared.inputs.Inputs.TheVariants as inputs
 use Rattle.command_steps.proofs.OutcomeLaws.{read_on, read_ends}
@@ -13,8 +12,8 @@ use Rattle.openram_cli.proofs.inputs.read_inputs.Goals as goal
 pub returns-in_err-read_layout-in-Check-clause-read : goal.returns-in_err-read_layout-in-Check-clause-read
 returns-in_err-read_layout-in-Check-clause-read g c =
     let p = err_from_is_err_and c.from_residual.result c.from_residual.ensures.1 in
-    let before = store_state (g.S.Store.files c.args.store.now) (g.S.Store.faults c.args.store.now) (g.S.Store.failed c.args.store.now) in
-    let now = store_state (g.S.Store.files c.read_layout.new.store) (g.S.Store.faults c.read_layout.new.store) (g.S.Store.failed c.read_layout.new.store) in
+    let before = g.S.Store.state c.args.store.now in
+    let now = g.S.Store.state c.read_layout.new.store in
     rw (p.1, p.2, c.in-Check.is)
     (read_ends (λ files. IsLayout files (told_layout c.in-Check.words)) (λ files layout. WithoutRefusal (λ (read : Inputs). read ≡ inputs.Check layout)) c.in_err-read_layout-in-Check.field-0.0 before now c.in_err-read_layout-in-Check.ensures.read)
 
@@ -22,8 +21,8 @@ pub returns-in_err-read_layout-in-Nets-clause-read : goal.returns-in_err-read_la
 returns-in_err-read_layout-in-Nets-clause-read g c =
     let from = c.from_residual-in_err-read_layout-in-Nets in
     let p = err_from_is_err_and from.result from.ensures.1 in
-    let before = store_state (g.S.Store.files c.args.store.now) (g.S.Store.faults c.args.store.now) (g.S.Store.failed c.args.store.now) in
-    let now = store_state (g.S.Store.files c.read_layout-in-Nets.new.store) (g.S.Store.faults c.read_layout-in-Nets.new.store) (g.S.Store.failed c.read_layout-in-Nets.new.store) in
+    let before = g.S.Store.state c.args.store.now in
+    let now = g.S.Store.state c.read_layout-in-Nets.new.store in
     rw (p.1, p.2, c.in-Nets.is)
     (read_ends (λ files. IsLayout files (told_layout c.in-Nets.words)) (λ files layout. WithoutRefusal (λ (read : Inputs). read ≡ inputs.Nets layout)) c.in_err-read_layout-in-Nets.field-0.0 before now c.in_err-read_layout-in-Nets.ensures.read)
 
@@ -32,8 +31,8 @@ returns-in_err-layout-in-Compare-clause-read g c =
     let from = c.from_residual-in_err-layout-in-Compare in
     let p = err_from_is_err_and from.result from.ensures.1 in
     let netlist = c.in-Compare.netlist.now in
-    let before = store_state (g.S.Store.files c.args.store.now) (g.S.Store.faults c.args.store.now) (g.S.Store.failed c.args.store.now) in
-    let now = store_state (g.S.Store.files c.read_layout-in-Compare.new.store) (g.S.Store.faults c.read_layout-in-Compare.new.store) (g.S.Store.failed c.read_layout-in-Compare.new.store) in
+    let before = g.S.Store.state c.args.store.now in
+    let now = g.S.Store.state c.read_layout-in-Compare.new.store in
     rw (p.1, p.2, c.in-Compare.is)
     (read_ends (λ files. IsLayout files (told_layout c.in-Compare.layout)) (λ files. AreCompared files netlist) c.in_err-layout-in-Compare.field-0.0 before now c.in_err-layout-in-Compare.ensures.read)
 
@@ -44,9 +43,9 @@ returns-in_err-deck-in-Compare-clause-read g c =
     let netlist = c.in-Compare.netlist.now in
     let layout = c.in_ok-layout-in-Compare.layout in
     let refusal = c.in_err-deck-in-Compare.field-0.0 in
-    let before = store_state (g.S.Store.files c.args.store.now) (g.S.Store.faults c.args.store.now) (g.S.Store.failed c.args.store.now) in
-    let mid = store_state (g.S.Store.files c.read_layout-in-Compare.new.store) (g.S.Store.faults c.read_layout-in-Compare.new.store) (g.S.Store.failed c.read_layout-in-Compare.new.store) in
-    let now = store_state (g.S.Store.files c.read_deck.new.store) (g.S.Store.faults c.read_deck.new.store) (g.S.Store.failed c.read_deck.new.store) in
+    let before = g.S.Store.state c.args.store.now in
+    let mid = g.S.Store.state c.read_layout-in-Compare.new.store in
+    let now = g.S.Store.state c.read_deck.new.store in
     rw (p.1, p.2, c.in-Compare.is) (
     read_on (λ files. IsLayout files (told_layout c.in-Compare.layout)) (λ files. AreCompared files netlist) layout (Err refusal) before mid now c.in_ok-layout-in-Compare.ensures.read
     (read_ends (λ files. IsDeckFile files netlist) (λ files d. WithoutRefusal (λ (read : Inputs). read ≡ inputs.Compare layout d)) refusal mid now c.in_err-deck-in-Compare.ensures.read)
@@ -57,8 +56,8 @@ returns-in_err-read_leaf_cells-in-Devices-clause-read g c =
     let from = c.from_residual-in_err-read_leaf_cells-in-Devices in
     let p = err_from_is_err_and from.result from.ensures.1 in
     let name = c.in-Devices.name.now in
-    let before = store_state (g.S.Store.files c.args.store.now) (g.S.Store.faults c.args.store.now) (g.S.Store.failed c.args.store.now) in
-    let now = store_state (g.S.Store.files c.read_leaf_cells.new.store) (g.S.Store.faults c.read_leaf_cells.new.store) (g.S.Store.failed c.read_leaf_cells.new.store) in
+    let before = g.S.Store.state c.args.store.now in
+    let now = g.S.Store.state c.read_leaf_cells.new.store in
     rw (p.1, p.2, c.in-Devices.is)
     (read_ends (λ files. AreLeafCells files name) (λ files cells. WithoutRefusal (λ (read : Inputs). read ≡ inputs.Devices cells)) c.in_err-read_leaf_cells-in-Devices.field-0.0 before now c.in_err-read_leaf_cells-in-Devices.ensures.read)
 
@@ -67,7 +66,7 @@ returns-in_err-read_kit_under-in-Kit-clause-read g c =
     let from = c.from_residual-in_err-read_kit_under-in-Kit in
     let p = err_from_is_err_and from.result from.ensures.1 in
     let name = c.in-Kit.name.now in
-    let before = store_state (g.S.Store.files c.args.store.now) (g.S.Store.faults c.args.store.now) (g.S.Store.failed c.args.store.now) in
-    let now = store_state (g.S.Store.files c.read_kit_under.new.store) (g.S.Store.faults c.read_kit_under.new.store) (g.S.Store.failed c.read_kit_under.new.store) in
+    let before = g.S.Store.state c.args.store.now in
+    let now = g.S.Store.state c.read_kit_under.new.store in
     rw (p.1, p.2, c.in-Kit.is)
     (read_ends (λ files. IsKitUnder files name) (λ files made. WithoutRefusal (λ (read : Inputs). read ≡ inputs.Kit made)) c.in_err-read_kit_under-in-Kit.field-0.0 before now c.in_err-read_kit_under-in-Kit.ensures.read)

@@ -4,7 +4,6 @@ use Rattle.std.specs.Prelude.{string_bytes}
 use Rattle.openram_cli.specs.Answer.{IsReplyTo}
 use Rattle.openram_cli.specs.CommandWords.{told_command}
 use Rattle.openram_cli.specs.Inputs.{AreInputs}
-use Rattle.command_steps.specs.Outside.{store_state}
 use Rattle.command_steps.proofs.OutcomeLaws.{read_then, read_ends}
 use Rattle.openram_cli.proofs.WorkLaws.{work_of}
 use Rattle.openram_cli.proofs.run.reply_to.Goals as goal
@@ -12,8 +11,8 @@ use Rattle.openram_cli.proofs.run.reply_to.Goals as goal
 pub returns-clause-read : goal.returns-clause-read
 returns-clause-read g c =
     let command = told_command c.in-Some.command in
-    let before = store_state (g.S.Store.files c.args.store.now) (g.S.Store.faults c.args.store.now) (g.S.Store.failed c.args.store.now) in
-    let now = store_state (g.S.Store.files c.read_inputs.new.store) (g.S.Store.faults c.read_inputs.new.store) (g.S.Store.failed c.read_inputs.new.store) in
+    let before = g.S.Store.state c.args.store.now in
+    let now = g.S.Store.state c.read_inputs.new.store in
     work_of (map string_bytes c.args.words.now) command c.answer.result before now c.in-Some.ensures.words
     (read_then (λ files. AreInputs files command) IsReplyTo c.in_ok-inputs.inputs c.answer.result before now c.in_ok-inputs.ensures.read c.answer.ensures.answer c.answer.ensures.read)
 
@@ -22,8 +21,8 @@ returns-in_err-inputs-clause-read g c =
     let p = err_from_is_err_and c.from_residual.result c.from_residual.ensures.1 in
     let command = told_command c.in-Some.command in
     let refusal = c.in_err-inputs.field-0.0 in
-    let before = store_state (g.S.Store.files c.args.store.now) (g.S.Store.faults c.args.store.now) (g.S.Store.failed c.args.store.now) in
-    let now = store_state (g.S.Store.files c.read_inputs.new.store) (g.S.Store.faults c.read_inputs.new.store) (g.S.Store.failed c.read_inputs.new.store) in
+    let before = g.S.Store.state c.args.store.now in
+    let now = g.S.Store.state c.read_inputs.new.store in
     rw (p.1, p.2)
     (work_of (map string_bytes c.args.words.now) command (Err refusal) before now c.in-Some.ensures.words
     (read_ends (λ files. AreInputs files command) (λ files. IsReplyTo) refusal before now c.in_err-inputs.ensures.read))
