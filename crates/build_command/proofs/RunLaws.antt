@@ -17,7 +17,8 @@ use Rattle.command_steps.proofs.EndLaws.{grows}
 use Rattle.command_steps.proofs.OutcomeLaws.{told_all, told_map, no_name, names_on}
 use Rattle.command_steps.specs.Finished.{IsFinished, IsOutOfMemory, IsFaultLinePrinted, IsUnwrittenPrinted, IsRefusalPrinted, IsFaultPrinted, unread_line, unwritten_line}
 use Rattle.command_steps.specs.Outcome.{UnlessMemory, unread_name}
-use Rattle.command_steps.specs.Outside.{Outside, SinkState, StoreState, outside_at}
+use Rattle.or_host.specs.State.{StoreState, SinkState}
+use Rattle.command_steps.specs.Outside.{Outside, outside_at}
 use Rattle.command_steps.specs.Printed.{IsWholeText}
 use Rattle.command_steps.specs.Reading.{HasRead}
 use Rattle.command_steps.specs.Writing.{AreWritten, EndsAt, is_write_failure}

@@ -7,7 +7,7 @@ use Rattle.reply_lines.specs.declared.refusal.Refusal.{Refusal}
 use Rattle.reply_lines.specs.declared.refusal.Refusal.TheVariants.{Memory}
 use Rattle.command_steps.proofs.OutcomeLaws.{told_all, told_map, then_on, no_name}
 use Rattle.command_steps.specs.Outcome.{Then, UnlessMemory}
-use Rattle.command_steps.specs.Outside.{StoreState}
+use Rattle.or_host.specs.State.{StoreState}
 use Rattle.command_steps.specs.Reading.{HasRead}
 
 -- a step that reads nothing, and then one that reads

@@ -12,7 +12,8 @@ use Rattle.reply_lines.specs.Statuses.{is_read_failure, is_usage, refusal_status
 use Rattle.reply_lines.specs.declared.refusal.Refusal.{Refusal}
 use Rattle.command_steps.specs.Finished.{IsFinished, IsOutOfMemory, IsUnwrittenPrinted, IsRefusalPrinted, IsFaultPrinted, unread_line, unwritten_line}
 use Rattle.command_steps.specs.Outcome.{UnlessMemory, unread_name}
-use Rattle.command_steps.specs.Outside.{Outside, StoreState, IfTold, outside_at}
+use Rattle.or_host.specs.State.{StoreState}
+use Rattle.command_steps.specs.Outside.{Outside, IfTold, outside_at}
 use Rattle.command_steps.specs.Printed.{IsWholeText}
 use Rattle.command_steps.specs.Writing.{AreWritten, EndsAt, is_write_failure}
 use Rattle.build_command.specs.declared.made.Made.{Made}

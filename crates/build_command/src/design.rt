@@ -3,7 +3,6 @@ ghost use Rattle.sram_plan.specs.Config.{IsConfig};
 ghost use Rattle.tech_rules.specs.Facts.{IsTech};
 ghost use Rattle.command_steps.specs.File.{IsFile};
 ghost use Rattle.command_steps.specs.Outcome.{is_usage_outcome};
-ghost use Rattle.command_steps.specs.Outside.{store_state};
 ghost use Rattle.command_steps.specs.Reading.{HasRead};
 ghost use Rattle.build_command.specs.Design.{IsConfigFile, IsLeafLayoutFile, IsKitOver, IsKitWith, IsKitUnder, IsDesignWith, IsDesignOf, IsDesign, IsGoodDesign};
 ghost use Rattle.leaf_tables.specs.Kits.{IsKit};
@@ -32,7 +31,7 @@ pub fn read_configuration<S: Store>(
     name: &str,
     store: &mut S,
 ) -> Result<Config, Refusal>
-    ensures read { HasRead (λ files. IsConfigFile files name.now) result (store_state (S.files store.old) (S.faults store.old) (S.failed store.old)) (store_state (S.files store.new) (S.faults store.new) (S.failed store.new)) }
+    ensures read { HasRead (λ files. IsConfigFile files name.now) result (S.state store.old) (S.state store.new) }
     ensures good { IfOk result IsConfig }
     ensures words { is_usage_outcome result ≡ false }
 {
@@ -47,7 +46,7 @@ fn read_under<S: Store>(
     ending: &str,
     store: &mut S,
 ) -> Result<Items<u8>, Refusal>
-    ensures read { HasRead (λ files. IsFile files (name.now ++ ending.now)) result (store_state (S.files store.old) (S.faults store.old) (S.failed store.old)) (store_state (S.files store.new) (S.faults store.new) (S.failed store.new)) }
+    ensures read { HasRead (λ files. IsFile files (name.now ++ ending.now)) result (S.state store.old) (S.state store.new) }
     ensures words { is_usage_outcome result ≡ false }
 {
     let file = with_ending(alloc, name, ending)?;
@@ -60,7 +59,7 @@ fn read_leaf_layout<S: Store>(
     name: &str,
     store: &mut S,
 ) -> Result<Items<u8>, Refusal>
-    ensures read { HasRead (λ files. IsLeafLayoutFile files (name.now ++ codes ".gds")) result (store_state (S.files store.old) (S.faults store.old) (S.failed store.old)) (store_state (S.files store.new) (S.faults store.new) (S.failed store.new)) }
+    ensures read { HasRead (λ files. IsLeafLayoutFile files (name.now ++ codes ".gds")) result (S.state store.old) (S.state store.new) }
     ensures words { is_usage_outcome result ≡ false }
 {
     let bytes = read_under(alloc, name, ".gds", store)?;
@@ -77,7 +76,7 @@ fn read_kit_over<S: Store>(
     store: &mut S,
 ) -> Result<Kit, Refusal>
     requires { IsTech tech }
-    ensures read { HasRead (λ files. IsKitOver files name.now tech gds.now) result (store_state (S.files store.old) (S.faults store.old) (S.failed store.old)) (store_state (S.files store.new) (S.faults store.new) (S.failed store.new)) }
+    ensures read { HasRead (λ files. IsKitOver files name.now tech gds.now) result (S.state store.old) (S.state store.new) }
     ensures good { IfOk result IsKit }
     ensures words { is_usage_outcome result ≡ false }
 {
@@ -93,7 +92,7 @@ fn read_kit_with<S: Store>(
     store: &mut S,
 ) -> Result<Kit, Refusal>
     requires { IsTech tech }
-    ensures read { HasRead (λ files. IsKitWith files name.now tech) result (store_state (S.files store.old) (S.faults store.old) (S.failed store.old)) (store_state (S.files store.new) (S.faults store.new) (S.failed store.new)) }
+    ensures read { HasRead (λ files. IsKitWith files name.now tech) result (S.state store.old) (S.state store.new) }
     ensures good { IfOk result IsKit }
     ensures words { is_usage_outcome result ≡ false }
 {
@@ -103,7 +102,7 @@ fn read_kit_with<S: Store>(
 
 /// Reads the kit of this name: the technology, the leaf cells' layouts and their subcircuits, each decoded before the next is read.
 pub fn read_kit_under<S: Store>(alloc: Global, name: &str, store: &mut S) -> Result<Kit, Refusal>
-    ensures read { HasRead (λ files. IsKitUnder files name.now) result (store_state (S.files store.old) (S.faults store.old) (S.failed store.old)) (store_state (S.files store.new) (S.faults store.new) (S.failed store.new)) }
+    ensures read { HasRead (λ files. IsKitUnder files name.now) result (S.state store.old) (S.state store.new) }
     ensures good { IfOk result IsKit }
     ensures words { is_usage_outcome result ≡ false }
 {
@@ -119,7 +118,7 @@ fn design_with<S: Store>(
     store: &mut S,
 ) -> Result<Design, Refusal>
     requires config { IsConfig config }
-    ensures read { HasRead (λ files. IsDesignWith files config plan) result (store_state (S.files store.old) (S.faults store.old) (S.failed store.old)) (store_state (S.files store.new) (S.faults store.new) (S.failed store.new)) }
+    ensures read { HasRead (λ files. IsDesignWith files config plan) result (S.state store.old) (S.state store.new) }
     ensures parts { IfOk result (λ design. (design.config ≡ config) × (design.plan ≡ plan)) }
     ensures good { IfOk result (λ design. IsKit design.kit) }
     ensures words { is_usage_outcome result ≡ false }
@@ -131,7 +130,7 @@ fn design_with<S: Store>(
 /// The design of a configuration.
 pub fn design_of<S: Store>(alloc: Global, config: Config, store: &mut S) -> Result<Design, Refusal>
     requires { IsConfig config }
-    ensures read { HasRead (λ files. IsDesignOf files config) result (store_state (S.files store.old) (S.faults store.old) (S.failed store.old)) (store_state (S.files store.new) (S.faults store.new) (S.failed store.new)) }
+    ensures read { HasRead (λ files. IsDesignOf files config) result (S.state store.old) (S.state store.new) }
     ensures config { IfOk result (λ design. design.config ≡ config) }
     ensures good { IfOk result IsGoodDesign }
     ensures words { is_usage_outcome result ≡ false }
@@ -143,7 +142,7 @@ pub fn design_of<S: Store>(alloc: Global, config: Config, store: &mut S) -> Resu
 /// Reads the configuration, and then the files that it names: the technology, the leaf cells' layouts and their subcircuits,
 /// each decoded before the next is read.
 pub fn read_design<S: Store>(alloc: Global, name: &str, store: &mut S) -> Result<Design, Refusal>
-    ensures read { HasRead (λ files. IsDesign files name.now) result (store_state (S.files store.old) (S.faults store.old) (S.failed store.old)) (store_state (S.files store.new) (S.faults store.new) (S.failed store.new)) }
+    ensures read { HasRead (λ files. IsDesign files name.now) result (S.state store.old) (S.state store.new) }
     ensures good { IfOk result IsGoodDesign }
     ensures words { is_usage_outcome result ≡ false }
 {

@@ -1,7 +1,6 @@
 ghost use Rattle.std.specs.Prelude.{◌≡◌, ◌⊎◌, None, false, IfOk};
 ghost use Rattle.sram_plan.specs.Config.{IsConfig};
 ghost use Rattle.command_steps.specs.Outcome.{UnlessMemory, is_read_failed, is_usage_outcome};
-ghost use Rattle.command_steps.specs.Outside.{store_state};
 ghost use Rattle.command_steps.specs.Reading.{HasRead};
 ghost use Rattle.build_command.specs.Design.{IsGoodDesign};
 ghost use Rattle.build_command.specs.RomDesign.{key_against_rom, IsRomConfiguration, IsRomWith, IsRomOver, IsRomUnder, IsRomAfter, IsRomDesign, IsGoodRom};
@@ -60,7 +59,7 @@ fn rom_with<S: Store>(
     requires design { IsGoodDesign design }
     requires suited { key_against_rom design.config ≡ None }
     requires cells { HasRomLeaves design.kit }
-    ensures read { HasRead (λ files. IsRomWith files content.now design) result (store_state (S.files store.old) (S.faults store.old) (S.failed store.old)) (store_state (S.files store.new) (S.faults store.new) (S.failed store.new)) }
+    ensures read { HasRead (λ files. IsRomWith files content.now design) result (S.state store.old) (S.state store.new) }
     ensures good { IfOk result IsGoodRom }
     ensures words { is_usage_outcome result ≡ false }
 {
@@ -78,7 +77,7 @@ fn rom_over<S: Store>(
 ) -> Result<RomDesign, Refusal>
     requires design { IsGoodDesign design }
     requires suited { key_against_rom design.config ≡ None }
-    ensures read { HasRead (λ files. IsRomOver files content.now design) result (store_state (S.files store.old) (S.faults store.old) (S.failed store.old)) (store_state (S.files store.new) (S.faults store.new) (S.failed store.new)) }
+    ensures read { HasRead (λ files. IsRomOver files content.now design) result (S.state store.old) (S.state store.new) }
     ensures good { IfOk result IsGoodRom }
     ensures words { is_usage_outcome result ≡ false }
 {
@@ -95,7 +94,7 @@ fn rom_under<S: Store>(
 ) -> Result<RomDesign, Refusal>
     requires config { IsConfig config }
     requires suited { key_against_rom config ≡ None }
-    ensures read { HasRead (λ files. IsRomUnder files content.now config) result (store_state (S.files store.old) (S.faults store.old) (S.failed store.old)) (store_state (S.files store.new) (S.faults store.new) (S.failed store.new)) }
+    ensures read { HasRead (λ files. IsRomUnder files content.now config) result (S.state store.old) (S.state store.new) }
     ensures good { IfOk result IsGoodRom }
     ensures words { is_usage_outcome result ≡ false }
 {
@@ -111,7 +110,7 @@ fn rom_after<S: Store>(
     store: &mut S,
 ) -> Result<RomDesign, Refusal>
     requires config { IsConfig config }
-    ensures read { HasRead (λ files. IsRomAfter files content.now config) result (store_state (S.files store.old) (S.faults store.old) (S.failed store.old)) (store_state (S.files store.new) (S.faults store.new) (S.failed store.new)) }
+    ensures read { HasRead (λ files. IsRomAfter files content.now config) result (S.state store.old) (S.state store.new) }
     ensures good { IfOk result IsGoodRom }
     ensures words { is_usage_outcome result ≡ false }
 {
@@ -127,7 +126,7 @@ pub fn read_rom<S: Store>(
     content: &str,
     store: &mut S,
 ) -> Result<RomDesign, Refusal>
-    ensures read { HasRead (λ files. IsRomDesign files name.now content.now) result (store_state (S.files store.old) (S.faults store.old) (S.failed store.old)) (store_state (S.files store.new) (S.faults store.new) (S.failed store.new)) }
+    ensures read { HasRead (λ files. IsRomDesign files name.now content.now) result (S.state store.old) (S.state store.new) }
     ensures good { IfOk result IsGoodRom }
     ensures words { is_usage_outcome result ≡ false }
 {

@@ -1,7 +1,7 @@
 ghost use Rattle.std.specs.Prelude.{◌≡◌, ◌<◌, ◌≤◌, false, IfOk, codes};
 ghost use Rattle.or_host.specs.FileList.{files_of};
 ghost use Rattle.command_steps.specs.Outcome.{UnlessMemory, is_read_failed, is_usage_outcome};
-ghost use Rattle.command_steps.specs.Outside.{store_state, sink_state, outside_at};
+ghost use Rattle.command_steps.specs.Outside.{outside_at};
 ghost use Rattle.command_steps.specs.Reading.{HasRead};
 ghost use Rattle.command_steps.specs.Writing.{HaveAsciiNames};
 ghost use Rattle.build_command.specs.Made.{IsRomWork, IsWork};
@@ -32,7 +32,7 @@ fn work_on<R: Threads + Sync, G: Gate + Sync, S: Store>(
 ) -> Result<Made, Refusal>
     requires some { 0 < workers }
     requires at_most { workers ≤ 64 }
-    ensures read { HasRead (λ files. IsWork files config.now) result (store_state (S.files store.old) (S.faults store.old) (S.failed store.old)) (store_state (S.files store.new) (S.faults store.new) (S.failed store.new)) }
+    ensures read { HasRead (λ files. IsWork files config.now) result (S.state store.old) (S.state store.new) }
     ensures names { IfOk result (λ made. HaveAsciiNames made.views) }
     ensures done { IfOk result (λ made. made.reply.status ≡ 0) }
     ensures words { is_usage_outcome result ≡ false }
@@ -53,7 +53,7 @@ fn work_on_rom<R: Threads + Sync, G: Gate + Sync, S: Store>(
 ) -> Result<Made, Refusal>
     requires some { 0 < workers }
     requires at_most { workers ≤ 64 }
-    ensures read { HasRead (λ files. IsRomWork files config.now content.now) result (store_state (S.files store.old) (S.faults store.old) (S.failed store.old)) (store_state (S.files store.new) (S.faults store.new) (S.failed store.new)) }
+    ensures read { HasRead (λ files. IsRomWork files config.now content.now) result (S.state store.old) (S.state store.new) }
     ensures names { IfOk result (λ made. HaveAsciiNames made.views) }
     ensures done { IfOk result (λ made. made.reply.status ≡ 0) }
     ensures words { is_usage_outcome result ≡ false }
@@ -85,7 +85,7 @@ fn work_on_demo<R: Threads + Sync, G: Gate + Sync>(
 /// Writes the views, and prints the line of success.
 fn put_out<S: Store, K: Sink>(alloc: Global, made: &Made, store: &mut S, out: &mut K) -> u8
     requires { HaveAsciiNames made.now.views }
-    ensures { IsPutOut made.now result (outside_at (store_state (S.files store.old) (S.faults store.old) (S.failed store.old)) (sink_state (K.written out.old) (K.faults out.old) (K.puts out.old))) (outside_at (store_state (S.files store.new) (S.faults store.new) (S.failed store.new)) (sink_state (K.written out.new) (K.faults out.new) (K.puts out.new))) }
+    ensures { IsPutOut made.now result (outside_at (S.state store.old) (K.state out.old)) (outside_at (S.state store.new) (K.state out.new)) }
 {
     match write_files(made.views.as_slice(), store) {
         Ok(()) => finish(alloc, &made.reply, out),
@@ -105,7 +105,7 @@ fn build_from<R: Threads + Sync, G: Gate + Sync, S: Store, K: Sink>(
 ) -> u8
     requires some { 0 < workers }
     requires at_most { workers ≤ 64 }
-    ensures { IsMakingRun (build config.now) result (outside_at (store_state (S.files store.old) (S.faults store.old) (S.failed store.old)) (sink_state (K.written out.old) (K.faults out.old) (K.puts out.old))) (outside_at (store_state (S.files store.new) (S.faults store.new) (S.failed store.new)) (sink_state (K.written out.new) (K.faults out.new) (K.puts out.new))) }
+    ensures { IsMakingRun (build config.now) result (outside_at (S.state store.old) (K.state out.old)) (outside_at (S.state store.new) (K.state out.new)) }
 {
     match work_on(rt, alloc, gate, config, workers, store) {
         Ok(made) => put_out(alloc, &made, store, out),
@@ -126,7 +126,7 @@ fn build_rom<R: Threads + Sync, G: Gate + Sync, S: Store, K: Sink>(
 ) -> u8
     requires some { 0 < workers }
     requires at_most { workers ≤ 64 }
-    ensures { IsMakingRun (rom config.now content.now) result (outside_at (store_state (S.files store.old) (S.faults store.old) (S.failed store.old)) (sink_state (K.written out.old) (K.faults out.old) (K.puts out.old))) (outside_at (store_state (S.files store.new) (S.faults store.new) (S.failed store.new)) (sink_state (K.written out.new) (K.faults out.new) (K.puts out.new))) }
+    ensures { IsMakingRun (rom config.now content.now) result (outside_at (S.state store.old) (K.state out.old)) (outside_at (S.state store.new) (K.state out.new)) }
 {
     match work_on_rom(rt, alloc, gate, config, content, workers, store) {
         Ok(made) => put_out(alloc, &made, store, out),
@@ -146,7 +146,7 @@ fn build_demo<R: Threads + Sync, G: Gate + Sync, S: Store, K: Sink>(
 ) -> u8
     requires some { 0 < workers }
     requires at_most { workers ≤ 64 }
-    ensures { IsDemoBuilt files.items result (outside_at (store_state (S.files store.old) (S.faults store.old) (S.failed store.old)) (sink_state (K.written out.old) (K.faults out.old) (K.puts out.old))) (outside_at (store_state (S.files store.new) (S.faults store.new) (S.failed store.new)) (sink_state (K.written out.new) (K.faults out.new) (K.puts out.new))) }
+    ensures { IsDemoBuilt files.items result (outside_at (S.state store.old) (K.state out.old)) (outside_at (S.state store.new) (K.state out.new)) }
 {
     match work_on_demo(rt, alloc, gate, files, workers) {
         Ok(made) => put_out(alloc, &made, store, out),
@@ -167,7 +167,7 @@ fn write_and_build<R: Threads + Sync, G: Gate + Sync, S: Store, K: Sink>(
     requires some { 0 < workers }
     requires at_most { workers ≤ 64 }
     requires names { HaveAsciiNames files.items }
-    ensures { IsDemoWritten files.items result (outside_at (store_state (S.files store.old) (S.faults store.old) (S.failed store.old)) (sink_state (K.written out.old) (K.faults out.old) (K.puts out.old))) (outside_at (store_state (S.files store.new) (S.faults store.new) (S.failed store.new)) (sink_state (K.written out.new) (K.faults out.new) (K.puts out.new))) }
+    ensures { IsDemoWritten files.items result (outside_at (S.state store.old) (K.state out.old)) (outside_at (S.state store.new) (K.state out.new)) }
 {
     match write_files(&files, store) {
         Ok(()) => build_demo(rt, alloc, gate, files, workers, store, out),
@@ -187,7 +187,7 @@ fn demonstrate<R: Threads + Sync, G: Gate + Sync, S: Store, K: Sink>(
 ) -> u8
     requires some { 0 < workers }
     requires at_most { workers ≤ 64 }
-    ensures { IsMakingRun (demo number) result (outside_at (store_state (S.files store.old) (S.faults store.old) (S.failed store.old)) (sink_state (K.written out.old) (K.faults out.old) (K.puts out.old))) (outside_at (store_state (S.files store.new) (S.faults store.new) (S.failed store.new)) (sink_state (K.written out.new) (K.faults out.new) (K.puts out.new))) }
+    ensures { IsMakingRun (demo number) result (outside_at (S.state store.old) (K.state out.old)) (outside_at (S.state store.new) (K.state out.new)) }
 {
     let Ok(files) = demo_files(alloc, number) else {
         return no_memory(out);
@@ -207,7 +207,7 @@ pub fn make<R: Threads + Sync, G: Gate + Sync, S: Store, K: Sink>(
     out: &mut K,
 ) -> u8
     requires { HasMakingWorkers making }
-    ensures { IsMakingRun (told_making making.entry) result (outside_at (store_state (S.files store.old) (S.faults store.old) (S.failed store.old)) (sink_state (K.written out.old) (K.faults out.old) (K.puts out.old))) (outside_at (store_state (S.files store.new) (S.faults store.new) (S.failed store.new)) (sink_state (K.written out.new) (K.faults out.new) (K.puts out.new))) }
+    ensures { IsMakingRun (told_making making.entry) result (outside_at (S.state store.old) (K.state out.old)) (outside_at (S.state store.new) (K.state out.new)) }
 {
     match making.asked {
         Asked::Build { config } => build_from(rt, alloc, gate, config, making.workers, store, out),

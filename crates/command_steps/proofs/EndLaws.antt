@@ -4,7 +4,7 @@ use Rattle.or_host.specs.Fault.{Rose}
 use Rattle.or_host.specs.Text.{Grows}
 use Rattle.reply_lines.specs.declared.reply.Reply.{Reply}
 use Rattle.command_steps.specs.Finished.{AreSomeLines, IsCut, IsStopped, IsMemorySaid, IsFinished, IsOutOfMemory, memory_line}
-use Rattle.command_steps.specs.Outside.{SinkState}
+use Rattle.or_host.specs.State.{SinkState}
 use Rattle.command_steps.specs.Printed.{IsPrefixOf, AreFirstLines, IsFollowedBy}
 
 pub grows : (P Q : List ℕ → Type 0) (old new : Option (List ℕ)) → ((text : List ℕ) → P text → Q text) → Grows P old new → Grows Q old new

@@ -6,7 +6,8 @@ use Rattle.reply_lines.specs.declared.refusal.Refusal.{Refusal}
 use Rattle.reply_lines.specs.declared.refusal.Refusal.TheVariants.{ReadFailed}
 use Rattle.reply_lines.specs.Statuses.{is_read_failure}
 use Rattle.command_steps.specs.Outcome.{Then, UnlessMemory, is_read_failed, unread_name, unread_in}
-use Rattle.command_steps.specs.Outside.{StoreState, IfTold}
+use Rattle.or_host.specs.State.{StoreState}
+use Rattle.command_steps.specs.Outside.{IfTold}
 use Rattle.command_steps.specs.Reading.{HasRead}
 
 -- what holds of any files holds of those that are told

@@ -11,7 +11,8 @@ use Rattle.reply_lines.specs.Lines.{reply_line, lines_text}
 use Rattle.reply_lines.specs.Refusals.{refusal_words, unwritten_words}
 use Rattle.reply_lines.specs.Reply.{refusal_reply}
 use Rattle.reply_lines.specs.Statuses.{is_memory, is_read_failure}
-use Rattle.command_steps.specs.Outside.{Outside, SinkState}
+use Rattle.or_host.specs.State.{SinkState}
+use Rattle.command_steps.specs.Outside.{Outside}
 use Rattle.command_steps.specs.Printed.{IsWholeText, IsPrefixOf, AreFirstLines, IsFollowedBy}
 
 -- the line that says that memory ran out
@@ -53,7 +54,7 @@ pub record EndsCut (IsMore : List ℕ → Type 0) (ended : ℕ) (before now : Si
   pub text : Grows IsMore before.text now.text
   pub rose : Rose before.faults now.faults
 
--- a reply: its status and all its lines, each by one put; or 4 where the sink failed, or 5 where memory ran out
+-- a reply: its status and all its lines, with as many puts as lines; or 4 where the sink failed, or 5 where memory ran out
 abbrev pub IsFinished : Reply → ℕ → SinkState → SinkState → Type 0
 IsFinished reply ended before now =
     EndsWhole reply.status (length reply.lines) (lines_text reply.lines) ended before now

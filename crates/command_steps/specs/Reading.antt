@@ -4,7 +4,8 @@ use Rattle.or_host.specs.Fault.{HasCause, NamesLast}
 use Rattle.or_host.specs.Files.{Files}
 use Rattle.reply_lines.specs.declared.refusal.Refusal.{Refusal}
 use Rattle.command_steps.specs.Outcome.{UnlessMemory, is_read_failed, unread_in}
-use Rattle.command_steps.specs.Outside.{StoreState, IfTold}
+use Rattle.or_host.specs.State.{StoreState}
+use Rattle.command_steps.specs.Outside.{IfTold}
 
 -- Where files are told, the outcome has P over them, unless memory ran out. The files stay. The count of faults rises where a read failed, and there alone,
 -- and then this read is the last call that failed.

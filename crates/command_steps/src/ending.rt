@@ -1,7 +1,6 @@
 ghost use Rattle.reply_lines.specs.Lines.{reply_line};
 ghost use Rattle.reply_lines.specs.Refusals.{refusal_words};
 ghost use Rattle.command_steps.specs.Finished.{IsFinished, IsOutOfMemory, IsFaultLinePrinted, IsUnwrittenPrinted, IsRefusalPrinted};
-ghost use Rattle.command_steps.specs.Outside.{sink_state};
 
 use crate::print::print;
 use crate::write::Unwritten;
@@ -18,7 +17,7 @@ pub const NO_MEMORY: u8 = 5;
 
 /// Says that memory ran out, and answers the status of that or, where the sink fails, of a fault outside.
 pub fn no_memory<K: Sink>(out: &mut K) -> u8
-    ensures { IsOutOfMemory result (sink_state (K.written out.old) (K.faults out.old) (K.puts out.old)) (sink_state (K.written out.new) (K.faults out.new) (K.puts out.new)) }
+    ensures { IsOutOfMemory result (K.state out.old) (K.state out.new) }
 {
     match out.put(b"openram: 94 Memory\n") {
         Ok(()) => NO_MEMORY,
@@ -29,7 +28,7 @@ pub fn no_memory<K: Sink>(out: &mut K) -> u8
 
 /// Prints a reply, and answers its status, or 4 or 5 where it isn't printed whole.
 pub fn finish<K: Sink>(alloc: Global, reply: &Reply, out: &mut K) -> u8
-    ensures { IsFinished reply.now result (sink_state (K.written out.old) (K.faults out.old) (K.puts out.old)) (sink_state (K.written out.new) (K.faults out.new) (K.puts out.new)) }
+    ensures { IsFinished reply.now result (K.state out.old) (K.state out.new) }
 {
     match print(alloc, &reply.lines, out) {
         Ok(()) => reply.status,
@@ -40,7 +39,7 @@ pub fn finish<K: Sink>(alloc: Global, reply: &Reply, out: &mut K) -> u8
 
 /// Prints the line of a fault outside, and answers its status. Where memory runs out for it, nothing is printed.
 fn print_outside<K: Sink>(line: &ReplyLine, out: &mut K) -> u8
-    ensures { IsFaultLinePrinted line.now result (sink_state (K.written out.old) (K.faults out.old) (K.puts out.old)) (sink_state (K.written out.new) (K.faults out.new) (K.puts out.new)) }
+    ensures { IsFaultLinePrinted line.now result (K.state out.old) (K.state out.new) }
 {
     match out.put(line.as_bytes()) {
         Ok(()) => OUTSIDE,
@@ -51,7 +50,7 @@ fn print_outside<K: Sink>(line: &ReplyLine, out: &mut K) -> u8
 
 /// Prints the line of a failed read. Where memory runs out for it, nothing is printed.
 fn finish_unread<K: Sink>(alloc: Global, refusal: &Refusal, out: &mut K) -> u8
-    ensures { IsFaultLinePrinted (reply_line (refusal_words refusal.now)) result (sink_state (K.written out.old) (K.faults out.old) (K.puts out.old)) (sink_state (K.written out.new) (K.faults out.new) (K.puts out.new)) }
+    ensures { IsFaultLinePrinted (reply_line (refusal_words refusal.now)) result (K.state out.old) (K.state out.new) }
 {
     match refusal.line(alloc) {
         Ok(line) => print_outside(&line, out),
@@ -61,7 +60,7 @@ fn finish_unread<K: Sink>(alloc: Global, refusal: &Refusal, out: &mut K) -> u8
 
 /// Prints the line of a file that wasn't written, where the store failed, or says that memory ran out.
 pub fn finish_unwritten<K: Sink>(alloc: Global, unwritten: &Unwritten<'_>, out: &mut K) -> u8
-    ensures { IsUnwrittenPrinted unwritten.now.file.now.name unwritten.now.fail result (sink_state (K.written out.old) (K.faults out.old) (K.puts out.old)) (sink_state (K.written out.new) (K.faults out.new) (K.puts out.new)) }
+    ensures { IsUnwrittenPrinted unwritten.now.file.now.name unwritten.now.fail result (K.state out.old) (K.state out.new) }
 {
     match unwritten.fail {
         WriteFail::Failed => match unwritten_line(alloc, &unwritten.file.name) {
@@ -74,7 +73,7 @@ pub fn finish_unwritten<K: Sink>(alloc: Global, unwritten: &Unwritten<'_>, out: 
 
 /// Prints the line of a refusal, and answers its status, or 4 or 5 where it isn't printed whole.
 pub fn refuse<K: Sink>(alloc: Global, refusal: &Refusal, out: &mut K) -> u8
-    ensures { IsRefusalPrinted refusal.now result (sink_state (K.written out.old) (K.faults out.old) (K.puts out.old)) (sink_state (K.written out.new) (K.faults out.new) (K.puts out.new)) }
+    ensures { IsRefusalPrinted refusal.now result (K.state out.old) (K.state out.new) }
 {
     if refusal.is_memory() {
         return no_memory(out);

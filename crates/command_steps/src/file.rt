@@ -1,7 +1,6 @@
 ghost use Rattle.std.specs.Prelude.{◌≡◌, ◌++◌, codes, false, IfOk, string_bytes};
 ghost use Rattle.tech_rules.specs.Facts.{IsTech};
 ghost use Rattle.command_steps.specs.File.{IsFile, IsTechnologyFile};
-ghost use Rattle.command_steps.specs.Outside.{store_state};
 ghost use Rattle.command_steps.specs.Reading.{HasRead};
 ghost use Rattle.command_steps.specs.Outcome.{is_usage_outcome};
 
@@ -16,7 +15,7 @@ const LIMIT: u64 = 67_108_864;
 
 /// The bytes of a file.
 pub fn read_file<S: Store>(alloc: Global, name: &str, store: &mut S) -> Result<Items<u8>, Refusal>
-    ensures read { HasRead (λ files. IsFile files name.now) result (store_state (S.files store.old) (S.faults store.old) (S.failed store.old)) (store_state (S.files store.new) (S.faults store.new) (S.failed store.new)) }
+    ensures read { HasRead (λ files. IsFile files name.now) result (S.state store.old) (S.state store.new) }
     ensures words { is_usage_outcome result ≡ false }
 {
     // The name is taken first, so that a read that failed can be told.
@@ -32,7 +31,7 @@ pub fn read_file<S: Store>(alloc: Global, name: &str, store: &mut S) -> Result<I
 
 /// The technology that a file is.
 pub fn read_technology<S: Store>(alloc: Global, name: &str, store: &mut S) -> Result<Tech, Refusal>
-    ensures read { HasRead (λ files. IsTechnologyFile files name.now) result (store_state (S.files store.old) (S.faults store.old) (S.failed store.old)) (store_state (S.files store.new) (S.faults store.new) (S.failed store.new)) }
+    ensures read { HasRead (λ files. IsTechnologyFile files name.now) result (S.state store.old) (S.state store.new) }
     ensures good { IfOk result IsTech }
     ensures words { is_usage_outcome result ≡ false }
 {
@@ -55,7 +54,7 @@ pub fn read_technology_under<S: Store>(
     name: &str,
     store: &mut S,
 ) -> Result<Tech, Refusal>
-    ensures read { HasRead (λ files. IsTechnologyFile files (name.now ++ codes ".toml")) result (store_state (S.files store.old) (S.faults store.old) (S.failed store.old)) (store_state (S.files store.new) (S.faults store.new) (S.failed store.new)) }
+    ensures read { HasRead (λ files. IsTechnologyFile files (name.now ++ codes ".toml")) result (S.state store.old) (S.state store.new) }
     ensures good { IfOk result IsTech }
     ensures words { is_usage_outcome result ≡ false }
 {

@@ -13,11 +13,11 @@ use std::alloc::Global;
 use tech_rules::Layer;
 use tile_checker::Violation;
 
-/// Prints lines that are made, each by one put, up to the first that isn't printed.
+/// Prints lines that are made, with as many puts as lines, or stops at the first that isn't printed.
 fn print_made<K: Sink>(lines: &[ReplyLine], out: &mut K) -> Result<(), PutFail>
-    ensures printed { Prints lines.now (K.written out.old) (K.written out.new) result }
-    ensures cause { HasCause (K.faults out.old) (K.faults out.new) (put_failed result) }
-    ensures counted { OnOk result (RoseBy (length lines.now) (K.puts out.old) (K.puts out.new)) }
+    ensures printed { Prints lines.now (K.state out.old).text (K.state out.new).text result }
+    ensures cause { HasCause (K.state out.old).faults (K.state out.new).faults (put_failed result) }
+    ensures counted { OnOk result (RoseBy (length lines.now) (K.state out.old).puts (K.state out.new).puts) }
 {
     for line in lines {
         match out.put(line.as_bytes()) {
@@ -35,9 +35,9 @@ fn print_violation<K: Sink>(
     violation: Violation,
     out: &mut K,
 ) -> Result<(), PutFail>
-    ensures written { Puts (K.written out.old) (K.written out.new) (reply_line (violation_words layers.now violation)) result }
-    ensures cause { HasCause (K.faults out.old) (K.faults out.new) (put_failed result) }
-    ensures counted { OnOk result (RoseBy 1 (K.puts out.old) (K.puts out.new)) }
+    ensures written { Puts (K.state out.old).text (K.state out.new).text (reply_line (violation_words layers.now violation)) result }
+    ensures cause { HasCause (K.state out.old).faults (K.state out.new).faults (put_failed result) }
+    ensures counted { OnOk result (RoseBy 1 (K.state out.old).puts (K.state out.new).puts) }
 {
     match violation_line(alloc, layers, violation) {
         Ok(line) => out.put(line.as_bytes()),
@@ -45,16 +45,16 @@ fn print_violation<K: Sink>(
     }
 }
 
-/// Prints the lines of a report, each by one put, up to the first that isn't printed.
+/// Prints the lines of a report, with as many puts as lines, or stops at the first that isn't printed.
 fn print_report<K: Sink>(
     alloc: Global,
     layers: &[Layer],
     violations: &[Violation],
     out: &mut K,
 ) -> Result<(), PutFail>
-    ensures printed { Prints (report_lines layers.now violations.now) (K.written out.old) (K.written out.new) result }
-    ensures cause { HasCause (K.faults out.old) (K.faults out.new) (put_failed result) }
-    ensures counted { OnOk result (RoseBy (length violations.now) (K.puts out.old) (K.puts out.new)) }
+    ensures printed { Prints (report_lines layers.now violations.now) (K.state out.old).text (K.state out.new).text result }
+    ensures cause { HasCause (K.state out.old).faults (K.state out.new).faults (put_failed result) }
+    ensures counted { OnOk result (RoseBy (length violations.now) (K.state out.old).puts (K.state out.new).puts) }
 {
     for violation in violations {
         match print_violation(alloc, layers, *violation, out) {
@@ -65,11 +65,11 @@ fn print_report<K: Sink>(
     Ok(())
 }
 
-/// Prints lines, each by one put, up to the first that isn't printed.
+/// Prints lines, with as many puts as lines, or stops at the first that isn't printed.
 pub fn print<K: Sink>(alloc: Global, lines: &ReplyLines, out: &mut K) -> Result<(), PutFail>
-    ensures printed { Prints lines.now (K.written out.old) (K.written out.new) result }
-    ensures cause { HasCause (K.faults out.old) (K.faults out.new) (put_failed result) }
-    ensures counted { OnOk result (RoseBy (length lines.now) (K.puts out.old) (K.puts out.new)) }
+    ensures printed { Prints lines.now (K.state out.old).text (K.state out.new).text result }
+    ensures cause { HasCause (K.state out.old).faults (K.state out.new).faults (put_failed result) }
+    ensures counted { OnOk result (RoseBy (length lines.now) (K.state out.old).puts (K.state out.new).puts) }
 {
     match lines.source() {
         LineSource::Made(lines) => print_made(lines.as_slice(), out),

@@ -28,9 +28,9 @@ pub fn file_text(name: &Name) -> &str
 /// Writes files one after another, up to the first that isn't written.
 pub fn write_files<'a, S: Store>(files: &'a [MemFile], store: &mut S) -> Result<(), Unwritten<'a>>
     requires { HaveAsciiNames files.now }
-    ensures written { WritesAll files.now (S.files store.old) (S.files store.new) result }
-    ensures cause { HasCause (S.faults store.old) (S.faults store.new) (some_write_failed result) }
-    ensures named { NamesLast (unwritten_in result) (S.failed store.old) (S.failed store.new) }
+    ensures written { WritesAll files.now (S.state store.old).files (S.state store.new).files result }
+    ensures cause { HasCause (S.state store.old).faults (S.state store.new).faults (some_write_failed result) }
+    ensures named { NamesLast (unwritten_in result) (S.state store.old).failed (S.state store.new).failed }
 {
     for file in files {
         match store.write(file_text(&file.name), file.bytes.as_slice()) {

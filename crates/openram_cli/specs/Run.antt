@@ -18,7 +18,7 @@ use Rattle.command_steps.specs.Printed.{IsWholeText, IsPrefixOf, AreFirstLines, 
 abbrev pub usage_line : List ℕ
 usage_line = reply_line (headed 90 (codes "Usage") [])
 
--- status 0 to 3: the answer's status, and all of its lines, each by one put
+-- status 0 to 3: the answer's status, and all of its lines, with as many puts as lines
 pub record IsAnswered (words : List (List ℕ)) (files : Files) (status : ℕ) (before now : Outside) : Type 0 where
   pub reply : Reply
   pub is : IsAnswer words files reply

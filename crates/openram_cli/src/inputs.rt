@@ -4,7 +4,6 @@ ghost use Rattle.tech_rules.specs.Facts.{IsTech};
 ghost use Rattle.openram_cli.specs.CommandWords.{told_asked, told_layout};
 ghost use Rattle.openram_cli.specs.Inputs.{IsLibraryFile, IsDeckFile, IsLayout, HasDevices, IsDeviceTechnology, AreLeafCells, AreInputs, AreSound};
 ghost use Rattle.command_steps.specs.Outcome.{UnlessMemory, is_read_failed, is_usage_outcome};
-ghost use Rattle.command_steps.specs.Outside.{store_state};
 ghost use Rattle.command_steps.specs.Reading.{HasRead};
 
 use crate::command::{Asked, LayoutWords};
@@ -47,7 +46,7 @@ pub enum Inputs {
 }
 
 fn read_library<S: Store>(alloc: Global, name: &str, store: &mut S) -> Result<Library, Refusal>
-    ensures read { HasRead (λ files. IsLibraryFile files name.now) result (store_state (S.files store.old) (S.faults store.old) (S.failed store.old)) (store_state (S.files store.new) (S.faults store.new) (S.failed store.new)) }
+    ensures read { HasRead (λ files. IsLibraryFile files name.now) result (S.state store.old) (S.state store.new) }
     ensures good { IfOk result IsWritable }
     ensures words { is_usage_outcome result ≡ false }
 {
@@ -56,7 +55,7 @@ fn read_library<S: Store>(alloc: Global, name: &str, store: &mut S) -> Result<Li
 }
 
 fn read_deck<S: Store>(alloc: Global, name: &str, store: &mut S) -> Result<Deck, Refusal>
-    ensures read { HasRead (λ files. IsDeckFile files name.now) result (store_state (S.files store.old) (S.faults store.old) (S.failed store.old)) (store_state (S.files store.new) (S.faults store.new) (S.failed store.new)) }
+    ensures read { HasRead (λ files. IsDeckFile files name.now) result (S.state store.old) (S.state store.new) }
     ensures words { is_usage_outcome result ≡ false }
 {
     let bytes = read_file(alloc, name, store)?;
@@ -68,7 +67,7 @@ fn read_layout<S: Store>(
     words: LayoutWords<'_>,
     store: &mut S,
 ) -> Result<Layout, Refusal>
-    ensures read { HasRead (λ files. IsLayout files (told_layout words.entry)) result (store_state (S.files store.old) (S.faults store.old) (S.failed store.old)) (store_state (S.files store.new) (S.faults store.new) (S.failed store.new)) }
+    ensures read { HasRead (λ files. IsLayout files (told_layout words.entry)) result (S.state store.old) (S.state store.new) }
     ensures tech { IfOk result (λ layout. IsTech layout.tech) }
     ensures writable { IfOk result (λ layout. IsWritable layout.lib) }
     ensures words { is_usage_outcome result ≡ false }
@@ -98,7 +97,7 @@ fn read_device_technology<S: Store>(
     name: &str,
     store: &mut S,
 ) -> Result<Tech, Refusal>
-    ensures read { HasRead (λ files. IsDeviceTechnology files name.now) result (store_state (S.files store.old) (S.faults store.old) (S.failed store.old)) (store_state (S.files store.new) (S.faults store.new) (S.failed store.new)) }
+    ensures read { HasRead (λ files. IsDeviceTechnology files name.now) result (S.state store.old) (S.state store.new) }
     ensures good { IfOk result IsTech }
     ensures words { is_usage_outcome result ≡ false }
 {
@@ -112,7 +111,7 @@ fn read_library_under<S: Store>(
     name: &str,
     store: &mut S,
 ) -> Result<Library, Refusal>
-    ensures read { HasRead (λ files. IsLibraryFile files (name.now ++ codes ".gds")) result (store_state (S.files store.old) (S.faults store.old) (S.failed store.old)) (store_state (S.files store.new) (S.faults store.new) (S.failed store.new)) }
+    ensures read { HasRead (λ files. IsLibraryFile files (name.now ++ codes ".gds")) result (S.state store.old) (S.state store.new) }
     ensures good { IfOk result IsWritable }
     ensures words { is_usage_outcome result ≡ false }
 {
@@ -122,7 +121,7 @@ fn read_library_under<S: Store>(
 
 /// The deck in the file of this name and `.sp`.
 fn read_deck_under<S: Store>(alloc: Global, name: &str, store: &mut S) -> Result<Deck, Refusal>
-    ensures read { HasRead (λ files. IsDeckFile files (name.now ++ codes ".sp")) result (store_state (S.files store.old) (S.faults store.old) (S.failed store.old)) (store_state (S.files store.new) (S.faults store.new) (S.failed store.new)) }
+    ensures read { HasRead (λ files. IsDeckFile files (name.now ++ codes ".sp")) result (S.state store.old) (S.state store.new) }
     ensures words { is_usage_outcome result ≡ false }
 {
     let file = with_ending(alloc, name, ".sp")?;
@@ -131,7 +130,7 @@ fn read_deck_under<S: Store>(alloc: Global, name: &str, store: &mut S) -> Result
 
 /// The leaf cells of the technology of this name.
 fn read_leaf_cells<S: Store>(alloc: Global, name: &str, store: &mut S) -> Result<LeafCells, Refusal>
-    ensures read { HasRead (λ files. AreLeafCells files name.now) result (store_state (S.files store.old) (S.faults store.old) (S.failed store.old)) (store_state (S.files store.new) (S.faults store.new) (S.failed store.new)) }
+    ensures read { HasRead (λ files. AreLeafCells files name.now) result (S.state store.old) (S.state store.new) }
     ensures tech { IfOk result (λ cells. IsTech cells.tech) }
     ensures writable { IfOk result (λ cells. IsWritable cells.lib) }
     ensures words { is_usage_outcome result ≡ false }
@@ -149,7 +148,7 @@ pub fn read_inputs<S: Store>(
     asked: Asked<'_>,
     store: &mut S,
 ) -> Result<Inputs, Refusal>
-    ensures read { HasRead (λ files. AreInputs files (told_asked asked.entry)) result (store_state (S.files store.old) (S.faults store.old) (S.failed store.old)) (store_state (S.files store.new) (S.faults store.new) (S.failed store.new)) }
+    ensures read { HasRead (λ files. AreInputs files (told_asked asked.entry)) result (S.state store.old) (S.state store.new) }
     ensures sound { IfOk result AreSound }
     ensures words { is_usage_outcome result ≡ false }
 {

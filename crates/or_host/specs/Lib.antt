@@ -1,6 +1,7 @@
 pub mod Fault
 pub mod Files
 pub mod Text
+pub mod State
 pub mod FileList
 pub mod Schedule
 pub mod MemoryStore

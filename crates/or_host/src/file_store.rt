@@ -39,6 +39,14 @@ fn read_some(file: &mut impl Read, buffer: &mut [u8]) -> io::Result<usize>
     Err(io::Error::from(ErrorKind::Interrupted))
 }
 
+/// Why the system didn't open or read a file.
+fn read_fail(error: &io::Error) -> ReadFail {
+    match error.kind() {
+        ErrorKind::OutOfMemory => ReadFail::Memory,
+        _ => ReadFail::Failed,
+    }
+}
+
 /// The bytes of a file, if there are no more than the limit. Each turn takes at least one byte, and no more than one
 /// byte above the limit is ever taken into memory.
 fn read_at_most(
@@ -59,7 +67,7 @@ fn read_at_most(
         };
         let n = match read_some(file, &mut buffer[..want]) {
             Ok(n) => n,
-            Err(_) => return Err(ReadFail::Failed),
+            Err(error) => return Err(read_fail(&error)),
         };
         if n == 0 {
             return Ok(Some(bytes));
@@ -73,22 +81,15 @@ fn read_at_most(
 }
 
 impl<R: Runtime<File = File> + AllocGlobal> Store for FileStore<R> {
-    ghost files = { λ s. None };
-
-    ghost faults = { λ s. s.faults };
-
-    ghost failed = { λ s. None };
+    ghost state = { λ s. record { files = None; faults = s.faults; failed = None } };
 
     fn read(&mut self, name: &str, limit: u64) -> Result<Option<Vec<u8>>, ReadFail> {
-        let mut file = match fs::open(&self.rt, name) {
-            Ok(file) => file,
+        let read = match fs::open(&self.rt, name) {
+            Ok(mut file) => read_at_most(self.rt.alloc(), &mut file, limit),
             Err(error) if error.kind() == ErrorKind::NotFound => return Ok(None),
-            Err(_) => {
-                self.faults = self.faults.saturating_add(1);
-                return Err(ReadFail::Failed);
-            }
+            Err(error) => Err(read_fail(&error)),
         };
-        match read_at_most(self.rt.alloc(), &mut file, limit) {
+        match read {
             Err(ReadFail::Failed) => {
                 self.faults = self.faults.saturating_add(1);
                 Err(ReadFail::Failed)

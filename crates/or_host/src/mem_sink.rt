@@ -39,11 +39,7 @@ impl MemSink {
 impl Sink for MemSink {
     ghost use Rattle.or_host.specs.MemorySink.{text_of, calls_of};
 
-    ghost written = { λ s. Some (text_of s) };
-
-    ghost faults = { λ s. (calls_of s).faults };
-
-    ghost puts = { λ s. (calls_of s).calls };
+    ghost state = { λ s. record { text = Some (text_of s); faults = (calls_of s).faults; puts = (calls_of s).calls } };
 
     fn put(&mut self, bytes: &[u8]) -> Result<(), PutFail>
         ensures written { Puts (Some (text_of self.old)) (Some (text_of self.new)) bytes.now result }

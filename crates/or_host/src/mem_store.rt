@@ -57,11 +57,7 @@ impl MemStore {
 impl Store for MemStore {
     ghost use Rattle.or_host.specs.MemoryStore.{held, schedule_of, failed_in};
 
-    ghost files = { λ s. Some (held s) };
-
-    ghost faults = { λ s. (schedule_of s).faults };
-
-    ghost failed = { λ s. failed_in s };
+    ghost state = { λ s. record { files = Some (held s); faults = (schedule_of s).faults; failed = failed_in s } };
 
     fn read(&mut self, name: &str, limit: u64) -> Result<Option<Vec<u8>>, ReadFail>
         ensures read { Reads (Some (held self.old)) name.now limit result }

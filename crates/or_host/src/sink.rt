@@ -1,6 +1,7 @@
-ghost use Rattle.std.specs.Prelude.{◌≡◌, ℕ, Option, List};
+ghost use Rattle.std.specs.Prelude.{◌≡◌};
 ghost use Rattle.or_host.specs.Fault.{HasCause, RoseBy};
 ghost use Rattle.or_host.specs.Text.{Puts, put_failed};
+ghost use Rattle.or_host.specs.State.{SinkState};
 ghost use Rattle.or_host.specs.declared.sink.PutFail.TheVariants as put_fail;
 
 use std::alloc::AllocError;
@@ -24,18 +25,12 @@ impl From<AllocError> for PutFail {
 
 /// Where lines are printed. Like a store, a sink tells its text or doesn't.
 pub trait Sink {
-    /// The text so far, where the sink tells it.
-    ghost written: { Self → Option (List ℕ) };
-
-    /// How often a call failed. The count never falls, and stands still at 2^64 - 1.
-    ghost faults: { Self → ℕ };
-
-    /// How many calls were made. The count stands still at 2^64 - 1.
-    ghost puts: { Self → ℕ };
+    /// The text, the count of faults, and the count of calls.
+    ghost state: { Self → SinkState };
 
     /// Adds the bytes at the end of the text.
     fn put(&mut self, bytes: &[u8]) -> Result<(), PutFail>
-        ensures written { Puts (written self.old) (written self.new) bytes.now result }
-        ensures cause { HasCause (faults self.old) (faults self.new) (put_failed result) }
-        ensures counted { RoseBy 1 (puts self.old) (puts self.new) };
+        ensures written { Puts (state self.old).text (state self.new).text bytes.now result }
+        ensures cause { HasCause (state self.old).faults (state self.new).faults (put_failed result) }
+        ensures counted { RoseBy 1 (state self.old).puts (state self.new).puts };
 }

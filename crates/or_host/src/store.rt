@@ -1,6 +1,7 @@
-ghost use Rattle.std.specs.Prelude.{◌≡◌, ℕ, List, Option, IfOk};
+ghost use Rattle.std.specs.Prelude.{◌≡◌, IfOk};
 ghost use Rattle.or_host.specs.Fault.{HasCause, NamesLast, name_if};
-ghost use Rattle.or_host.specs.Files.{Files, Reads, Writes, IsNoLonger, read_failed, write_failed};
+ghost use Rattle.or_host.specs.Files.{Reads, Writes, IsNoLonger, read_failed, write_failed};
+ghost use Rattle.or_host.specs.State.{StoreState};
 ghost use Rattle.or_host.specs.declared.store.ReadFail.TheVariants as read_fail;
 ghost use Rattle.or_host.specs.declared.store.WriteFail.TheVariants as write_fail;
 
@@ -43,32 +44,25 @@ impl From<Memory> for WriteFail {
     }
 }
 
-/// Files by their names.
+/// Files that are read and written by name: those of the file system, or those of a store in memory.
 ///
-/// A store either tells its files, and then each answer is tied to them, or it doesn't, as the file system, of which no
-/// contract can speak. In both cases a call fails only where the count of faults rises, so that nobody above a store can
-/// answer a fault of his own making.
+/// A store may tell what its files hold, and then its contract ties each answer to them; the file system's tells nothing.
+/// In any store a call fails only if the count of faults rises, so that a caller can't report a fault that didn't happen.
 pub trait Store {
-    /// The files, where the store tells them.
-    ghost files: { Self → Option Files };
-
-    /// How often a call failed. The count never falls, and stands still at 2^64 - 1.
-    ghost faults: { Self → ℕ };
-
-    /// The name in the last call that failed, where the store tells it.
-    ghost failed: { Self → Option (List ℕ) };
+    /// The files, the count of faults, and the name in the last call that failed.
+    ghost state: { Self → StoreState };
 
     /// The bytes of a file, or none where there is no such file. At most `limit` bytes are taken.
     fn read(&mut self, name: &str, limit: u64) -> Result<Option<Vec<u8>>, ReadFail>
-        ensures read { Reads (files self.old) name.now limit result }
+        ensures read { Reads (state self.old).files name.now limit result }
         ensures bound { IfOk result (IsNoLonger limit) }
-        ensures same { files self.new ≡ files self.old }
-        ensures cause { HasCause (faults self.old) (faults self.new) (read_failed result) }
-        ensures named { NamesLast (name_if (read_failed result) name.now) (failed self.old) (failed self.new) };
+        ensures same { (state self.new).files ≡ (state self.old).files }
+        ensures cause { HasCause (state self.old).faults (state self.new).faults (read_failed result) }
+        ensures named { NamesLast (name_if (read_failed result) name.now) (state self.old).failed (state self.new).failed };
 
     /// Puts the bytes in the place of what the file holds, or makes the file.
     fn write(&mut self, name: &str, bytes: &[u8]) -> Result<(), WriteFail>
-        ensures written { Writes (files self.old) (files self.new) name.now bytes.now result }
-        ensures cause { HasCause (faults self.old) (faults self.new) (write_failed result) }
-        ensures named { NamesLast (name_if (write_failed result) name.now) (failed self.old) (failed self.new) };
+        ensures written { Writes (state self.old).files (state self.new).files name.now bytes.now result }
+        ensures cause { HasCause (state self.old).faults (state self.new).faults (write_failed result) }
+        ensures named { NamesLast (name_if (write_failed result) name.now) (state self.old).failed (state self.new).failed };
 }

@@ -28,11 +28,7 @@ impl<R: Runtime> StreamSink<R> {
 }
 
 impl<R: Runtime> Sink for StreamSink<R> {
-    ghost written = { λ s. None };
-
-    ghost faults = { λ s. s.faults };
-
-    ghost puts = { λ s. s.puts };
+    ghost state = { λ s. record { text = None; faults = s.faults; puts = s.puts } };
 
     fn put(&mut self, bytes: &[u8]) -> Result<(), PutFail> {
         self.puts = self.puts.saturating_add(1);

@@ -35,11 +35,7 @@ impl SureSink {
 impl Sink for SureSink {
     ghost use Rattle.or_host.specs.SureText.{sure_text, sure_puts};
 
-    ghost written = { λ s. Some (sure_text s) };
-
-    ghost faults = { λ s. 0 };
-
-    ghost puts = { λ s. sure_puts s };
+    ghost state = { λ s. record { text = Some (sure_text s); faults = 0; puts = sure_puts s } };
 
     fn put(&mut self, bytes: &[u8]) -> Result<(), PutFail> {
         self.puts = self.puts.saturating_add(1);

@@ -33,11 +33,7 @@ impl SureStore {
 impl Store for SureStore {
     ghost use Rattle.or_host.specs.SureFiles.{kept};
 
-    ghost files = { λ s. Some (kept s) };
-
-    ghost faults = { λ s. 0 };
-
-    ghost failed = { λ s. None };
+    ghost state = { λ s. record { files = Some (kept s); faults = 0; failed = None } };
 
     fn read(&mut self, name: &str, limit: u64) -> Result<Option<Vec<u8>>, ReadFail> {
         let Some(bytes) = bytes_under(&self.files, name) else {

@@ -3,7 +3,9 @@
 //! The bytes are written beside the file, under its name with `.unfinished` behind it, and handed to the disk. Only then
 //! does that file take the name of the old one, in one step of the file system. So under the final name stands the old file
 //! or the whole new one; what a program that was ended leaves behind says by its name what it is, and the next write of
-//! that name takes it up and finishes it.
+//! that name removes it.
+
+ghost use Rattle.std.specs.Prelude.{◌≤◌, IfOk, length};
 
 use std::fs::{self, File, OpenOptions, Permissions};
 use std::io::{self, ErrorKind, Write};
@@ -17,7 +19,7 @@ const UNFINISHED: &str = ".unfinished";
 /// How many links are followed from one name, as by the system.
 const MOST_LINKS: u32 = 40;
 
-/// How often a file is opened anew that another program renamed in the same moment.
+/// How often the file beside is made anew when other programs write the same name in the same moment.
 const MOST_TRIES: u32 = 1000;
 
 /// The name to which symbolic links lead from this one, whether or not there is a file.
@@ -29,7 +31,7 @@ fn followed<R: Runtime + AllocGlobal>(rt: &R, name: &str) -> io::Result<PathBuf>
             _ => return Ok(path),
         }
     }
-    Err(io::Error::from(ErrorKind::InvalidInput))
+    Err(io::Error::from(ErrorKind::FilesystemLoop))
 }
 
 /// Where a link leads: a relative target counts from the folder of the link.
@@ -49,14 +51,39 @@ fn stands_at<R: Runtime>(rt: &R, file: &File, path: &str) -> io::Result<bool> {
     }
 }
 
-/// The file beside, which no other program that writes the same name has until it is closed. Where the file system has no
-/// locks, two such programs are not kept apart.
+/// Removes the file beside that a program which was ended left. While another program writes it, this waits until that
+/// program has given it its name, and removes nothing.
+fn remove_left<R: Runtime<File = File>>(rt: &R, path: &str) -> io::Result<()> {
+    let file = match OpenOptions::new().write(true).open(rt, path) {
+        Ok(file) => file,
+        Err(error) if error.kind() == ErrorKind::NotFound => return Ok(()),
+        Err(error) => return Err(error),
+    };
+    let _ = file.lock();
+    if stands_at(rt, &file, path)? {
+        return fs::remove_file(rt, path);
+    }
+    Ok(())
+}
+
+/// The file beside, made anew, so that it has the permissions of any new file. No other program that writes the same name
+/// has it until it is closed. Where the file system has no locks, two such programs are not kept apart.
 fn claimed<R: Runtime<File = File>>(rt: &R, path: &str) -> io::Result<File> {
     for _ in 0..MOST_TRIES {
-        let file = OpenOptions::new().write(true).create(true).open(rt, path)?;
-        let _ = file.lock();
-        if stands_at(rt, &file, path)? {
-            return Ok(file);
+        match OpenOptions::new()
+            .write(true)
+            .create_new(true)
+            .open(rt, path)
+        {
+            Ok(file) => {
+                let _ = file.lock();
+                // Another program may have taken it for one that was left, before it was locked.
+                if stands_at(rt, &file, path)? {
+                    return Ok(file);
+                }
+            }
+            Err(error) if error.kind() == ErrorKind::AlreadyExists => remove_left(rt, path)?,
+            Err(error) => return Err(error),
         }
     }
     Err(io::Error::from(ErrorKind::ResourceBusy))
@@ -68,7 +95,6 @@ fn fill(file: &mut File, permissions: Option<Permissions>, bytes: &[u8]) -> io::
     if let Some(permissions) = permissions {
         file.set_permissions(permissions)?;
     }
-    file.set_len(0)?;
     file.write_all(bytes)?;
     file.sync_all()
 }
@@ -92,9 +118,29 @@ fn replace<R: Runtime<File = File> + AllocGlobal>(
     done
 }
 
-/// Writes to what is no file of a disk, as a device or a pipe, and can't be replaced.
+/// Writes as many bytes as the device takes at once. A write that a signal interrupted is begun again.
+fn write_some(device: &mut File, bytes: &[u8]) -> io::Result<usize>
+    ensures { IfOk result (λ n. n ≤ length bytes.now) }
+{
+    for _ in 0..u64::MAX {
+        match device.write(bytes) {
+            Err(error) if error.kind() == ErrorKind::Interrupted => {}
+            other => return other,
+        }
+    }
+    Err(io::Error::from(ErrorKind::Interrupted))
+}
+
+/// Writes to what is no file of a disk, as a device or a pipe, and can't be replaced. Once it took bytes, a lack of memory
+/// is a failed write like any other, since something changed.
 fn pour(mut device: File, bytes: &[u8]) -> io::Result<()> {
-    device.write_all(bytes)
+    let taken = write_some(&mut device, bytes)?;
+    match device.write_all(&bytes[taken..]) {
+        Err(error) if error.kind() == ErrorKind::OutOfMemory => {
+            Err(io::Error::from(ErrorKind::Other))
+        }
+        other => other,
+    }
 }
 
 /// Puts the bytes in the place of what the file holds, or makes the file. Links are followed, and a file that is replaced

@@ -9,15 +9,14 @@ use Rattle.sram_plan.specs.PlanNumbers.{numbers_of}
 use Rattle.sram_plan.specs.declared.config.Config.{Config}
 use Rattle.sram_plan.specs.declared.numbers.Plan.{Plan}
 use Rattle.build_command.specs.declared.design.Design.{Design}
-use Rattle.command_steps.specs.Outside.{store_state}
 use Rattle.build_command.proofs.StepLaws.{step_on}
 use Rattle.build_command.specs.Design.{IsGoodDesign, IsPlanned, IsDesignWith}
 use Rattle.build_command.proofs.design.design_of.Goals as goal
 
 pub returns-clause-read : goal.returns-clause-read
 returns-clause-read g c =
-    let before = store_state (g.S.Store.files c.args.store.now) (g.S.Store.faults c.args.store.now) (g.S.Store.failed c.args.store.now) in
-    let now = store_state (g.S.Store.files c.design_with.new.store) (g.S.Store.faults c.design_with.new.store) (g.S.Store.failed c.design_with.new.store) in
+    let before = g.S.Store.state c.args.store.now in
+    let now = g.S.Store.state c.design_with.new.store in
     step_on (IsPlanned c.args.config) (λ files. IsDesignWith files c.args.config) c.in_ok-plan.plan c.design_with.result before now c.in_ok-plan.ensures.planned c.design_with.ensures.read
 
 good_of : (config : Config) (plan : Plan) (result : Result Design Refusal) → IsConfig config → IsPlanOf config plan → ArePlanNumbers (numbers_of plan) → IfOk result (λ design. (design.config ≡ config) × (design.plan ≡ plan)) → IfOk result (λ design. IsKit design.kit) → IfOk result IsGoodDesign

@@ -6,4 +6,4 @@ pub returns-in-Err-Failed : goal.returns-in-Err-Failed
 returns-in-Err-Failed g c =
     let puts = rw c.in-Err-Failed.field-0-is at c.in-Err-Failed.ensures.written in
     let cause = rw c.in-Err-Failed.field-0-is at c.in-Err-Failed.ensures.cause in
-    inl (record { is = refl; text = put_cut _ _ (g.K.Sink.written c.args.out.now) _ refl puts; rose = cause.rose refl })
+    inl (record { is = refl; text = put_cut _ _ (g.K.Sink.state c.args.out.now).text _ refl puts; rose = cause.rose refl })

@@ -8,7 +8,7 @@ use Rattle.command_steps.proofs.print.print_report.Given as goal
 
 abbrev pub invariant-loop-violation : goal.invariant-loop-violation
 invariant-loop-violation g l = record {
-  printed : Grows (IsBefore (lines_text (report_lines l.layers l.violations)) (lines_text (report_lines l.layers (drop l.violation-index l.violations)))) (g.K.Sink.written l.fn.out) (g.K.Sink.written l.out);
-  clean : g.K.Sink.faults l.out ≡ g.K.Sink.faults l.fn.out;
-  counted : RoseBy l.violation-index (g.K.Sink.puts l.fn.out) (g.K.Sink.puts l.out);
+  printed : Grows (IsBefore (lines_text (report_lines l.layers l.violations)) (lines_text (report_lines l.layers (drop l.violation-index l.violations)))) (g.K.Sink.state l.fn.out).text (g.K.Sink.state l.out).text;
+  clean : (g.K.Sink.state l.out).faults ≡ (g.K.Sink.state l.fn.out).faults;
+  counted : RoseBy l.violation-index (g.K.Sink.state l.fn.out).puts (g.K.Sink.state l.out).puts;
 }
