@@ -1,6 +1,5 @@
 -- An `.ENDS`, by whether a subcircuit is open.
-use Rattle.std.proofs.Common.{◌≡◌, List, ℕ, Bool, true, false, cond, Option, Some, None, Result, Ok, Err, refl, ap}
-use Rattle.spice_text.specs.declared.fault.SpiceFault.{SpiceFault}
+use Rattle.std.proofs.Common.{◌≡◌, List, ℕ, true, false, cond, Option, Some, None, Ok, Err, refl, ap}
 use Rattle.spice_text.specs.declared.fault.SpiceFault.TheVariants as fault
 use Rattle.spice_text.specs.Lines.{TextLine}
 use Rattle.spice_text.specs.Statements as says

@@ -1,5 +1,5 @@
 -- What the reader's own types stand for.
-use Rattle.std.specs.Prelude.{◌≡◌, ℕ, List, [], ◌∷◌, Bool, false, if◌then◌else◌, map, Option, Some, None, IfSome, codes, ◌||◌}
+use Rattle.std.specs.Prelude.{◌≡◌, ℕ, List, ◌∷◌, Bool, false, if◌then◌else◌, map, Option, Some, None, IfSome, codes, ◌||◌}
 use Rattle.netlist.specs.declared.deck.Deck.{Deck}
 use Rattle.std.specs.Str.{bytes_eq}
 use Rattle.spice_text.specs.declared.statement.Keyword.{Keyword}
@@ -12,7 +12,7 @@ use Rattle.spice_text.specs.LogicalLines.{starts_with}
 use Rattle.spice_text.specs.Words.{before_assignment, is_among}
 use Rattle.spice_text.specs.Statements.{LineMeaning}
 use Rattle.spice_text.specs.Statements as says
-use Rattle.spice_text.specs.Subcircuits.{BegunSubckt, DeckSoFar, name_of, own_name, opened, closed_by, with_closed}
+use Rattle.spice_text.specs.Subcircuits.{BegunSubckt, DeckSoFar, name_of, own_name, closed_by, with_closed}
 
 -- what a statement says
 abbrev pub said : Statement → LineMeaning
@@ -58,14 +58,6 @@ so_far r = record { done = r.done; current = current_of r.current }
 -- the deck of what was read, where the text ends after so many bytes
 abbrev pub deck_of : Reading → ℕ → Deck
 deck_of r used = record { subckts = r.done; used = used }
-
--- the subcircuit that begins with these words, if there are some
-abbrev pub opened_by : ℕ → List (List ℕ) → Option BegunSubckt
-opened_by line [] = None
-opened_by line (name ∷ ports) = Some (opened line name ports)
-
-abbrev pub with_opened : DeckSoFar → ℕ → List (List ℕ) → DeckSoFar
-with_opened d line words = record { done = d.done; current = opened_by line words }
 
 -- whether an `.ENDS` with these words behind it ends the open subcircuit
 abbrev pub is_ended_by : Option BegunSubckt → List (List ℕ) → Bool

@@ -14,7 +14,7 @@ use crate::reading::read_line;
 use crate::source::Source;
 use crate::statement::{Statement, read_statement};
 use crate::subcircuit::Reading;
-use netlist::{Deck, Subckt};
+use netlist::Deck;
 use or_geom::Items;
 use std::alloc::Global;
 
@@ -82,13 +82,6 @@ fn read_lines(alloc: Global, reading: &mut Reading, bytes: &[u8]) -> Result<u64,
     ended(reading, bytes.len() as u64)
 }
 
-/// The subcircuits that are done.
-fn done_of(reading: Reading) -> Items<Subckt>
-    ensures { result ≡ reading.done }
-{
-    reading.done
-}
-
 /// The deck of a text without foreign bytes.
 fn read_deck(alloc: Global, bytes: &[u8]) -> Result<Deck, SpiceFault>
     ensures { IsSpiceAnswer (λ d. d) result (deck_after (length bytes.now) start (logical_lines (lines_of bytes.now))) }
@@ -98,11 +91,10 @@ fn read_deck(alloc: Global, bytes: &[u8]) -> Result<Deck, SpiceFault>
         names: NameSet::new(alloc),
         current: None,
     };
-    let used = read_lines(alloc, &mut reading, bytes);
-    let subckts = done_of(reading);
+    let used = read_lines(alloc, &mut reading, bytes)?;
     Ok(Deck {
-        subckts,
-        used: used?,
+        subckts: reading.done,
+        used,
     })
 }
 

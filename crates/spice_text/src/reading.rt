@@ -1,8 +1,8 @@
-ghost use Rattle.std.specs.Prelude.{◌≡◌, ◌<◌, ◌∷◌, ◌++◌, [], IfOk, IfSome, OnOk, MatchOption, length};
+ghost use Rattle.std.specs.Prelude.{◌≡◌, ◌<◌, ◌∷◌, ◌++◌, [], IfOk, OnOk, MatchOption, length};
 ghost use Rattle.spice_text.specs.Views.{logical_of};
-ghost use Rattle.spice_text.specs.ReaderViews.{said, begun_of, current_of, so_far, opened_by, with_opened, is_ended_by, closed, HasInstanceNames, HasNames};
+ghost use Rattle.spice_text.specs.ReaderViews.{said, begun_of, current_of, so_far, is_ended_by, closed, HasInstanceNames, HasNames};
 ghost use Rattle.spice_text.specs.Statements as says;
-ghost use Rattle.spice_text.specs.Subcircuits.{has_repeat, instance_added, kept_raw, closed_by};
+ghost use Rattle.spice_text.specs.Subcircuits.{has_repeat, opened, with_current, instance_added, kept_raw, closed_by};
 ghost use Rattle.spice_text.specs.Steps.{step};
 ghost use Rattle.spice_text.specs.Faults.{IsSpiceAnswer};
 
@@ -28,53 +28,71 @@ fn repeats(alloc: Global, names: &[Name]) -> Result<bool, Memory>
     Ok(false)
 }
 
-/// The subcircuit that begins with these words: its name, and its ports.
-fn opening(alloc: Global, line: u64, words: Items<Name>) -> Option<OpenSubckt>
-    ensures begun { current_of result ≡ opened_by line words }
-    ensures named { IfSome result HasInstanceNames }
+/// What the line that begins a subcircuit gives: its name, and its ports.
+#[derive(Drop)]
+struct Heading {
+    name: Name,
+    ports: Items<Name>,
+}
+
+/// The first of these words as a name, and the others as ports.
+fn heading_of(words: Items<Name>) -> Option<Heading>
+    ensures { MatchOption result (words ≡ []) (λ heading. words ≡ heading.name ∷ heading.ports) }
 {
     let mut ports = words.into_vec();
     if ports.is_empty() {
         return None;
     }
     let name = ports.remove(0);
-    let subckt = Subckt {
+    Some(Heading {
         name,
         ports: Items::from_vec(ports),
-        instances: Items::new(alloc),
-        raw: Items::new(alloc),
-    };
-    Some(OpenSubckt {
-        line,
-        subckt,
-        instances: NameSet::new(alloc),
     })
 }
 
-/// Whether a subcircuit can begin with these words: none is open, and its name and those of its ports are new.
+/// The subcircuit that begins with this heading.
+fn opening(alloc: Global, line: u64, heading: Heading) -> OpenSubckt
+    ensures begun { begun_of result ≡ opened line heading.name heading.ports }
+    ensures named { HasInstanceNames result }
+{
+    let subckt = Subckt {
+        name: heading.name,
+        ports: heading.ports,
+        instances: Items::new(alloc),
+        raw: Items::new(alloc),
+    };
+    OpenSubckt {
+        line,
+        subckt,
+        instances: NameSet::new(alloc),
+    }
+}
+
+/// The heading that these words are, if a subcircuit can begin with it: none is open, and its name and those of its ports
+/// are new.
 fn check_begin(
     alloc: Global,
     reading: &Reading,
     line: &LogicalLine,
-    words: &[Name],
-) -> Result<(), SpiceFault>
+    words: Items<Name>,
+) -> Result<Heading, SpiceFault>
     requires { HasNames reading.now }
-    ensures { IsSpiceAnswer (λ _. with_opened (so_far reading.now) line.now.number words.now) result (step (so_far reading.now) (logical_of line.now) (says.Begin words.now)) }
+    ensures { IsSpiceAnswer (λ heading. with_current (so_far reading.now) (opened line.now.number heading.name heading.ports)) result (step (so_far reading.now) (logical_of line.now) (says.Begin words)) }
 {
     let line = line.number;
     let None = &reading.current else {
         return Err(SpiceFault::Unclosed { line });
     };
-    let Some((name, ports)) = words.split_first() else {
+    let Some(heading) = heading_of(words) else {
         return Err(SpiceFault::BadLine { line });
     };
-    if reading.names.holds(name.as_bytes()) {
+    if reading.names.holds(heading.name.as_bytes()) {
         return Err(SpiceFault::Duplicate { line });
     }
-    if repeats(alloc, ports)? {
+    if repeats(alloc, heading.ports.as_slice())? {
         return Err(SpiceFault::Duplicate { line });
     }
-    Ok(())
+    Ok(heading)
 }
 
 /// A `.SUBCKT` with these words after it.
@@ -88,8 +106,8 @@ fn begin(
     ensures read { IsSpiceAnswer (λ _. so_far reading.new) result (step (so_far reading.old) (logical_of line.now) (says.Begin words)) }
     ensures named { OnOk result (HasNames reading.new) }
 {
-    check_begin(alloc, reading, line, words.as_slice())?;
-    reading.current = opening(alloc, line.number, words);
+    let heading = check_begin(alloc, reading, line, words)?;
+    reading.current = Some(opening(alloc, line.number, heading));
     Ok(())
 }
 
@@ -214,13 +232,6 @@ fn add_done(alloc: Global, reading: &mut Reading, subckt: Subckt) -> Result<(), 
     Ok(())
 }
 
-/// What an open subcircuit has so far.
-fn subckt_of(current: OpenSubckt) -> Subckt
-    ensures { result ≡ current.subckt }
-{
-    current.subckt
-}
-
 /// The open subcircuit, where there is one, is done.
 fn close(alloc: Global, reading: &mut Reading) -> Result<(), Memory>
     requires { HasNames reading.old }
@@ -230,7 +241,7 @@ fn close(alloc: Global, reading: &mut Reading) -> Result<(), Memory>
     let Some(current) = reading.current.take() else {
         return Ok(());
     };
-    add_done(alloc, reading, subckt_of(current))
+    add_done(alloc, reading, current.subckt)
 }
 
 /// An `.ENDS` with these words after it.

@@ -7,7 +7,7 @@ use Rattle.std.specs.Cmp.{int_ranks}
 use Rattle.std.specs.Ordering.{int_cmp, is_lt, MatchOrdering}
 use Rattle.toml.specs.Data.{Data, as_integer}
 use Rattle.toml_keys.specs.Fault.{◌>>=◌, in_turn}
-use Rattle.toml_keys.specs.Keys.{Section, IsInRange, in_range, has_key, kind_under, number_under, counted, array_of, is_table, tables_under, optional_tables, optional}
+use Rattle.toml_keys.specs.Keys.{Section, IsInRange, in_range, has_key, kind_under, number_under, counted, array_of, is_table, tables_under, optional_tables}
 
 -- a step gave x, and the next one y
 pub record BothSteps {F A B : Type 0} (r : Result A F) (f : A → Result B F) (y : B) : Type 0 where
@@ -131,8 +131,3 @@ pub optional_tables-few : {F : Type 0} (high : ℕ) (s : Section F) (key : List 
     → optional_tables high s key ≡ Ok ds → length ds ≤ high
 optional_tables-few high s key ds made =
     either_tables (has_key s key) (tables_under 0 high s key) high ds (tables_under-few 0 high s key ds) made
-
--- a key that is there, and gives a fault
-pub optional_fails : {F X : Type 0} (under : Section F → List ℕ → Result X F) (s : Section F) (key : List ℕ) (e : F)
-    → has_key s key ≡ true → under s key ≡ Err e → optional under s key ≡ Err e
-optional_fails under s key e here fails = rw (here, fails) refl

@@ -5,7 +5,7 @@ ghost use Rattle.toml.specs.View.{view};
 ghost use Rattle.toml_keys.specs.Fault.{ViewMatchesUnless, MatchesUnless, in_turn};
 ghost use Rattle.toml_keys.specs.Section.{section_of};
 ghost use Rattle.toml_keys.specs.Unknown.{unknown_key};
-ghost use Rattle.toml_keys.specs.Keys.{whole, key_in, missing, wrong_kind, out_of_range, has_key, value_under, text_under, number_under, array_under, array_of, text_in, texts_under, tables_under, optional_tables, is_table, is_integer, as_list, in_range, IsInRange, optional, item_section, section_under, section_at};
+ghost use Rattle.toml_keys.specs.Keys.{whole, key_in, missing, wrong_kind, out_of_range, has_key, value_under, text_under, number_under, array_under, array_of, text_in, texts_under, tables_under, optional_tables, is_table, is_integer, as_list, in_range, IsInRange, item_section, section_under, section_at};
 
 use crate::fault::KeyFault;
 use crate::unknown::first_unknown;
@@ -122,17 +122,6 @@ impl<'a, F: KeyFault> KeyTable<'a, F> {
         }
     }
 
-    /// A text, or nothing where the key isn't there.
-    pub fn optional_text(&self, key: &str) -> Result<Option<&'a str>, F>
-        ensures { ViewMatchesUnless F.faults.memory (option_map (λ t. t.now)) result (optional text_under (section_of F.faults self.now) key.now) }
-    {
-        if !self.has(key) {
-            return Ok(None);
-        }
-        let text = self.text(key)?;
-        Ok(Some(text))
-    }
-
     /// A whole number from `low` to `high`.
     pub fn number(&self, key: &str, low: i64, high: i64) -> Result<i64, F>
         ensures given { MatchesUnless F.faults.memory result (number_under low high (section_of F.faults self.now) key.now) }
@@ -146,18 +135,6 @@ impl<'a, F: KeyFault> KeyTable<'a, F> {
             Some(number) => Ok(number),
             None => Err(self.out_of_range(key)),
         }
-    }
-
-    /// A whole number from `low` to `high`, or nothing where the key isn't there.
-    pub fn optional_number(&self, key: &str, low: i64, high: i64) -> Result<Option<i64>, F>
-        ensures given { MatchesUnless F.faults.memory result (optional (number_under low high) (section_of F.faults self.now) key.now) }
-        ensures range { IfOk result (λ z. IfSome z (IsInRange low high)) }
-    {
-        if !self.has(key) {
-            return Ok(None);
-        }
-        let number = self.number(key, low, high)?;
-        Ok(Some(number))
     }
 
     /// An array of anything.
@@ -199,7 +176,7 @@ impl<'a, F: KeyFault> KeyTable<'a, F> {
         Ok(items)
     }
 
-    /// The same, or no tables where the key isn't there.
+    /// An array of at most `high` tables, or no tables where the key isn't there.
     #[tactic(auto, using(crate::proofs::DocumentLaws::of_views))]
     pub fn optional_tables(&self, key: &str, high: usize) -> Result<&'a [Value], F>
         ensures few { IfOk result (λ t. length t.now ≤ high) }
