@@ -10,9 +10,9 @@ use crate::edges::bank_edges;
 use crate::wires::bank_wires;
 use bitcell_array::build as build_array;
 use cell_builder::Cells;
-use control_logic::sides_of_memory;
 use leaf_tables::{Edges, Kit, PartFault, wire_of};
 use macro_bounds::routed_shapes_are_near;
+use macro_cells::sides_of;
 use macro_wires::floorplan;
 use netlist::Deck;
 use or_geom::Name;
@@ -45,7 +45,7 @@ pub fn build(
 {
     refuse_narrow_slices(alloc, kit, plan)?;
     let routed = channel(alloc, kit, plan)?;
-    let sides = sides_of_memory(alloc, kit, plan)?;
+    let sides = sides_of(alloc, kit, plan)?;
     // Where parts stand in a bank is the same however many tracks the main channel has.
     let stands = floorplan(plan, &sides, wire_of(kit), 0, routed.tracks);
     // The column channel lies near the origin, by this law.

@@ -15,9 +15,8 @@ ghost use Rattle.part_edges.specs.PartPins.{AreEdgesOf};
 use crate::columns::column_edges;
 use cell_builder::Cells;
 use cell_roles::Role;
-use control_logic::sides_of_memory;
 use leaf_tables::{Edges, Kit, PartFault};
-use macro_cells::{array_cell, pre_cell, row_cell};
+use macro_cells::{array_cell, pre_cell, row_cell, sides_of};
 use macro_wires::LeafSides;
 use netlist::Deck;
 use or_geom::{Memory, Name};
@@ -100,7 +99,7 @@ fn edges_of(alloc: Global, kit: &Kit, plan: &Plan) -> Result<Edges, Memory>
     ensures width { IfOk result (λ edges. edges.width ≡ pos (array_width (organization plan.now) (layout_kit kit.now))) }
     ensures height { IfOk result (λ edges. edges.height ≡ pos (array_height (organization plan.now) (layout_kit kit.now))) }
 {
-    let sides = sides_of_memory(alloc, kit, plan)?;
+    let sides = sides_of(alloc, kit, plan)?;
     Ok(Edges {
         top: column_edges(alloc, kit, plan, &sides)?,
         bottom: column_edges(alloc, kit, plan, &sides)?,

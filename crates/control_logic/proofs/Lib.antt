@@ -1,6 +1,4 @@
-mod RoleLaws
 mod RowLaws
 mod ControlLaws
 mod EnableLaws
 mod LogicLaws
-mod WidthLaws

@@ -1,8 +1,9 @@
 -- The cells of the logic row, side by side.
-use Rattle.std.proofs.Common.{◌≡◌, ◌⊎◌, inl, inr, ℕ, zero, suc, ◌+◌, ◌*◌, ◌≤◌, ◌<◌, pos, List, [], ◌∷◌, ◌++◌, map, length, flat_map, refl, ap, sym, subst, le_trans, ◌∙◌, append_assoc, append-nil, length-append, arith}
-use Rattle.std.proofs.lemmas.List.{length-map}
+use Rattle.std.proofs.Common.{◌≡◌, ◌⊎◌, inl, inr, ℕ, zero, suc, ◌+◌, ◌*◌, ◌≤◌, ◌<◌, pos, List, [], ◌∷◌, ◌++◌, map, length, drop, get_or, flat_map, refl, ap, sym, subst, le_trans, ◌∙◌, append_assoc, append-nil, length-append, arith}
+use Rattle.std.proofs.lemmas.List.{length-map, drop_all}
 use Rattle.std.proofs.lemmas.Nat.{mul-le}
 use Rattle.std.specs.List.{AllByRecursion}
+use Rattle.or_geom.proofs.ListLaws.{rest_at}
 use Rattle.netlist.specs.declared.deck.Instance.{Instance}
 use Rattle.cell_roles.specs.declared.role.Role.{Role}
 use Rattle.cell_builder.specs.declared.cell.PlacedInstance.{PlacedInstance}
@@ -12,11 +13,15 @@ use Rattle.sram_netlist.specs.Instances.{LogicCell, LogicAt, Dd, Dm}
 use Rattle.sram_netlist.specs.Netlist.{logic_role, enable_count, enables_of}
 use Rattle.sram_netlist.specs.InstanceList.{numbers_from, tabulate, tabulate_lists, fixed_cells, address_cells, line_gates, gates, choice_gates, groups_gates, bank_cells, banks_cells, enable_gates, enable_cells, logic_cells}
 use Rattle.sram_deck.specs.Deck.{logic_cell, logic_instances}
-use Rattle.port_lists.proofs.TabulateLaws.{few_lines, some_lines}
+use Rattle.row_decoder.specs.declared.gate.LogicGate.{LogicGate}
+use Rattle.row_decoder.specs.Gates.{logic_gate}
+use Rattle.port_lists.proofs.TabulateLaws.{few_lines, some_lines, map_append}
 use Rattle.macro_cells.proofs.PlaceLaws.{few_powers}
 use Rattle.macro_layout.specs.LayoutKit.{LayoutKit}
 use Rattle.macro_layout.specs.Places.{upright, total_width}
 use Rattle.macro_layout.specs.Cells.{leaf_in_cell, side_by_side}
+use Rattle.control_logic.specs.declared.row.LogicRow.{LogicRow}
+use Rattle.control_logic.specs.LogicPart.{IsLogicRow}
 
 -- How many cells there are
 
@@ -139,106 +144,99 @@ few_cells plan is =
     (both (banks_cells plan plan.bank_bits) (enable_cells plan.bank_bits plan.masks (enables_of plan)) 272 2292 (few_bank_cells plan plan.bank_bits banks)
     (le_trans (few_enables plan.bank_bits plan.masks (enables_of plan) banks few_of_enables) (omega arith))))))))) (omega arith)
 
--- Placing them
+pub few_roles : (plan : Organization) → IsBuildable plan → (roles : List Role) → roles ≡ map (logic_role plan) (logic_cells plan) → length roles ≤ 8192
+few_roles plan is roles are =
+    let few = few_cells plan is in
+    let same : length roles ≡ length (logic_cells plan) = ap length are ∙ length-map (logic_cells plan) (logic_role plan) in
+    omega (arith, few, same)
 
--- some of the cells stand, and these are left, from x on
-pub record ArePlaced (plan : Organization) (kit : LayoutKit) (placed : List PlacedInstance) (left : List Instance) (x : ℕ) : Type 0 where
-  pub cells : List LogicCell
-  pub gates : left ≡ map (logic_cell plan kit.cell) cells
-  pub all : placed ++ side_by_side plan kit x cells ≡ side_by_side plan kit 0 (logic_cells plan)
-  pub few : x + 65536 * length cells ≤ 536870912
+pub same_count : (plan : Organization) (cell : Role → List ℕ) (gates : List Instance) (roles : List Role) → gates ≡ logic_instances plan cell → roles ≡ map (logic_role plan) (logic_cells plan) → length roles ≡ length gates
+same_count plan cell gates roles gates_are roles_are =
+    ap length roles_are ∙ (length-map (logic_cells plan) (logic_role plan) ∙ sym (ap length gates_are ∙ length-map (logic_cells plan) (logic_cell plan cell)))
 
-pub none_placed : (plan : Organization) (kit : LayoutKit) (placed : List PlacedInstance) (gates : List Instance) → IsBuildable plan → placed ≡ [] → gates ≡ logic_instances plan kit.cell → ArePlaced plan kit placed gates 0
-none_placed plan kit placed gates is none same = record {
-  cells = logic_cells plan;
-  gates = same;
-  all = ap (λ (l : List PlacedInstance). l ++ side_by_side plan kit 0 (logic_cells plan)) none;
-  few = let few = few_cells plan is in omega (arith, few);
+-- The row of the listed gates
+
+map_map : {A B C : Type 0} (g : B → C) (f : A → B) (xs : List A) → map g (map f xs) ≡ map (λ x. g (f x)) xs
+map_map g f [] = refl
+map_map {C = C} g f (x ∷ xs) = ap (λ (l : List C). g (f x) ∷ l) (map_map g f xs)
+
+map_same : {A : Type 0} (xs : List A) → map (λ x. x) xs ≡ xs
+map_same [] = refl
+map_same {A = A} (x ∷ xs) = ap (λ (l : List A). x ∷ l) (map_same xs)
+
+pub mapped_more : {A B : Type 0} (f : A → B) (xs : List A) (now new : List B) (x : A) → now ≡ map f xs → new ≡ now ++ f x ∷ [] → new ≡ map f (xs ++ x ∷ [])
+mapped_more {B = B} f xs now new x before added = added ∙ (ap (λ (l : List B). l ++ f x ∷ []) before ∙ sym (map_append f xs (x ∷ [])))
+
+pub mapped_all : {A B : Type 0} (f : A → B) (xs all : List A) (now : List B) → now ≡ map f xs → map (λ x. x) xs ≡ all → now ≡ map f all
+mapped_all f xs all now is same = is ∙ ap (map f) (sym (map_same xs) ∙ same)
+
+pub row_is : (plan : Organization) (cell : Role → List ℕ) (list : List LogicGate) (row : LogicRow) → list ≡ map (logic_gate plan cell) (logic_cells plan)
+    → row.gates.items ≡ map (λ (g : LogicGate). g.instance) list → row.roles.items ≡ map (λ (g : LogicGate). g.role) list → IsLogicRow plan cell row
+row_is plan cell list row is gates roles = record {
+  gates = gates ∙ (ap (map (λ (g : LogicGate). g.instance)) is ∙ map_map (λ (g : LogicGate). g.instance) (logic_gate plan cell) (logic_cells plan));
+  roles = roles ∙ (ap (map (λ (g : LogicGate). g.role)) is ∙ map_map (λ (g : LogicGate). g.role) (logic_gate plan cell) (logic_cells plan));
 }
 
-abbrev first_of : Instance → List Instance → Instance
-first_of other [] = other
-first_of other (i ∷ is) = i
+-- Placing them
 
-abbrev rest_of : List Instance → List Instance
-rest_of [] = []
-rest_of (i ∷ is) = is
+-- the cells of gates with these roles, side by side from x on
+abbrev pub placed_from : (Role → ℕ) → ℕ → List Instance → List Role → List PlacedInstance
+placed_from width x [] roles = []
+placed_from width x (g ∷ gs) [] = []
+placed_from width x (g ∷ gs) (r ∷ rs) = instance_at g.name g.of (upright (pos x) (pos 0)) ∷ placed_from width (x + width r) gs rs
 
-pub record IsStep (plan : Organization) (kit : LayoutKit) (placed more : List PlacedInstance) (others : List Instance) (x width : ℕ) : Type 0 where
-  pub then : ArePlaced plan kit more others (x + width)
-  pub few : x + width ≤ 536870912
+placed_are : (plan : Organization) (kit : LayoutKit) (x : ℕ) (cells : List LogicCell) → placed_from kit.width x (map (logic_cell plan kit.cell) cells) (map (logic_role plan) cells) ≡ side_by_side plan kit x cells
+placed_are plan kit x [] = refl
+placed_are plan kit x (c ∷ cs) = ap (λ (l : List PlacedInstance). leaf_in_cell plan kit (LogicAt c) (pos x) (pos 0) ∷ l) (placed_are plan kit (x + kit.width (logic_role plan c)) cs)
 
-pub one_placed : (plan : Organization) (kit : LayoutKit) (placed more : List PlacedInstance) (left others : List Instance) (gate : Instance) (made : PlacedInstance) (x width : ℕ) → ArePlaced plan kit placed left x → left ≡ gate ∷ others
-    → more ≡ placed ++ made ∷ [] → made ≡ instance_at gate.name gate.of (upright (pos x) (pos 0)) → ((r : Role) → gate.of ≡ kit.cell r → width ≡ kit.width r) → width ≤ 65536 → IsStep plan kit placed more others x width
-one_placed plan kit placed more left others gate made x width are front added is wide small = by are.cells are.gates are.all are.few where
-  by : (cells : List LogicCell) → left ≡ map (logic_cell plan kit.cell) cells → placed ++ side_by_side plan kit x cells ≡ side_by_side plan kit 0 (logic_cells plan) → x + 65536 * length cells ≤ 536870912
-      → IsStep plan kit placed more others x width
-  by [] same all few = let e : suc (length others) ≡ 0 = ap length (sym front ∙ same) in absurd (omega (arith, e))
-  by (c ∷ cs) same all few =
-      let equal = sym front ∙ same in
-      let gate_is : gate ≡ logic_cell plan kit.cell c = ap (first_of gate) equal in
-      let others_are : others ≡ map (logic_cell plan kit.cell) cs = ap rest_of equal in
-      let width_is : width ≡ kit.width (logic_role plan c) = wide (logic_role plan c) (ap (λ (i : Instance). i.of) gate_is) in
-      let placed_is : made ≡ leaf_in_cell plan kit (LogicAt c) (pos x) (pos 0) = is ∙ ap (λ (i : Instance). instance_at i.name i.of (upright (pos x) (pos 0))) gate_is in
-      record {
-        then = record {
-          cells = cs;
-          gates = others_are;
-          all = (λ i. (added ∙ ap (λ (p : PlacedInstance). placed ++ p ∷ []) placed_is) i ++ side_by_side plan kit (x + width_is i) cs)
-              ∙ (append_assoc placed (leaf_in_cell plan kit (LogicAt c) (pos x) (pos 0) ∷ []) (side_by_side plan kit (x + kit.width (logic_role plan c)) cs) ∙ all);
-          few = omega (arith, few, small);
-        };
-        few = omega (arith, few, small);
-      }
+-- so many of the gates are placed, and the next begins at x
+pub record ArePlaced (width : Role → ℕ) (gates : List Instance) (roles : List Role) (placed : List PlacedInstance) (k x : ℕ) : Type 0 where
+  pub all : placed ++ placed_from width x (drop k gates) (drop k roles) ≡ placed_from width 0 gates roles
+  pub few : x ≤ 65536 * k
 
-pub all_placed : (plan : Organization) (kit : LayoutKit) (placed : List PlacedInstance) (left : List Instance) (x : ℕ) → ArePlaced plan kit placed left x → left ≡ [] → placed ≡ side_by_side plan kit 0 (logic_cells plan)
-all_placed plan kit placed left x are none = by are.cells are.gates are.all where
-  by : (cells : List LogicCell) → left ≡ map (logic_cell plan kit.cell) cells → placed ++ side_by_side plan kit x cells ≡ side_by_side plan kit 0 (logic_cells plan) → placed ≡ side_by_side plan kit 0 (logic_cells plan)
-  by [] same all = sym (append-nil placed) ∙ all
-  by (c ∷ cs) same all = let e : 0 ≡ suc (length (map (logic_cell plan kit.cell) cs)) = ap length (sym none ∙ same) in absurd (omega (arith, e))
+pub one_placed : (width : Role → ℕ) (gates : List Instance) (roles : List Role) (placed more : List PlacedInstance) (k x w : ℕ) (gate : Instance) (role : Role) (made : PlacedInstance) → ArePlaced width gates roles placed k x
+    → length roles ≡ length gates → k < length gates → gate ≡ get_or gates k gate → role ≡ get_or roles k role → made ≡ instance_at gate.name gate.of (upright (pos x) (pos 0)) → more ≡ placed ++ made ∷ []
+    → w ≡ width role → w ≤ 65536 → ArePlaced width gates roles more (k + 1) (x + w)
+one_placed width gates roles placed more k x w gate role made are same less at plays is added wide small =
+    let first = rest_at gates k gate less at in
+    let second = rest_at roles k role (omega (arith, same, less)) plays in
+    let few = are.few in
+    record {
+      all = (λ i. (added ∙ ap (λ (p : PlacedInstance). placed ++ p ∷ []) is) i ++ placed_from width (x + wide i) (drop (k + 1) gates) (drop (k + 1) roles))
+          ∙ (append_assoc placed (instance_at gate.name gate.of (upright (pos x) (pos 0)) ∷ []) (placed_from width (x + width role) (drop (k + 1) gates) (drop (k + 1) roles))
+          ∙ ((λ i. placed ++ placed_from width x (sym first i) (sym second i)) ∙ are.all));
+      few = omega (arith, few, small);
+    }
+
+pub all_placed : (plan : Organization) (kit : LayoutKit) (gates : List Instance) (roles : List Role) (placed : List PlacedInstance) (k x : ℕ) → ArePlaced kit.width gates roles placed k x → length gates ≤ k
+    → gates ≡ logic_instances plan kit.cell → roles ≡ map (logic_role plan) (logic_cells plan) → placed ≡ side_by_side plan kit 0 (logic_cells plan)
+all_placed plan kit gates roles placed k x are end gates_are roles_are =
+    sym (append-nil placed) ∙ (ap (λ (l : List Instance). placed ++ placed_from kit.width x l (drop k roles)) (sym (drop_all k gates end))
+    ∙ (are.all ∙ ((λ i. placed_from kit.width 0 (gates_are i) (roles_are i)) ∙ placed_are plan kit 0 (logic_cells plan))))
 
 -- Adding up their widths
 
--- the widths of some of the cells are added up, and these are left
-pub record AreAdded (plan : Organization) (kit : LayoutKit) (left : List Instance) (x : ℕ) : Type 0 where
-  pub cells : List LogicCell
-  pub gates : left ≡ map (logic_cell plan kit.cell) cells
-  pub all : x + total_width plan kit cells ≡ total_width plan kit (logic_cells plan)
-  pub few : x + 65536 * length cells ≤ 536870912
+-- the width of cells of these roles
+abbrev pub width_of_all : (Role → ℕ) → List Role → ℕ
+width_of_all width [] = 0
+width_of_all width (r ∷ rs) = width r + width_of_all width rs
 
-zero_more : (n : ℕ) → 0 + n ≡ n
-zero_more n = omega arith
+widths_are : (plan : Organization) (kit : LayoutKit) (cells : List LogicCell) → width_of_all kit.width (map (logic_role plan) cells) ≡ total_width plan kit cells
+widths_are plan kit [] = refl
+widths_are plan kit (c ∷ cs) = ap (λ (n : ℕ). kit.width (logic_role plan c) + n) (widths_are plan kit cs)
 
-pub none_added : (plan : Organization) (kit : LayoutKit) (gates : List Instance) → IsBuildable plan → gates ≡ logic_instances plan kit.cell → AreAdded plan kit gates 0
-none_added plan kit gates is same = record {
-  cells = logic_cells plan;
-  gates = same;
-  all = zero_more (total_width plan kit (logic_cells plan));
-  few = let few = few_cells plan is in omega (arith, few);
-}
+-- the widths of so many of the roles are added up
+pub record AreAdded (width : Role → ℕ) (roles : List Role) (k x : ℕ) : Type 0 where
+  pub all : x + width_of_all width (drop k roles) ≡ width_of_all width roles
+  pub few : x ≤ 65536 * k
+  pub within : k ≤ length roles
 
-pub record IsAddition (plan : Organization) (kit : LayoutKit) (others : List Instance) (x width : ℕ) : Type 0 where
-  pub then : AreAdded plan kit others (x + width)
-  pub few : x + width ≤ 536870912
+pub all_added : (plan : Organization) (kit : LayoutKit) (roles : List Role) (k x : ℕ) → AreAdded kit.width roles k x → length roles ≤ k → roles ≡ map (logic_role plan) (logic_cells plan) → x ≡ total_width plan kit (logic_cells plan)
+all_added plan kit roles k x are end roles_are =
+    let all = are.all in
+    let none = ap (width_of_all kit.width) (drop_all k roles end) in
+    let sum = ap (width_of_all kit.width) roles_are ∙ widths_are plan kit (logic_cells plan) in
+    omega (arith, all, none, sum)
 
-pub one_added : (plan : Organization) (kit : LayoutKit) (left others : List Instance) (gate : Instance) (x width : ℕ) → AreAdded plan kit left x → left ≡ gate ∷ others
-    → ((r : Role) → gate.of ≡ kit.cell r → width ≡ kit.width r) → width ≤ 65536 → IsAddition plan kit others x width
-one_added plan kit left others gate x width are front wide small = by are.cells are.gates are.all are.few where
-  by : (cells : List LogicCell) → left ≡ map (logic_cell plan kit.cell) cells → x + total_width plan kit cells ≡ total_width plan kit (logic_cells plan) → x + 65536 * length cells ≤ 536870912 → IsAddition plan kit others x width
-  by [] same all few = let e : suc (length others) ≡ 0 = ap length (sym front ∙ same) in absurd (omega (arith, e))
-  by (c ∷ cs) same all few =
-      let equal = sym front ∙ same in
-      let width_is : width ≡ kit.width (logic_role plan c) = wide (logic_role plan c) (ap (λ (i : Instance). i.of) (ap (first_of gate) equal)) in
-      record {
-        then = record { cells = cs; gates = ap rest_of equal; all = omega (arith, all, width_is); few = omega (arith, few, small) };
-        few = omega (arith, few, small);
-      }
-
-pub all_added : (plan : Organization) (kit : LayoutKit) (left : List Instance) (x : ℕ) → AreAdded plan kit left x → left ≡ [] → x ≡ total_width plan kit (logic_cells plan)
-all_added plan kit left x are none = by are.cells are.gates are.all where
-  by : (cells : List LogicCell) → left ≡ map (logic_cell plan kit.cell) cells → x + total_width plan kit cells ≡ total_width plan kit (logic_cells plan) → x ≡ total_width plan kit (logic_cells plan)
-  by [] same all = omega (arith, all)
-  by (c ∷ cs) same all = let e : 0 ≡ suc (length (map (logic_cell plan kit.cell) cs)) = ap length (sym none ∙ same) in absurd (omega (arith, e))
-
-pub few_added : (plan : Organization) (kit : LayoutKit) (left : List Instance) (x : ℕ) → AreAdded plan kit left x → x ≤ 536870912
-few_added plan kit left x are = let few = are.few in omega (arith, few)
+pub few_added : (width : Role → ℕ) (roles : List Role) (k x : ℕ) → AreAdded width roles k x → length roles ≤ 8192 → x ≤ 536870912
+few_added width roles k x are small = let few = are.few in let within = are.within in omega (arith, few, within, small)

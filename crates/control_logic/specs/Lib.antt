@@ -1,3 +1,2 @@
 pub mod LogicPart
-pub mod LogicRoles
 pub mod BankGates

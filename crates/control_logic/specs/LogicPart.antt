@@ -3,7 +3,7 @@ use Rattle.std.specs.Prelude.{◌≡◌, ℕ, List, ◌++◌, map, codes}
 use Rattle.cell_roles.specs.declared.role.Role.{Role}
 use Rattle.cell_roles.specs.declared.role.Role.TheVariants.{Inv}
 use Rattle.netlist.specs.declared.deck.Subckt.{Subckt}
-use Rattle.sram_netlist.specs.Organization.{Organization}
+use Rattle.sram_netlist.specs.Organization.{Organization, IsBuildable}
 use Rattle.sram_netlist.specs.Netlist.{logic_role}
 use Rattle.sram_netlist.specs.InstanceList.{logic_cells}
 use Rattle.sram_deck.specs.Deck.{made_subckt, logic_ports, logic_instances}
@@ -20,6 +20,10 @@ use Rattle.control_logic.specs.declared.row.LogicRow.{LogicRow}
 pub record IsLogicRow (plan : Organization) (cell : Role → List ℕ) (row : LogicRow) : Type 0 where
   pub gates : row.gates.items ≡ logic_instances plan cell
   pub roles : row.roles.items ≡ map (logic_role plan) (logic_cells plan)
+
+-- it is that of some memory that can be built
+abbrev pub IsRowOfMemory : (Role → List ℕ) → LogicRow → Type 0
+IsRowOfMemory cell row = (plan : Organization) × IsBuildable plan × IsLogicRow plan cell row
 
 -- the subcircuit of the logic row; `cell` is the name of a role's cell
 abbrev pub logic_row_subckt : Organization → (Role → List ℕ) → List ℕ → Subckt

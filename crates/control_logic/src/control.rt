@@ -4,14 +4,14 @@ ghost use Rattle.sram_netlist.specs.InstanceList.{fixed_cells};
 ghost use Rattle.sram_netlist.specs.Names.{net_name};
 ghost use Rattle.sram_netlist.specs.Netlist.{sense_start};
 ghost use Rattle.sram_plan.specs.PlanNumbers.{organization};
-ghost use Rattle.sram_deck.specs.Deck.{logic_cell};
 ghost use Rattle.port_lists.specs.Cells.{cell_in};
+ghost use Rattle.row_decoder.specs.Gates.{logic_gate};
 ghost use Rattle.port_lists.specs.Spelled.{spelled};
 
 use cell_roles::Role;
-use netlist::Instance;
 use or_geom::Memory;
-use port_lists::{Spelling, add_gate};
+use port_lists::Spelling;
+use row_decoder::{LogicGate, add_gate};
 use sram_plan::Plan;
 use std::alloc::Global;
 use tech_rules::RoleName;
@@ -21,21 +21,21 @@ pub fn add_control(
     alloc: Global,
     plan: &Plan,
     roles: &[RoleName],
-    instances: &mut Vec<Instance>,
+    row: &mut Vec<LogicGate>,
 ) -> Result<(), Memory>
-    ensures { OnOk result (instances.new.items ≡ instances.old.items ++ map (logic_cell (organization plan.now) (cell_in roles.now)) (fixed_cells plan.now.write_size)) }
+    ensures { OnOk result (row.new.items ≡ row.old.items ++ map (logic_gate (organization plan.now) (cell_in roles.now)) (fixed_cells plan.now.write_size)) }
 {
     if plan.write_size == 0 {
-        return add_read_control(alloc, plan, roles, instances);
+        return add_read_control(alloc, plan, roles, row);
     }
-    add_select_latch(alloc, plan, roles, instances)?;
-    add_write_latch(alloc, plan, roles, instances)?;
-    add_select(alloc, plan, roles, instances)?;
-    add_write(alloc, plan, roles, instances)?;
-    add_word_line_enable(alloc, plan, roles, instances)?;
-    add_write_enable(alloc, plan, roles, instances)?;
-    add_read(alloc, plan, roles, instances)?;
-    add_sense_enable(alloc, plan, roles, instances)?;
+    add_select_latch(alloc, plan, roles, row)?;
+    add_write_latch(alloc, plan, roles, row)?;
+    add_select(alloc, plan, roles, row)?;
+    add_write(alloc, plan, roles, row)?;
+    add_word_line_enable(alloc, plan, roles, row)?;
+    add_write_enable(alloc, plan, roles, row)?;
+    add_read(alloc, plan, roles, row)?;
+    add_sense_enable(alloc, plan, roles, row)?;
     Ok(())
 }
 
@@ -44,14 +44,14 @@ fn add_read_control(
     alloc: Global,
     plan: &Plan,
     roles: &[RoleName],
-    instances: &mut Vec<Instance>,
+    row: &mut Vec<LogicGate>,
 ) -> Result<(), Memory>
-    ensures { OnOk result (instances.new.items ≡ instances.old.items ++ map (logic_cell (organization plan.now) (cell_in roles.now)) (fixed_cells 0)) }
+    ensures { OnOk result (row.new.items ≡ row.old.items ++ map (logic_gate (organization plan.now) (cell_in roles.now)) (fixed_cells 0)) }
 {
-    add_select_latch(alloc, plan, roles, instances)?;
-    add_select(alloc, plan, roles, instances)?;
-    add_word_line_enable(alloc, plan, roles, instances)?;
-    add_sense_enable(alloc, plan, roles, instances)?;
+    add_select_latch(alloc, plan, roles, row)?;
+    add_select(alloc, plan, roles, row)?;
+    add_word_line_enable(alloc, plan, roles, row)?;
+    add_sense_enable(alloc, plan, roles, row)?;
     Ok(())
 }
 
@@ -60,9 +60,9 @@ fn add_select_latch(
     alloc: Global,
     plan: &Plan,
     roles: &[RoleName],
-    instances: &mut Vec<Instance>,
+    row: &mut Vec<LogicGate>,
 ) -> Result<(), Memory>
-    ensures { OnOk result (instances.new.items ≡ instances.old.items ++ map (logic_cell (organization plan.now) (cell_in roles.now)) (Clki ∷ Csd ∷ [])) }
+    ensures { OnOk result (row.new.items ≡ row.old.items ++ map (logic_gate (organization plan.now) (cell_in roles.now)) (Clki ∷ Csd ∷ [])) }
 {
     add_gate(
         alloc,
@@ -70,7 +70,7 @@ fn add_select_latch(
         Role::Inv,
         Spelling::Word(b"xclki"),
         &[Spelling::Word(b"clk0"), Spelling::Word(b"clkb")],
-        instances,
+        row,
     )?;
     add_gate(
         alloc,
@@ -82,7 +82,7 @@ fn add_select_latch(
             Spelling::Word(b"clk0"),
             Spelling::Word(b"csq"),
         ],
-        instances,
+        row,
     )
 }
 
@@ -91,9 +91,9 @@ fn add_write_latch(
     alloc: Global,
     plan: &Plan,
     roles: &[RoleName],
-    instances: &mut Vec<Instance>,
+    row: &mut Vec<LogicGate>,
 ) -> Result<(), Memory>
-    ensures { OnOk result (instances.new.items ≡ instances.old.items ++ map (logic_cell (organization plan.now) (cell_in roles.now)) (Wed ∷ [])) }
+    ensures { OnOk result (row.new.items ≡ row.old.items ++ map (logic_gate (organization plan.now) (cell_in roles.now)) (Wed ∷ [])) }
 {
     add_gate(
         alloc,
@@ -105,7 +105,7 @@ fn add_write_latch(
             Spelling::Word(b"clk0"),
             Spelling::Word(b"weq"),
         ],
-        instances,
+        row,
     )
 }
 
@@ -114,9 +114,9 @@ fn add_select(
     alloc: Global,
     plan: &Plan,
     roles: &[RoleName],
-    instances: &mut Vec<Instance>,
+    row: &mut Vec<LogicGate>,
 ) -> Result<(), Memory>
-    ensures { OnOk result (instances.new.items ≡ instances.old.items ++ map (logic_cell (organization plan.now) (cell_in roles.now)) (Csi ∷ [])) }
+    ensures { OnOk result (row.new.items ≡ row.old.items ++ map (logic_gate (organization plan.now) (cell_in roles.now)) (Csi ∷ [])) }
 {
     add_gate(
         alloc,
@@ -124,7 +124,7 @@ fn add_select(
         Role::Inv,
         Spelling::Word(b"xcsi"),
         &[Spelling::Word(b"csq"), Spelling::Word(b"cs")],
-        instances,
+        row,
     )
 }
 
@@ -133,9 +133,9 @@ fn add_write(
     alloc: Global,
     plan: &Plan,
     roles: &[RoleName],
-    instances: &mut Vec<Instance>,
+    row: &mut Vec<LogicGate>,
 ) -> Result<(), Memory>
-    ensures { OnOk result (instances.new.items ≡ instances.old.items ++ map (logic_cell (organization plan.now) (cell_in roles.now)) (Wei ∷ [])) }
+    ensures { OnOk result (row.new.items ≡ row.old.items ++ map (logic_gate (organization plan.now) (cell_in roles.now)) (Wei ∷ [])) }
 {
     add_gate(
         alloc,
@@ -143,7 +143,7 @@ fn add_write(
         Role::Inv,
         Spelling::Word(b"xwei"),
         &[Spelling::Word(b"weq"), Spelling::Word(b"we")],
-        instances,
+        row,
     )
 }
 
@@ -152,9 +152,9 @@ fn add_word_line_enable(
     alloc: Global,
     plan: &Plan,
     roles: &[RoleName],
-    instances: &mut Vec<Instance>,
+    row: &mut Vec<LogicGate>,
 ) -> Result<(), Memory>
-    ensures { OnOk result (instances.new.items ≡ instances.old.items ++ map (logic_cell (organization plan.now) (cell_in roles.now)) (Wln ∷ Wli ∷ [])) }
+    ensures { OnOk result (row.new.items ≡ row.old.items ++ map (logic_gate (organization plan.now) (cell_in roles.now)) (Wln ∷ Wli ∷ [])) }
 {
     add_gate(
         alloc,
@@ -166,7 +166,7 @@ fn add_word_line_enable(
             Spelling::Word(b"clkb"),
             Spelling::Word(b"wlb"),
         ],
-        instances,
+        row,
     )?;
     add_gate(
         alloc,
@@ -174,7 +174,7 @@ fn add_word_line_enable(
         Role::Inv,
         Spelling::Word(b"xwli"),
         &[Spelling::Word(b"wlb"), Spelling::Word(b"wlen")],
-        instances,
+        row,
     )
 }
 
@@ -183,9 +183,9 @@ fn add_write_enable(
     alloc: Global,
     plan: &Plan,
     roles: &[RoleName],
-    instances: &mut Vec<Instance>,
+    row: &mut Vec<LogicGate>,
 ) -> Result<(), Memory>
-    ensures { OnOk result (instances.new.items ≡ instances.old.items ++ map (logic_cell (organization plan.now) (cell_in roles.now)) (Wrn ∷ Wri ∷ [])) }
+    ensures { OnOk result (row.new.items ≡ row.old.items ++ map (logic_gate (organization plan.now) (cell_in roles.now)) (Wrn ∷ Wri ∷ [])) }
 {
     add_gate(
         alloc,
@@ -198,7 +198,7 @@ fn add_write_enable(
             Spelling::Word(b"clkb"),
             Spelling::Word(b"wrb"),
         ],
-        instances,
+        row,
     )?;
     add_gate(
         alloc,
@@ -206,7 +206,7 @@ fn add_write_enable(
         Role::Inv,
         Spelling::Word(b"xwri"),
         &[Spelling::Word(b"wrb"), Spelling::Word(b"wen")],
-        instances,
+        row,
     )
 }
 
@@ -215,9 +215,9 @@ fn add_read(
     alloc: Global,
     plan: &Plan,
     roles: &[RoleName],
-    instances: &mut Vec<Instance>,
+    row: &mut Vec<LogicGate>,
 ) -> Result<(), Memory>
-    ensures { OnOk result (instances.new.items ≡ instances.old.items ++ map (logic_cell (organization plan.now) (cell_in roles.now)) (Rdn ∷ Rdi ∷ [])) }
+    ensures { OnOk result (row.new.items ≡ row.old.items ++ map (logic_gate (organization plan.now) (cell_in roles.now)) (Rdn ∷ Rdi ∷ [])) }
 {
     add_gate(
         alloc,
@@ -230,7 +230,7 @@ fn add_read(
             Spelling::Word(b"clkb"),
             Spelling::Word(b"rdb"),
         ],
-        instances,
+        row,
     )?;
     add_gate(
         alloc,
@@ -238,7 +238,7 @@ fn add_read(
         Role::Inv,
         Spelling::Word(b"xrdi"),
         &[Spelling::Word(b"rdb"), Spelling::Word(b"rd")],
-        instances,
+        row,
     )
 }
 
@@ -247,9 +247,9 @@ fn add_sense_enable(
     alloc: Global,
     plan: &Plan,
     roles: &[RoleName],
-    instances: &mut Vec<Instance>,
+    row: &mut Vec<LogicGate>,
 ) -> Result<(), Memory>
-    ensures { OnOk result (instances.new.items ≡ instances.old.items ++ map (logic_cell (organization plan.now) (cell_in roles.now)) (Dlay ∷ Senn ∷ Seni ∷ [])) }
+    ensures { OnOk result (row.new.items ≡ row.old.items ++ map (logic_gate (organization plan.now) (cell_in roles.now)) (Dlay ∷ Senn ∷ Seni ∷ [])) }
 {
     add_gate(
         alloc,
@@ -257,7 +257,7 @@ fn add_sense_enable(
         Role::Delay,
         Spelling::Word(b"xdly"),
         &[Spelling::Word(b"clkb"), Spelling::Word(b"dly")],
-        instances,
+        row,
     )?;
     add_gate(
         alloc,
@@ -269,7 +269,7 @@ fn add_sense_enable(
             Spelling::Word(b"dly"),
             Spelling::Word(b"seb"),
         ],
-        instances,
+        row,
     )?;
     add_gate(
         alloc,
@@ -277,7 +277,7 @@ fn add_sense_enable(
         Role::Inv,
         Spelling::Word(b"xsei"),
         &[Spelling::Word(b"seb"), Spelling::Word(b"sen")],
-        instances,
+        row,
     )
 }
 

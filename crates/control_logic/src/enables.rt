@@ -1,4 +1,4 @@
-ghost use Rattle.std.specs.Prelude.{◌≡◌, ◌++◌, ◌≤◌, map, length, IfOk, OnOk};
+ghost use Rattle.std.specs.Prelude.{◌≡◌, ◌++◌, ◌∷◌, [], ◌≤◌, map, length, IfOk, OnOk};
 ghost use Rattle.sram_netlist.specs.Organization.{power_of_two};
 ghost use Rattle.sram_netlist.specs.Netlist.{enable_inputs, enables_of, bank_input, mask_input};
 ghost use Rattle.sram_netlist.specs.Names.{net_name};
@@ -6,15 +6,15 @@ ghost use Rattle.sram_netlist.specs.Instances.{Gn, Gi};
 ghost use Rattle.sram_netlist.specs.InstanceList.{tabulate_lists, bank_cells, banks_cells, enable_gates, enable_cells};
 ghost use Rattle.sram_netlist.specs.Numbers.{ArePlanNumbers};
 ghost use Rattle.sram_plan.specs.PlanNumbers.{numbers_of, organization};
-ghost use Rattle.sram_deck.specs.Deck.{logic_cell};
 ghost use Rattle.port_lists.specs.Cells.{cell_in};
+ghost use Rattle.row_decoder.specs.Gates.{logic_gate};
 ghost use Rattle.control_logic.specs.BankGates.{bank_word_line_gates, bank_sense_gates};
 
 use cell_roles::Role;
 use netlist::Instance;
 use or_geom::{Memory, Name};
-use port_lists::{NameList, Spelling, add_gate, cell_of, enables_of, spell};
-use row_decoder::{LineChoice, add_lines, gate_role};
+use port_lists::{NameList, Spelling, cell_of, enables_of, spell};
+use row_decoder::{LineChoice, Lines, LogicGate, add_gate, add_lines, gate_role};
 use sram_plan::Plan;
 use std::alloc::Global;
 use tech_rules::RoleName;
@@ -24,9 +24,9 @@ fn add_bank_word_line(
     alloc: Global,
     roles: &[RoleName],
     bank: u32,
-    instances: &mut Vec<Instance>,
+    row: &mut Vec<LogicGate>,
 ) -> Result<(), Memory>
-    ensures { OnOk result (instances.new.items ≡ instances.old.items ++ bank_word_line_gates (cell_in roles.now) bank) }
+    ensures { OnOk result (row.new.items ≡ row.old.items ++ bank_word_line_gates (cell_in roles.now) bank) }
 {
     let complement = [
         Spelling::Word(b"wlen"),
@@ -39,7 +39,7 @@ fn add_bank_word_line(
         Role::Nand2,
         Spelling::Numbered(b"xln", bank),
         &complement,
-        instances,
+        row,
     )?;
     let enable = [
         Spelling::Numbered(b"lb", bank),
@@ -51,7 +51,7 @@ fn add_bank_word_line(
         Role::Inv,
         Spelling::Numbered(b"xli", bank),
         &enable,
-        instances,
+        row,
     )
 }
 
@@ -60,9 +60,9 @@ fn add_bank_sense(
     alloc: Global,
     roles: &[RoleName],
     bank: u32,
-    instances: &mut Vec<Instance>,
+    row: &mut Vec<LogicGate>,
 ) -> Result<(), Memory>
-    ensures { OnOk result (instances.new.items ≡ instances.old.items ++ bank_sense_gates (cell_in roles.now) bank) }
+    ensures { OnOk result (row.new.items ≡ row.old.items ++ bank_sense_gates (cell_in roles.now) bank) }
 {
     let complement = [
         Spelling::Word(b"sen"),
@@ -75,7 +75,7 @@ fn add_bank_sense(
         Role::Nand2,
         Spelling::Numbered(b"xkn", bank),
         &complement,
-        instances,
+        row,
     )?;
     let enable = [
         Spelling::Numbered(b"kb", bank),
@@ -87,7 +87,7 @@ fn add_bank_sense(
         Role::Inv,
         Spelling::Numbered(b"xki", bank),
         &enable,
-        instances,
+        row,
     )
 }
 
@@ -96,14 +96,14 @@ fn add_bank_enables(
     alloc: Global,
     plan: &Plan,
     roles: &[RoleName],
-    instances: &mut Vec<Instance>,
+    row: &mut Vec<LogicGate>,
 ) -> Result<(), Memory>
     requires { ArePlanNumbers (numbers_of plan.now) }
-    ensures { OnOk result (instances.new.items ≡ instances.old.items ++ map (logic_cell (organization plan.now) (cell_in roles.now)) (tabulate_lists (power_of_two plan.now.bank_bits) bank_cells)) }
+    ensures { OnOk result (row.new.items ≡ row.old.items ++ map (logic_gate (organization plan.now) (cell_in roles.now)) (tabulate_lists (power_of_two plan.now.bank_bits) bank_cells)) }
 {
     for bank in 0..plan.banks {
-        add_bank_word_line(alloc, roles, bank, instances)?;
-        add_bank_sense(alloc, roles, bank, instances)?;
+        add_bank_word_line(alloc, roles, bank, row)?;
+        add_bank_sense(alloc, roles, bank, row)?;
     }
     Ok(())
 }
@@ -113,25 +113,21 @@ pub fn add_bank_choices(
     alloc: Global,
     plan: &Plan,
     roles: &[RoleName],
-    instances: &mut Vec<Instance>,
+    row: &mut Vec<LogicGate>,
 ) -> Result<(), Memory>
     requires { ArePlanNumbers (numbers_of plan.now) }
-    ensures { OnOk result (instances.new.items ≡ instances.old.items ++ map (logic_cell (organization plan.now) (cell_in roles.now)) (banks_cells (organization plan.now) plan.now.bank_bits)) }
+    ensures { OnOk result (row.new.items ≡ row.old.items ++ map (logic_gate (organization plan.now) (cell_in roles.now)) (banks_cells (organization plan.now) plan.now.bank_bits)) }
 {
     if plan.bank_bits == 0 {
         return Ok(());
     }
-    let low = plan.addr_bits - plan.bank_bits;
-    add_lines(
-        alloc,
-        plan,
-        roles,
-        LineChoice::Bank,
-        low,
-        plan.bank_bits,
-        instances,
-    )?;
-    add_bank_enables(alloc, plan, roles, instances)?;
+    let lines = Lines {
+        choice: LineChoice::Bank,
+        low: plan.addr_bits - plan.bank_bits,
+        bits: plan.bank_bits,
+    };
+    add_lines(alloc, plan, roles, lines, row)?;
+    add_bank_enables(alloc, plan, roles, row)?;
     Ok(())
 }
 
@@ -175,26 +171,30 @@ fn add_mask_input(nodes: &mut NameList, plan: &Plan, mask: u32) -> Result<u32, M
     Ok(1)
 }
 
-/// The gate of a bank's write enable for a mask, which makes its complement.
-fn enable_gate(
+/// Adds the gate of a bank's write enable for a mask, which makes its complement.
+fn add_enable_gate(
     alloc: Global,
     plan: &Plan,
     roles: &[RoleName],
     bank: u32,
     mask: u32,
-) -> Result<Instance, Memory>
+    row: &mut Vec<LogicGate>,
+) -> Result<(), Memory>
     requires { ArePlanNumbers (numbers_of plan.now) }
-    ensures { IfOk result (λ i. i ≡ logic_cell (organization plan.now) (cell_in roles.now) (Gn bank mask)) }
+    ensures { OnOk result (row.new.items ≡ row.old.items ++ logic_gate (organization plan.now) (cell_in roles.now) (Gn bank mask) ∷ []) }
 {
     let mut nodes = NameList::new(alloc);
     let inputs = add_enable_inputs(&mut nodes, plan, bank, mask)?;
     nodes.add(Spelling::NumberedTwice(b"wx", bank, mask))?;
     nodes.add_supplies()?;
-    Ok(Instance {
+    let role = gate_role(inputs);
+    let instance = Instance {
         name: spell(alloc, Spelling::NumberedTwice(b"xgn", bank, mask))?,
         nodes: nodes.into_items(),
-        of: Name::from_bytes(alloc, cell_of(roles, gate_role(inputs)))?,
-    })
+        of: Name::from_bytes(alloc, cell_of(roles, role))?,
+    };
+    row.push(LogicGate { role, instance })?;
+    Ok(())
 }
 
 /// The gate of a bank's write enable for a mask, and its inverter.
@@ -204,12 +204,12 @@ fn add_enable(
     roles: &[RoleName],
     bank: u32,
     mask: u32,
-    instances: &mut Vec<Instance>,
+    row: &mut Vec<LogicGate>,
 ) -> Result<(), Memory>
     requires { ArePlanNumbers (numbers_of plan.now) }
-    ensures { OnOk result (instances.new.items ≡ instances.old.items ++ map (logic_cell (organization plan.now) (cell_in roles.now)) (enable_gates bank mask)) }
+    ensures { OnOk result (row.new.items ≡ row.old.items ++ map (logic_gate (organization plan.now) (cell_in roles.now)) (enable_gates bank mask)) }
 {
-    instances.push(enable_gate(alloc, plan, roles, bank, mask)?)?;
+    add_enable_gate(alloc, plan, roles, bank, mask, row)?;
     let nodes = [
         Spelling::NumberedTwice(b"wx", bank, mask),
         Spelling::NumberedTwice(b"we", bank, mask),
@@ -220,7 +220,7 @@ fn add_enable(
         Role::Inv,
         Spelling::NumberedTwice(b"xgi", bank, mask),
         &nodes,
-        instances,
+        row,
     )?;
     Ok(())
 }
@@ -231,13 +231,13 @@ fn add_enables_of(
     plan: &Plan,
     roles: &[RoleName],
     bank: u32,
-    instances: &mut Vec<Instance>,
+    row: &mut Vec<LogicGate>,
 ) -> Result<(), Memory>
     requires { ArePlanNumbers (numbers_of plan.now) }
-    ensures { OnOk result (instances.new.items ≡ instances.old.items ++ map (logic_cell (organization plan.now) (cell_in roles.now)) (tabulate_lists (enables_of (organization plan.now)) (enable_gates bank))) }
+    ensures { OnOk result (row.new.items ≡ row.old.items ++ map (logic_gate (organization plan.now) (cell_in roles.now)) (tabulate_lists (enables_of (organization plan.now)) (enable_gates bank))) }
 {
     for mask in 0..enables_of(plan) {
-        add_enable(alloc, plan, roles, bank, mask, instances)?;
+        add_enable(alloc, plan, roles, bank, mask, row)?;
     }
     Ok(())
 }
@@ -247,13 +247,13 @@ fn add_enables_of_banks(
     alloc: Global,
     plan: &Plan,
     roles: &[RoleName],
-    instances: &mut Vec<Instance>,
+    row: &mut Vec<LogicGate>,
 ) -> Result<(), Memory>
     requires { ArePlanNumbers (numbers_of plan.now) }
-    ensures { OnOk result (instances.new.items ≡ instances.old.items ++ map (logic_cell (organization plan.now) (cell_in roles.now)) (tabulate_lists (power_of_two plan.now.bank_bits) (λ bank. tabulate_lists (enables_of (organization plan.now)) (enable_gates bank)))) }
+    ensures { OnOk result (row.new.items ≡ row.old.items ++ map (logic_gate (organization plan.now) (cell_in roles.now)) (tabulate_lists (power_of_two plan.now.bank_bits) (λ bank. tabulate_lists (enables_of (organization plan.now)) (enable_gates bank)))) }
 {
     for bank in 0..plan.banks {
-        add_enables_of(alloc, plan, roles, bank, instances)?;
+        add_enables_of(alloc, plan, roles, bank, row)?;
     }
     Ok(())
 }
@@ -263,14 +263,14 @@ pub fn add_write_enable_gates(
     alloc: Global,
     plan: &Plan,
     roles: &[RoleName],
-    instances: &mut Vec<Instance>,
+    row: &mut Vec<LogicGate>,
 ) -> Result<(), Memory>
     requires { ArePlanNumbers (numbers_of plan.now) }
-    ensures { OnOk result (instances.new.items ≡ instances.old.items ++ map (logic_cell (organization plan.now) (cell_in roles.now)) (enable_cells plan.now.bank_bits plan.now.masks (enables_of (organization plan.now)))) }
+    ensures { OnOk result (row.new.items ≡ row.old.items ++ map (logic_gate (organization plan.now) (cell_in roles.now)) (enable_cells plan.now.bank_bits plan.now.masks (enables_of (organization plan.now)))) }
 {
     if plan.bank_bits == 0 && plan.masks == 0 {
         return Ok(());
     }
-    add_enables_of_banks(alloc, plan, roles, instances)?;
+    add_enables_of_banks(alloc, plan, roles, row)?;
     Ok(())
 }

@@ -4,13 +4,13 @@ ghost use Rattle.sram_netlist.specs.Instances.{Dd, Dm};
 ghost use Rattle.sram_netlist.specs.InstanceList.{tabulate, tabulate_lists, address_cells};
 ghost use Rattle.sram_netlist.specs.Numbers.{ArePlanNumbers};
 ghost use Rattle.sram_plan.specs.PlanNumbers.{numbers_of, organization};
-ghost use Rattle.sram_deck.specs.Deck.{logic_cell};
 ghost use Rattle.port_lists.specs.Cells.{cell_in};
+ghost use Rattle.row_decoder.specs.Gates.{logic_gate};
 
 use cell_roles::Role;
-use netlist::Instance;
 use or_geom::Memory;
-use port_lists::{Spelling, add_gate};
+use port_lists::Spelling;
+use row_decoder::{LogicGate, add_gate};
 use sram_plan::{Plan, inputs_of};
 use std::alloc::Global;
 use tech_rules::RoleName;
@@ -21,9 +21,9 @@ fn add_address_bit(
     plan: &Plan,
     roles: &[RoleName],
     bit: u32,
-    instances: &mut Vec<Instance>,
+    row: &mut Vec<LogicGate>,
 ) -> Result<(), Memory>
-    ensures { OnOk result (instances.new.items ≡ instances.old.items ++ map (logic_cell (organization plan.now) (cell_in roles.now)) (address_cells bit)) }
+    ensures { OnOk result (row.new.items ≡ row.old.items ++ map (logic_gate (organization plan.now) (cell_in roles.now)) (address_cells bit)) }
 {
     let latch = [
         Spelling::Indexed(b"addr0", bit),
@@ -36,7 +36,7 @@ fn add_address_bit(
         Role::Dff,
         Spelling::Numbered(b"xad", bit),
         &latch,
-        instances,
+        row,
     )?;
     let inverter = [Spelling::Numbered(b"a", bit), Spelling::Numbered(b"n", bit)];
     add_gate(
@@ -45,7 +45,7 @@ fn add_address_bit(
         Role::Inv,
         Spelling::Numbered(b"xai", bit),
         &inverter,
-        instances,
+        row,
     )
 }
 
@@ -54,13 +54,13 @@ pub fn add_address(
     alloc: Global,
     plan: &Plan,
     roles: &[RoleName],
-    instances: &mut Vec<Instance>,
+    row: &mut Vec<LogicGate>,
 ) -> Result<(), Memory>
     requires { ArePlanNumbers (numbers_of plan.now) }
-    ensures { OnOk result (instances.new.items ≡ instances.old.items ++ map (logic_cell (organization plan.now) (cell_in roles.now)) (tabulate_lists (addr_bits (organization plan.now)) address_cells)) }
+    ensures { OnOk result (row.new.items ≡ row.old.items ++ map (logic_gate (organization plan.now) (cell_in roles.now)) (tabulate_lists (addr_bits (organization plan.now)) address_cells)) }
 {
     for bit in 0..plan.addr_bits {
-        add_address_bit(alloc, plan, roles, bit, instances)?;
+        add_address_bit(alloc, plan, roles, bit, row)?;
     }
     Ok(())
 }
@@ -70,9 +70,9 @@ pub fn add_data_latches(
     alloc: Global,
     plan: &Plan,
     roles: &[RoleName],
-    instances: &mut Vec<Instance>,
+    row: &mut Vec<LogicGate>,
 ) -> Result<(), Memory>
-    ensures { OnOk result (instances.new.items ≡ instances.old.items ++ map (logic_cell (organization plan.now) (cell_in roles.now)) (tabulate (inputs_of (organization plan.now)) Dd)) }
+    ensures { OnOk result (row.new.items ≡ row.old.items ++ map (logic_gate (organization plan.now) (cell_in roles.now)) (tabulate (inputs_of (organization plan.now)) Dd)) }
 {
     for bit in 0..inputs_of(plan) {
         let nodes = [
@@ -86,7 +86,7 @@ pub fn add_data_latches(
             Role::Dff,
             Spelling::Numbered(b"xdd", bit),
             &nodes,
-            instances,
+            row,
         )?;
     }
     Ok(())
@@ -97,9 +97,9 @@ pub fn add_mask_latches(
     alloc: Global,
     plan: &Plan,
     roles: &[RoleName],
-    instances: &mut Vec<Instance>,
+    row: &mut Vec<LogicGate>,
 ) -> Result<(), Memory>
-    ensures { OnOk result (instances.new.items ≡ instances.old.items ++ map (logic_cell (organization plan.now) (cell_in roles.now)) (tabulate plan.now.masks Dm)) }
+    ensures { OnOk result (row.new.items ≡ row.old.items ++ map (logic_gate (organization plan.now) (cell_in roles.now)) (tabulate plan.now.masks Dm)) }
 {
     for mask in 0..plan.masks {
         let nodes = [
@@ -113,7 +113,7 @@ pub fn add_mask_latches(
             Role::Dff,
             Spelling::Numbered(b"xdm", mask),
             &nodes,
-            instances,
+            row,
         )?;
     }
     Ok(())

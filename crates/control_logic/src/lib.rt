@@ -6,11 +6,10 @@ mod control;
 mod enables;
 mod latches;
 mod part;
-mod roles;
 mod row;
 mod subckt;
 
 pub use cell::logic_row_cell;
 pub use part::build;
-pub use row::{LogicRow, logic_row, row_width, sides_of_memory};
+pub use row::{LogicRow, logic_row, row_width};
 pub use subckt::logic_subckt;

@@ -47,7 +47,7 @@ pub fn build(
     ensures same_deck { OnErr result (deck.new ≡ deck.old) }
 {
     let row = logic_row(alloc, kit, plan)?;
-    let cell = logic_row_cell(alloc, kit, plan, name, &row.gates)?;
+    let cell = logic_row_cell(alloc, kit, name, &row)?;
     let edges = row_edges(alloc, kit, plan, name, &row, &cell)?;
     let subckt = logic_subckt(alloc, kit, plan, name, row.gates)?;
     add_part(alloc, cell, subckt, cells, deck)?;
@@ -71,7 +71,7 @@ fn row_edges(
     ensures width { IfOk result (λ edges. edges.width ≡ pos (logic_width (organization plan.now) (layout_kit kit.now))) }
     ensures height { IfOk result (λ edges. edges.height ≡ pos (logic_height (layout_kit kit.now))) }
 {
-    let width = i64::from(row_width(kit, plan, &row.gates));
+    let width = i64::from(row_width(kit, row));
     let height = i64::from(leaf_height(kit, Role::Inv));
     edges_of(
         alloc,

@@ -1,11 +1,9 @@
 ghost use Rattle.std.specs.Prelude.{◌≡◌, ◌<◌, ◌≤◌, ◌⊎◌, length, IfOk};
 ghost use Rattle.leaf_tables.specs.Kits.{IsKit};
 ghost use Rattle.sram_netlist.specs.Netlist.{row_gate};
-ghost use Rattle.sram_netlist.specs.InstanceList.{logic_cells};
 ghost use Rattle.sram_netlist.specs.Numbers.{ArePlanNumbers};
 ghost use Rattle.sram_plan.specs.PlanNumbers.{numbers_of, organization};
 ghost use Rattle.macro_layout.specs.Floorplan.{column_role, write_height};
-ghost use Rattle.macro_layout.specs.Places.{total_width};
 ghost use Rattle.macro_wires.specs.Sides.{AreLeafSides, AreSidesOf};
 ghost use Rattle.macro_cells.specs.LayoutOfKit.{layout_kit};
 
@@ -19,19 +17,12 @@ use port_lists::groups_of;
 use sram_plan::Plan;
 use std::alloc::Global;
 
-/// The sides of the leaf cells that stand in a memory's rows, beside the width of its logic row, which is `logic_width`.
-pub fn sides_of(
-    alloc: Global,
-    kit: &Kit,
-    plan: &Plan,
-    logic_width: u32,
-) -> Result<LeafSides, Memory>
+/// The sides of the leaf cells that stand in a memory's rows.
+pub fn sides_of(alloc: Global, kit: &Kit, plan: &Plan) -> Result<LeafSides, Memory>
     requires kit { IsKit kit.now }
     requires plan { ArePlanNumbers (numbers_of plan.now) }
-    requires width { logic_width ≡ total_width (organization plan.now) (layout_kit kit.now) (logic_cells (organization plan.now)) }
     ensures are { IfOk result AreLeafSides }
     ensures of { IfOk result (AreSidesOf (organization plan.now) (layout_kit kit.now)) }
-    ensures same { IfOk result (λ sides. sides.logic_width ≡ logic_width) }
 {
     let groups = groups_of(alloc, plan)?;
     Ok(LeafSides {
@@ -44,7 +35,6 @@ pub fn sides_of(
         bit_width: leaf_width(kit, Role::Bitcell),
         gate_width: leaf_width(kit, gate_of_row(&groups)),
         driver_width: leaf_width(kit, Role::Driver),
-        logic_width,
     })
 }
 

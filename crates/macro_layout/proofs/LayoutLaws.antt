@@ -10,7 +10,7 @@ use Rattle.or_geom.proofs.ListLaws.{contains_none}
 use Rattle.gds_library.specs.declared.library.Structure.{Structure}
 use Rattle.tech_rules.specs.declared.tech.Layer.{Layer}
 use Rattle.element_drawing.specs.PlainLabel.{PlainLabel}
-use Rattle.element_drawing.specs.Paths.{IsBox}
+use Rattle.element_drawing.specs.Paths.{IsRectOf}
 use Rattle.cell_hierarchy.specs.FlatSet.{IsFlatShape, IsFlatLabel}
 use Rattle.cell_builder.specs.declared.cell.PlacedLabel.{PlacedLabel}
 use Rattle.cell_builder.specs.declared.cell.DrawnCell.{DrawnCell}
@@ -32,7 +32,7 @@ use Rattle.macro_layout.proofs.MacroLaws.{AreParts, IsOfOwn, leaves_of_macro, ma
 
 -- wires of banks
 
-image_box : (u v : ℤ) (r s : Rect) → IsImage (placed (upright u v)) r s → IsBox (r.x1 +ℤ u) (r.y1 +ℤ v) (r.x2 +ℤ u) (r.y2 +ℤ v) s
+image_box : (u v : ℤ) (r s : Rect) → IsImage (placed (upright u v)) r s → IsRectOf (r.x1 +ℤ u) (r.y1 +ℤ v) (r.x2 +ℤ u) (r.y2 +ℤ v) s
 image_box u v r s image =
     let wide = r.wide in
     let tall = r.tall in
@@ -43,7 +43,7 @@ image_box u v r s image =
       y2 = image.y2 ∙ omega (arith, ints, clamps, tall);
     }
 
-box_image : (u v : ℤ) (r s : Rect) → IsBox (r.x1 +ℤ u) (r.y1 +ℤ v) (r.x2 +ℤ u) (r.y2 +ℤ v) s → IsImage (placed (upright u v)) r s
+box_image : (u v : ℤ) (r s : Rect) → IsRectOf (r.x1 +ℤ u) (r.y1 +ℤ v) (r.x2 +ℤ u) (r.y2 +ℤ v) s → IsImage (placed (upright u v)) r s
 box_image u v r s box =
     let wide = r.wide in
     let tall = r.tall in

@@ -2,9 +2,8 @@
 use Rattle.std.specs.Prelude.{◌≡◌, ◌<◌, ◌≤◌, ℕ}
 use Rattle.cell_roles.specs.declared.role.Role.TheVariants.{Bitcell, Precharge, Sense, Driver, Inv}
 use Rattle.sram_netlist.specs.Organization.{Organization}
-use Rattle.sram_netlist.specs.InstanceList.{logic_cells}
 use Rattle.macro_layout.specs.LayoutKit.{LayoutKit}
-use Rattle.macro_layout.specs.Places.{gate_width, total_width}
+use Rattle.macro_layout.specs.Places.{gate_width}
 use Rattle.macro_layout.specs.Floorplan.{column_role, write_height}
 use Rattle.macro_wires.specs.declared.sides.LeafSides.{LeafSides}
 
@@ -36,4 +35,3 @@ pub record AreSidesOf (plan : Organization) (kit : LayoutKit) (sides : LeafSides
   pub bit_width : sides.bit_width ≡ kit.width Bitcell
   pub gate_width : sides.gate_width ≡ gate_width plan kit
   pub driver_width : sides.driver_width ≡ kit.width Driver
-  pub logic_width : sides.logic_width ≡ total_width plan kit (logic_cells plan)

@@ -1,4 +1,4 @@
-/// The sides of the leaf cells that stand in a memory's rows, and the width of its logic row, in nanometres.
+/// The sides of the leaf cells that stand in a memory's rows, in nanometres.
 #[derive(Clone, Copy, Debug)]
 pub struct LeafSides {
     /// The height of the logic row.
@@ -15,6 +15,4 @@ pub struct LeafSides {
     pub gate_width: u32,
     /// The width of a word line's driver.
     pub driver_width: u32,
-    /// The width of all cells of the logic row, side by side.
-    pub logic_width: u32,
 }

@@ -25,7 +25,7 @@ fn is_port_at(ports: &[&str], place: usize, pin: &str) -> bool
     ports[place].as_bytes() == pin.as_bytes()
 }
 
-/// The place of the first port of this name, or behind them all.
+/// The index of the first port of this name, or the number of ports if none has it.
 fn port_place(ports: &[&str], pin: &str) -> usize
     ensures { result ≡ port_place (map (λ port. port.now) ports.now) pin.now }
 {

@@ -1,4 +1,4 @@
-ghost use Rattle.std.specs.Prelude.{◌≡◌, ◌++◌, ◌∷◌, [], map, codes, IfOk, OnOk};
+ghost use Rattle.std.specs.Prelude.{◌≡◌, ◌++◌, map, codes, IfOk};
 ghost use Rattle.cell_roles.specs.Roles.{supplies};
 ghost use Rattle.sram_deck.specs.Deck.{subckt_instance, made_subckt};
 ghost use Rattle.port_lists.specs.Cells.{cell_in, fixed_cell_in, named_cell};
@@ -90,19 +90,4 @@ pub fn subckt_of(alloc: Global, name: Name, ports: NameList, instances: Vec<Inst
         instances: Items::from_vec(instances),
         raw: Items::new(alloc),
     }
-}
-
-/// Adds an instance of a role's cell.
-pub fn add_gate(
-    alloc: Global,
-    roles: &[RoleName],
-    role: Role,
-    name: Spelling,
-    nodes: &[Spelling],
-    instances: &mut Vec<Instance>,
-) -> Result<(), Memory>
-    ensures { OnOk result (instances.new.items ≡ instances.old.items ++ subckt_instance (spelled name) (map spelled nodes.now ++ supplies) (cell_in roles.now role) ∷ []) }
-{
-    instances.push(leaf_instance(alloc, roles, role, name, nodes)?)?;
-    Ok(())
 }

@@ -1,7 +1,6 @@
 -- What the lines over some address bits choose.
 use Rattle.std.proofs.Common.{◌≡◌, ◌⊎◌, inl, inr, ℕ, zero, suc, ◌+◌, ◌*◌, ◌<◌, ◌≤◌, List, [], ◌∷◌, ◌++◌, length, map, Bool, cond, refl, ap, sym, ◌∙◌, append_assoc, arith}
 use Rattle.std.specs.List.{AllByRecursion}
-use Rattle.netlist.specs.declared.deck.Instance.{Instance}
 use Rattle.sram_netlist.specs.Organization.{Organization, IsGroupSize, total_bits, bank_bit}
 use Rattle.sram_netlist.specs.Instances.{LogicCell}
 use Rattle.sram_netlist.specs.Names.{Column, Group, Bank, line_kind_in, line_kind_at, line_kind}
@@ -56,12 +55,12 @@ pub bank_kind : (plan : Organization) → AllByRecursion IsGroupSize plan.groups
 bank_kind plan all = kind_from plan.col_bits plan.groups (bank_bit plan) (omega arith) ∙ kind_after plan.groups plan.col_bits 0 (bank_bit plan) all (omega arith)
 
 -- the lines of one group more
-pub groups_more : (g : LogicCell → Instance) (now new all : List Instance) (rest others : List ℕ) (bits low : ℕ) → rest ≡ bits ∷ others → new ≡ now ++ map g (gates low bits)
+pub groups_more : {A : Type 0} (g : LogicCell → A) (now new all : List A) (rest others : List ℕ) (bits low : ℕ) → rest ≡ bits ∷ others → new ≡ now ++ map g (gates low bits)
     → now ++ map g (groups_gates rest low) ≡ all → new ++ map g (groups_gates others (low + bits)) ≡ all
-groups_more g now new all rest others bits low front added is =
-    ap (λ (l : List Instance). l ++ map g (groups_gates others (low + bits))) added
+groups_more {A = A} g now new all rest others bits low front added is =
+    ap (λ (l : List A). l ++ map g (groups_gates others (low + bits))) added
     ∙ (append_assoc now (map g (gates low bits)) (map g (groups_gates others (low + bits)))
-    ∙ (ap (λ (l : List Instance). now ++ l) (sym (map_append g (gates low bits) (groups_gates others (low + bits))))
+    ∙ (ap (λ (l : List A). now ++ l) (sym (map_append g (gates low bits) (groups_gates others (low + bits))))
     ∙ (ap (λ (bs : List ℕ). now ++ map g (groups_gates bs low)) (sym front) ∙ is)))
 
 pub few_groups : (groups stated : List ℕ) → groups ≡ stated → (length stated ≡ 2) ⊎ (length stated ≡ 3) → 0 + length groups ≤ 3

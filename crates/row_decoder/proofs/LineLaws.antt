@@ -2,7 +2,6 @@
 use Rattle.std.proofs.Common.{◌≡◌, ℕ, zero, suc, ◌+◌, ◌-◌, ◌<◌, ◌≤◌, ◌/◌, ◌%◌, List, [], ◌∷◌, ◌++◌, map, Bool, true, false, refl, ap, sym, ◌∙◌, append_assoc, arith}
 use Rattle.std.proofs.lemmas.List.{append-nil}
 use Rattle.sram_netlist.specs.Organization.{Organization}
-use Rattle.netlist.specs.declared.deck.Instance.{Instance}
 use Rattle.cell_roles.specs.declared.role.Role.{Role}
 use Rattle.cell_roles.specs.declared.role.Role.TheVariants.{Inv}
 use Rattle.cell_roles.specs.Roles.{supplies}
@@ -10,7 +9,9 @@ use Rattle.sram_netlist.specs.Nets.{LineB}
 use Rattle.sram_netlist.specs.Instances.{Pn, Pi}
 use Rattle.sram_netlist.specs.Netlist.{lowest_bit, picks, pick, gate_of, supply_nets}
 use Rattle.sram_netlist.specs.Names.{LineKind, net_name, with_number, line_kind, line_name, lineb_name, gate_name, inv_name}
-use Rattle.sram_deck.specs.Deck.{subckt_instance, logic_cell}
+use Rattle.sram_deck.specs.Deck.{subckt_instance}
+use Rattle.row_decoder.specs.declared.gate.LogicGate.{LogicGate}
+use Rattle.row_decoder.specs.Gates.{gate_of_role, logic_gate}
 use Rattle.port_lists.proofs.TabulateLaws.{map_append}
 use Rattle.row_decoder.specs.Lines.{pick_letter}
 
@@ -51,16 +52,16 @@ even_lowest (suc zero) even = absurd (even (omega arith))
 even_lowest (suc (suc n)) even = even_lowest n (λ odd. even (omega (arith, odd)))
 
 -- the gate of a line, where it is known what the line chooses
-pub gate_is : (plan : Organization) (cell : Role → List ℕ) (o b k : ℕ) (kind : LineKind) (made : Instance) → line_kind plan o ≡ kind
-    → made ≡ subckt_instance (gate_name kind k) (map (net_name plan) (picks o b k) ++ (lineb_name kind k ∷ supplies)) (cell (gate_of b)) → made ≡ logic_cell plan cell (Pn o b k)
+pub gate_is : (plan : Organization) (cell : Role → List ℕ) (o b k : ℕ) (kind : LineKind) (made : LogicGate) → line_kind plan o ≡ kind
+    → made ≡ record { role = gate_of b; instance = subckt_instance (gate_name kind k) (map (net_name plan) (picks o b k) ++ (lineb_name kind k ∷ supplies)) (cell (gate_of b)) } → made ≡ logic_gate plan cell (Pn o b k)
 gate_is plan cell o b k kind made known is =
-    is ∙ ((λ i. subckt_instance (gate_name (sym known i) k) (map (net_name plan) (picks o b k) ++ (lineb_name (sym known i) k ∷ supplies)) (cell (gate_of b)))
-    ∙ ap (λ (nodes : List (List ℕ)). subckt_instance (gate_name (line_kind plan o) k) nodes (cell (gate_of b))) (sym (map_append (net_name plan) (picks o b k) (LineB o b k ∷ supply_nets))))
+    is ∙ ((λ i. record { role = gate_of b; instance = subckt_instance (gate_name (sym known i) k) (map (net_name plan) (picks o b k) ++ (lineb_name (sym known i) k ∷ supplies)) (cell (gate_of b)) })
+    ∙ ap (λ (nodes : List (List ℕ)). record { role = gate_of b; instance = subckt_instance (gate_name (line_kind plan o) k) nodes (cell (gate_of b)) }) (sym (map_append (net_name plan) (picks o b k) (LineB o b k ∷ supply_nets))))
 
-pub inverter_is : (plan : Organization) (cell : Role → List ℕ) (o b k : ℕ) (kind : LineKind) (made : Instance) → line_kind plan o ≡ kind
-    → made ≡ subckt_instance (inv_name kind k) (lineb_name kind k ∷ line_name kind k ∷ supplies) (cell Inv) → made ≡ logic_cell plan cell (Pi o b k)
+pub inverter_is : (plan : Organization) (cell : Role → List ℕ) (o b k : ℕ) (kind : LineKind) (made : LogicGate) → line_kind plan o ≡ kind
+    → made ≡ gate_of_role cell Inv (inv_name kind k) (lineb_name kind k ∷ line_name kind k ∷ []) → made ≡ logic_gate plan cell (Pi o b k)
 inverter_is plan cell o b k kind made known is =
-    is ∙ (λ i. subckt_instance (inv_name (sym known i) k) (lineb_name (sym known i) k ∷ line_name (sym known i) k ∷ supplies) (cell Inv))
+    is ∙ (λ i. gate_of_role cell Inv (inv_name (sym known i) k) (lineb_name (sym known i) k ∷ line_name (sym known i) k ∷ []))
 
 pub nodes_are : (none one two all picked : List (List ℕ)) (line named : List ℕ) → none ≡ [] → one ≡ none ++ picked → two ≡ one ++ line ∷ [] → line ≡ named → all ≡ two ++ supplies → all ≡ picked ++ (named ∷ supplies)
 nodes_are none one two all picked line named empty first second is third =

@@ -1,2 +1,3 @@
 pub mod RowTaps
 pub mod Lines
+pub mod Gates

@@ -2,9 +2,11 @@
 #![tactic(auto)]
 
 mod decoder;
+mod gate;
 mod lines;
 mod rows;
 
 pub use decoder::gates;
-pub use lines::{LineChoice, add_lines, gate_role};
+pub use gate::{LogicGate, add_gate};
+pub use lines::{LineChoice, Lines, add_lines, gate_role};
 pub use rows::taps;

@@ -31,7 +31,7 @@ use Rattle.macro_layout.specs.Moved.{MainChannelsAreDrawn}
 use Rattle.cell_hierarchy.specs.FlatLists.{AreFlatLists}
 use Rattle.cell_hierarchy.specs.Plain.{FlatLists}
 use Rattle.macro_layout.specs.Stated.{IsWireOfCell, IsDrawnAs, AreStated, FlatListsAreStated}
-use Rattle.macro_layout.specs.Wires.{IsText, IsPortLabel, IsLabelInMacro, trunk_x, ground_x}
+use Rattle.macro_layout.specs.Wires.{IsTextAt, IsPortLabel, IsLabelInMacro, trunk_x, ground_x}
 use Rattle.macro_layout.proofs.RoutingLaws.{item_at, below_length}
 use Rattle.macro_cells.specs.LayoutOfKit.{layout_kit}
 use Rattle.macro_wires.specs.FloorplanNumbers.{floorplan_of}
@@ -114,7 +114,7 @@ signals_stated plan kit wire tracks floorplan routed low inputs is stands high l
           subst (λ (l : List PlacedLabel). Contains l label) (sym same) (subst (Contains (tabulate (length names) made)) (sym is_made) (tabulate_has (length names) made p.number below)),
     )
 
-text_is : (wire : Wire) (x : ℤ) (text : List ℕ) (at : ℤ) (label : PlacedLabel) → x ≡ at → (label ≡ supply_label wire x text) ↔ IsText wire 1 text at (pos 0) label
+text_is : (wire : Wire) (x : ℤ) (text : List ℕ) (at : ℤ) (label : PlacedLabel) → x ≡ at → (label ≡ supply_label wire x text) ↔ IsTextAt wire 1 text at (pos 0) label
 text_is wire x text at label same = (
   λ e. record { layer = ap (λ (l : PlacedLabel). l.layer) e; text_is = ap (λ (l : PlacedLabel). l.text) e; x_is = ap (λ (l : PlacedLabel). l.at.x) e ∙ same; y_is = ap (λ (l : PlacedLabel). l.at.y) e },
   λ t. (λ i. record { layer = t.layer i; at = record { x = (t.x_is ∙ sym same) i; y = t.y_is i }; text = t.text_is i }),

@@ -8,7 +8,7 @@ ghost use Rattle.leaf_tables.specs.Kits.{IsKit};
 ghost use Rattle.tech_rules.specs.Facts.{IsWire};
 ghost use Rattle.port_lists.specs.Cells.{cell_in};
 ghost use Rattle.port_lists.specs.Held.{held_of};
-ghost use Rattle.sram_deck.specs.Deck.{web_ports, logic_instances};
+ghost use Rattle.sram_deck.specs.Deck.{web_ports};
 ghost use Rattle.sram_netlist.specs.BitCells.{BitCells};
 ghost use Rattle.sram_netlist.specs.Numbers.{ArePlanNumbers};
 ghost use Rattle.sram_plan.specs.Config.{is_output_name};
@@ -31,7 +31,7 @@ ghost use Rattle.sram_macro.specs.Macro.{IsMacro, IsMacroFault, IsLaidOut, AreWi
 
 use crate::deck::macro_deck;
 use crate::layout::{Layout, lay_out, top_wires};
-use crate::library::{Frame, Wires, library};
+use crate::library::{DrawingFrame, Wires, library};
 use crate::names::refuse_taken_names;
 use crate::signals::{macro_labels, signal_names, signal_pins};
 use crate::view::macro_view;
@@ -161,7 +161,7 @@ fn written_library(
     plan: &Plan,
     name: &Name,
     contents: Contents<'_>,
-    frame: &Frame,
+    frame: &DrawingFrame,
     wires: Wires,
 ) -> Result<Library, Memory>
     requires kit { IsKit kit.now }
@@ -172,7 +172,7 @@ fn written_library(
     requires sides { AreLeafSides frame.now.sides }
     requires of { AreSidesOf (organization plan.now) (layout_kit kit.now) frame.now.sides }
     requires near { IsNearFloorplan frame.now.floorplan }
-    requires gates { frame.now.gates.items ≡ logic_instances (organization plan.now) (cell_in kit.now.tech.roles) }
+    requires row { IsLogicRow (organization plan.now) (cell_in kit.now.tech.roles) frame.now.row }
     requires layers { AreOnLayers kit.now.tech.layers wires }
     requires drawing { IsWritableDrawing (drawing_with (macro_bits kit.now plan.now (held_of contents)) frame.now.floorplan wires) }
     ensures library { IfOk result (IsLibraryOf kit.now.tech.layers (macro_list kit.now (organization plan.now) name.now (drawing_with (macro_bits kit.now plan.now (held_of contents.entry)) frame.now.floorplan wires)) name.now) }
@@ -208,18 +208,20 @@ fn macro_of(
     let wire = wire_of(kit);
     let tracks = layout.main.tracks;
     let ends = layout.ends;
-    let frame = Frame {
+    let frame = DrawingFrame {
         sides: layout.sides,
         floorplan: layout.floorplan,
-        gates: row.gates,
+        row,
     };
     let low = frame.sides.inv_height;
     let signals = signals_of(alloc, kit, plan, wire, low, &layout.main)?;
     let wires = wires_of(alloc, kit, plan, wire, layout, &signals)?;
     let layers = kit.tech.layers.as_slice();
+    let lib = written_library(alloc, kit, plan, name, contents, &frame, wires)?;
+    let row = frame.row;
     Ok(Macro {
-        lib: written_library(alloc, kit, plan, name, contents, &frame, wires)?,
-        deck: macro_deck(alloc, kit, plan, name, contents, frame.gates)?,
+        lib,
+        deck: macro_deck(alloc, kit, plan, name, contents, row.gates)?,
         view: macro_view(alloc, layers, name, wire, &ends, signals)?,
         tracks,
     })
@@ -241,13 +243,14 @@ fn column_of(alloc: Global, kit: &Kit, plan: &Plan) -> Result<Routed, PartFault>
 /// one of the macro's; `SliceTooNarrow`: the sense or the write cell is wider than the columns of a bit; `Close`: pins of a
 /// channel are nearer to each other than the pitch, first of a bank's and then of the main channel; `TapsClose`: taps of a
 /// bank's rails are. x and y of the first channel's pins count from the left end of the columns, those of taps from the lower
-/// edge of the bank, and those of the main channel in the macro.
+/// edge of the bank, and those of the main channel in the macro. Where the plan writes something, the netlist of the macro is a
+/// memory (clause `memory`).
 pub fn assemble(alloc: Global, kit: &Kit, plan: &Plan, name: &Name) -> Result<Macro, PartFault>
     requires kit { IsKit kit.now }
     requires plan { ArePlanNumbers (numbers_of plan.now) }
     requires name { IsTrue (is_output_name name.now) }
     ensures ok { IfOk result (IsMacro kit.now plan.now Stored name.now) }
-    // Its netlist is the reference netlist, which answers every list of reads and writes as an array of words.
+    // Its netlist is the reference netlist, and that is a memory if the plan writes something.
     ensures memory { IfOk result (IsMacroMemory kit.now plan.now name.now) }
     ensures fault { IfErr result (IsMacroFault kit.now plan.now Stored name.now) }
 {

@@ -2,9 +2,11 @@ ghost use Rattle.std.specs.Prelude.{◌≡◌, ◌≤◌, ◌+◌, ◌^◌, pos,
 ghost use Rattle.std.specs.Int.{int_max};
 ghost use Rattle.tech_rules.specs.Facts.{AreSizes};
 ghost use Rattle.tech_rules.specs.Drawing.{pitch};
+ghost use Rattle.sram_netlist.specs.InstanceList.{logic_cells};
 ghost use Rattle.sram_netlist.specs.Numbers.{ArePlanNumbers};
 ghost use Rattle.sram_plan.specs.PlanNumbers.{numbers_of, organization};
 ghost use Rattle.macro_layout.specs.LayoutKit.{LayoutKit};
+ghost use Rattle.macro_layout.specs.Places.{total_width};
 ghost use Rattle.macro_wires.specs.Sides.{AreLeafSides, AreSidesOf};
 ghost use Rattle.macro_wires.specs.FloorplanNumbers.{floorplan_of, IsUpTo, IsNearFloorplan, EndsBehindColumns};
 ghost use Rattle.macro_wires.specs.Trunks.{IsBehind};
@@ -36,7 +38,7 @@ fn banks_end(count: u32, width: i64) -> i64
 /// Where the logic row ends, which begins at `from`.
 fn logic_end(from: i64, width: u32) -> i64
     requires from { IsUpTo (2 ^ 17) from }
-    requires few { width ≤ 536870912 }
+    requires few { width ≤ 2 ^ 29 }
     ensures is { result ≡ from +ℤ pos width }
     ensures near { IsUpTo (2 ^ 29 + 2 ^ 17) result }
 {
@@ -86,27 +88,28 @@ fn upper_edge(precharge_y: i64, height: u32) -> i64
     precharge_y + i64::from(height)
 }
 
-/// The trunks stand a space behind the banks and the logic row, a pitch from each other, and the macro ends two pitches
-/// behind the first.
+/// The trunks stand a space behind the banks and the logic row, which is `logic_width` wide, a pitch from each other, and
+/// the macro ends two pitches behind the first.
 pub fn extents_of(
     plan: &Plan,
     sides: &LeafSides,
+    logic_width: u32,
     wire: &Wire,
     floorplan: &FloorplanNumbers,
 ) -> Extents
     requires plan { ArePlanNumbers (numbers_of plan.now) }
     requires sides { AreLeafSides sides.now }
-    requires few { sides.now.logic_width ≤ 536870912 }
+    requires few { logic_width ≤ 2 ^ 29 }
     requires sizes { AreSizes wire.now }
     requires near { IsNearFloorplan floorplan.now }
     requires columns { EndsBehindColumns sides.now floorplan.now }
-    ensures are { (kit : LayoutKit) → AreSidesOf (organization plan.now) kit sides.now → AreExtents (organization plan.now) kit wire.now (floorplan_of floorplan.now) result }
+    ensures are { (kit : LayoutKit) → AreSidesOf (organization plan.now) kit sides.now → logic_width ≡ total_width (organization plan.now) kit (logic_cells (organization plan.now)) → AreExtents (organization plan.now) kit wire.now (floorplan_of floorplan.now) result }
     ensures near { AreNearExtents result }
     ensures power { IsBehind sides.now floorplan.now result.power_x }
     ensures ground { IsBehind sides.now floorplan.now result.ground_x }
 {
     let banks = banks_end(plan.banks, floorplan.bank_width);
-    let logic = logic_end(floorplan.logic_x, sides.logic_width);
+    let logic = logic_end(floorplan.logic_x, logic_width);
     let height = upper_edge(floorplan.precharge_y, sides.precharge_height);
     extents_behind(right_end(banks, logic), wire, height)
 }

@@ -96,7 +96,7 @@ pub fn lay_out(
     ensures fault { IfErr result (IsMacroLayoutFault kit.now (organization plan.now) column.now) }
 {
     let wire = wire_of(kit);
-    let sides = sides_of(alloc, kit, plan, row_width(kit, plan, &row.gates))?;
+    let sides = sides_of(alloc, kit, plan)?;
     let begun = floorplan(plan, &sides, wire, 0, column.tracks);
     let main = route_main(alloc, kit, plan, row, wire, &begun);
     let stands = floorplan(plan, &sides, wire, tracks_of(&main), column.tracks);
@@ -105,7 +105,7 @@ pub fn lay_out(
     let bank = bank_wires(alloc, kit, plan, &sides, &stands, column)?;
     let main = main?;
     Ok(Layout {
-        ends: extents_of(plan, &sides, wire, &stands),
+        ends: extents_of(plan, &sides, row_width(kit, row), wire, &stands),
         sides,
         floorplan: stands,
         bank,

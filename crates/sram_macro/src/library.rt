@@ -2,7 +2,6 @@ ghost use Rattle.std.specs.Prelude.{◌≡◌, length, IfOk, OnOk};
 ghost use Rattle.leaf_tables.specs.Kits.{IsKit};
 ghost use Rattle.port_lists.specs.Cells.{cell_in};
 ghost use Rattle.port_lists.specs.Held.{held_of};
-ghost use Rattle.sram_deck.specs.Deck.{logic_instances};
 ghost use Rattle.sram_netlist.specs.Numbers.{ArePlanNumbers};
 ghost use Rattle.sram_plan.specs.PlanNumbers.{numbers_of, organization};
 ghost use Rattle.cell_builder.specs.Finish.{IsLibraryOf};
@@ -13,18 +12,18 @@ ghost use Rattle.sram_netlist.specs.InstanceList.{tabulate};
 ghost use Rattle.sram_netlist.specs.Organization.{bank_rows};
 ghost use Rattle.sram_macro.specs.Macro.{macro_bits};
 ghost use Rattle.macro_cells.specs.LayoutOfKit.{layout_kit};
+ghost use Rattle.control_logic.specs.LogicPart.{IsLogicRow};
 ghost use Rattle.macro_wires.specs.Sides.{AreLeafSides, AreSidesOf};
 ghost use Rattle.macro_wires.specs.FloorplanNumbers.{floorplan_of, IsNearFloorplan};
 ghost use Rattle.sram_macro.specs.Library.{part_cells, macro_list, drawing_with, AreOnLayers};
 
 use bank_layout::bank_cell;
 use cell_builder::{Cells, PlacedLabel};
-use control_logic::logic_row_cell;
+use control_logic::{LogicRow, logic_row_cell};
 use gds_library::Library;
 use leaf_tables::Kit;
 use macro_cells::{array_cell, data_cell, macro_cell, pre_cell, row_cell};
 use macro_wires::{FloorplanNumbers, LeafSides};
-use netlist::Instance;
 use or_geom::{Memory, Name, Shape};
 use port_lists::{Contents, row_kinds};
 use sram_plan::Plan;
@@ -38,13 +37,13 @@ pub struct Wires {
     pub labels: Vec<PlacedLabel>,
 }
 
-/// What a macro's cells are drawn from beside their wires: the sides of the leaf cells, where the parts stand, and the gates of
-/// the logic row.
+/// What a macro's cells are drawn from beside their wires: the sides of the leaf cells, where the parts stand, and the logic
+/// row.
 #[derive(Drop)]
-pub struct Frame {
+pub struct DrawingFrame {
     pub sides: LeafSides,
     pub floorplan: FloorplanNumbers,
-    pub gates: Vec<Instance>,
+    pub row: LogicRow,
 }
 
 /// Draws the cells of the rows.
@@ -103,7 +102,7 @@ pub fn library(
     plan: &Plan,
     name: &Name,
     contents: Contents<'_>,
-    frame: &Frame,
+    frame: &DrawingFrame,
     wires: Wires,
 ) -> Result<Library, Memory>
     requires kit { IsKit kit.now }
@@ -112,7 +111,7 @@ pub fn library(
     requires sides { AreLeafSides frame.now.sides }
     requires of { AreSidesOf (organization plan.now) (layout_kit kit.now) frame.now.sides }
     requires near { IsNearFloorplan frame.now.floorplan }
-    requires gates { frame.now.gates.items ≡ logic_instances (organization plan.now) (cell_in kit.now.tech.roles) }
+    requires row { IsLogicRow (organization plan.now) (cell_in kit.now.tech.roles) frame.now.row }
     requires layers { AreOnLayers kit.now.tech.layers wires }
     ensures { IfOk result (IsLibraryOf kit.now.tech.layers (macro_list kit.now (organization plan.now) name.now (drawing_with (macro_bits kit.now plan.now (held_of contents.entry)) frame.now.floorplan wires)) name.now) }
 {
@@ -121,7 +120,7 @@ pub fn library(
     cells.adopt(&kit.lib)?;
     draw_parts(alloc, kit, plan, name, contents, floorplan, &mut cells)?;
     cells.draw(bank_cell(alloc, name, &frame.sides, floorplan, wires.bank)?)?;
-    cells.draw(logic_row_cell(alloc, kit, plan, name, &frame.gates)?)?;
+    cells.draw(logic_row_cell(alloc, kit, name, &frame.row)?)?;
     cells.draw(macro_cell(alloc, plan, name, floorplan, wires.top, wires.labels)?)?;
     Ok(cells.finish(name, &kit.tech)?)
 }

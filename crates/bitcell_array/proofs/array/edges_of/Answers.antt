@@ -23,3 +23,17 @@ returns-clause-edges c =
       top = top_in_order kit plan c.requires.kit tall _ _ high c.in_ok-column_edges.ensures;
       bottom = bottom_in_order kit plan c.requires.kit tall _ c.in_ok-column_edges-2.ensures;
     }
+
+pub returns-clause-width : goal.returns-clause-width
+returns-clause-width c =
+    let is = c.width_of.ensures.is (layout_kit c.args.kit.now) c.in_ok-sides.ensures.of in
+    let few = c.width_of.ensures.few in
+    let read = c.from.ensures in
+    omega (arith, ints, is, few, read)
+
+pub returns-clause-height : goal.returns-clause-height
+returns-clause-height c =
+    let is = c.height_of.ensures.is (layout_kit c.args.kit.now) c.in_ok-sides.ensures.of in
+    let few = c.height_of.ensures.few in
+    let read = c.from-2.ensures in
+    omega (arith, ints, is, few, read)

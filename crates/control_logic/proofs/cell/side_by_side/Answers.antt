@@ -1,23 +1,26 @@
 -- A cell more.
-use Rattle.std.proofs.Common.{◌∙◌, arith}
-use Rattle.std.proofs.lemmas.List.{nil_from_length}
-use Rattle.sram_plan.specs.PlanNumbers.{organization}
+use Rattle.std.proofs.Common.{get_or, arith}
+use Rattle.std.proofs.lemmas.List.{get_or_default}
+use Rattle.cell_roles.specs.declared.role.Role.TheVariants.{Bitcell}
+use Rattle.macro_cells.specs.LeafSides.{leaf_width}
 use Rattle.macro_cells.specs.LayoutOfKit.{layout_kit}
-use Rattle.control_logic.proofs.LogicLaws.{none_placed, one_placed, all_placed}
+use Rattle.control_logic.proofs.LogicLaws.{one_placed, all_placed}
 use Rattle.control_logic.proofs.cell.side_by_side.Goals as goal
-
-pub loop-gate-init : goal.loop-gate-init
-loop-gate-init c = none_placed (organization c.args.plan.now) (layout_kit c.args.kit.now) _ _ c.requires.plan.plan c.new-placed.ensures.items c.requires.gates
 
 pub overflow_add-x : goal.overflow_add-x
 overflow_add-x c =
-    let step = one_placed (organization c.args.plan.now) (layout_kit c.args.kit.now) _ _ _ _ _ _ _ _ c.loop-gate.invariant c.in-Some.ensures.cases.0 c.in_ok-push.ensures.items c.in_ok-gate_at.ensures (λ r e. c.width_of_cell.ensures.is r (c.as_bytes.ensures ∙ e)) c.width_of_cell.ensures.few in
-    let few = step.few in
-    omega (arith, few)
+    let few = c.requires.few in
+    let less = c.loop-cell-test.true in
+    let here = c.loop-cell.invariant.few in
+    let wide = c.leaf_width.ensures.few in
+    omega (arith, few, less, here, wide)
 
-pub loop-gate-preserved : goal.loop-gate-preserved
-loop-gate-preserved c =
-    (one_placed (organization c.args.plan.now) (layout_kit c.args.kit.now) _ _ _ _ _ _ _ _ c.loop-gate.invariant c.in-Some.ensures.cases.0 c.in_ok-push.ensures.items c.in_ok-gate_at.ensures (λ r e. c.width_of_cell.ensures.is r (c.as_bytes.ensures ∙ e)) c.width_of_cell.ensures.few).then
+pub loop-cell-preserved : goal.loop-cell-preserved
+loop-cell-preserved c =
+    let same = c.requires.roles in
+    let less = c.loop-cell-test.true in
+    one_placed (leaf_width c.args.kit.now) c.args.gates.now c.args.roles.now _ _ c.loop-cell.cell c.loop-cell.x c.leaf_width.result c.index-gates-cell.result (get_or c.args.roles.now c.loop-cell.cell Bitcell) _ c.loop-cell.invariant same less
+    c.index-gates-cell.is (get_or_default c.args.roles.now c.loop-cell.cell _ _ (omega (arith, same, less))) c.in_ok-gate_at.ensures c.in_ok-push.ensures.items c.leaf_width.ensures.is c.leaf_width.ensures.few
 
 pub returns : goal.returns
-returns c = all_placed (organization c.args.plan.now) (layout_kit c.args.kit.now) _ _ _ c.loop-gate.invariant (nil_from_length _ c.in_default.ensures.cases)
+returns c = λ plan gates roles. all_placed plan (layout_kit c.args.kit.now) c.args.gates.now c.args.roles.now _ c.loop-cell.cell _ c.loop-cell.invariant (let end = c.loop-cell-test.false in omega (arith, end)) gates roles

@@ -1,25 +1,19 @@
 -- A cell more.
-use Rattle.std.proofs.Common.{◌∙◌, arith}
-use Rattle.std.proofs.lemmas.List.{nil_from_length}
-use Rattle.sram_plan.specs.PlanNumbers.{organization}
+use Rattle.std.proofs.Common.{length, ap, arith}
 use Rattle.macro_cells.specs.LayoutOfKit.{layout_kit}
-use Rattle.control_logic.proofs.LogicLaws.{none_added, one_added, all_added, few_added}
+use Rattle.control_logic.proofs.LogicLaws.{all_added, few_added, few_roles}
 use Rattle.control_logic.proofs.row.row_width.Goals as goal
 
-pub loop-gate-init : goal.loop-gate-init
-loop-gate-init c = none_added (organization c.args.plan.now) (layout_kit c.args.kit.now) _ c.requires.plan.plan c.requires.gates
+pub returns-clause-is : goal.returns-clause-is
+returns-clause-is c = λ plan row. all_added plan (layout_kit c.args.kit.now) c.args.row.now.roles.items c.loop-role.role-index _ c.loop-role.invariant (let end = c.loop-role-test.false in let same = ap length c.as_slice-role-items.ensures.value in omega (arith, end, same)) row.roles
 
 pub overflow_add-width : goal.overflow_add-width
 overflow_add-width c =
-    let step = one_added (organization c.args.plan.now) (layout_kit c.args.kit.now) _ _ _ _ _ c.loop-gate.invariant c.in-Some.ensures.cases.0 (λ r e. c.width_of_cell-width.ensures.is r (c.as_bytes.ensures ∙ e)) c.width_of_cell-width.ensures.few in
-    let few = step.few in
-    omega (arith, few)
-
-pub loop-gate-preserved : goal.loop-gate-preserved
-loop-gate-preserved c = (one_added (organization c.args.plan.now) (layout_kit c.args.kit.now) _ _ _ _ _ c.loop-gate.invariant c.in-Some.ensures.cases.0 (λ r e. c.width_of_cell-width.ensures.is r (c.as_bytes.ensures ∙ e)) c.width_of_cell-width.ensures.few).then
-
-pub returns-clause-is : goal.returns-clause-is
-returns-clause-is c = all_added (organization c.args.plan.now) (layout_kit c.args.kit.now) _ _ c.loop-gate.invariant (nil_from_length _ c.in_default.ensures.cases)
+    let row = c.requires.row in
+    let small = few_roles row.0 row.1 _ row.2.roles in
+    let few = few_added _ _ _ _ c.loop-role.invariant small in
+    let wide = c.leaf_width-width.ensures.few in
+    omega (arith, few, wide)
 
 pub returns-clause-few : goal.returns-clause-few
-returns-clause-few c = few_added (organization c.args.plan.now) (layout_kit c.args.kit.now) _ _ c.loop-gate.invariant
+returns-clause-few c = let row = c.requires.row in few_added _ _ _ _ c.loop-role.invariant (few_roles row.0 row.1 _ row.2.roles)

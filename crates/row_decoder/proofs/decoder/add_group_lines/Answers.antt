@@ -4,7 +4,7 @@ use Rattle.std.specs.List.{AllByRecursion}
 use Rattle.sram_netlist.specs.Organization.{IsGroupSize}
 use Rattle.sram_netlist.specs.Names.{line_kind_in}
 use Rattle.sram_plan.specs.PlanNumbers.{organization}
-use Rattle.sram_deck.specs.Deck.{logic_cell}
+use Rattle.row_decoder.specs.Gates.{logic_gate}
 use Rattle.port_lists.specs.Cells.{cell_in}
 use Rattle.port_lists.proofs.PortLaws.{few_bits}
 use Rattle.row_decoder.proofs.KindLaws.{kind_from, group_kind, kind_behind, groups_more, few_groups}
@@ -55,7 +55,7 @@ loop-bits-preserved c =
     let group = c.loop-bits.invariant.group in
     let low = c.loop-bits.invariant.low in
     record {
-      gates = groups_more (logic_cell (organization c.args.plan.now) (cell_in c.args.roles.now)) _ _ _ c.loop-bits.rest.now c.in-Some.others.now c.in-Some.bits.now c.loop-bits.low front c.in_ok-add_lines.ensures c.loop-bits.invariant.gates;
+      gates = groups_more (logic_gate (organization c.args.plan.now) (cell_in c.args.roles.now)) _ _ _ c.loop-bits.rest.now c.in-Some.others.now c.in-Some.bits.now c.loop-bits.low front c.in_ok-add_lines.ensures c.loop-bits.invariant.gates;
       kinds = λ o le. c.loop-bits.invariant.kinds o (omega (arith, le)) ∙ ap (λ (gs : List ℕ). line_kind_in gs c.loop-bits.low c.loop-bits.group o) front
           ∙ kind_behind c.in-Some.bits.now c.in-Some.others.now c.loop-bits.low c.loop-bits.group o sizes.0 le;
       sizes = sizes.1;

@@ -54,12 +54,12 @@ returns c =
         wires = c.in_ok-wires.wires;
         are = subst (λ (pins : List SignalPin). AreWiresOf plan kit wire c.args.layout pins c.in_ok-wires.wires) (c.deref.ensures.value ∙ are) c.in_ok-wires.ensures.are;
         layers = c.in_ok-wires.ensures.layers;
-        library = c.in_ok-written_library.ensures.library;
+        library = c.in_ok-lib.ensures.library;
         view = shown ∙ ap (λ (pins : List SignalPin). macro_view layers c.args.name.now wire c.args.layout.ends pins) are;
         tracks = refl;
       };
-      named = c.in_ok-written_library.ensures.named;
-      writable = c.in_ok-written_library.ensures.writable;
+      named = c.in_ok-lib.ensures.named;
+      writable = c.in_ok-lib.ensures.writable;
       deck = c.in_ok-macro_deck.ensures;
       leaves = leaves_for c.args.kit.now plan (held_of c.args.contents) c.args.name.now c.requires.kit c.requires.contents.cells c.requires.free;
       good_view = subst IsView (sym shown) view;

@@ -19,18 +19,17 @@ right_end-requires-clause-banks c =
     subst (IsUpTo 134217728) (sym (kept _ near (omega arith))) near
 
 pub returns-clause-are : goal.returns-clause-are
-returns-clause-are c kit of =
+returns-clause-are c kit of wide =
     let few = few_banks (numbers_of c.args.plan.now) c.requires.plan in
     let left = bank_end_is _ _ _ c.banks_end-banks.ensures c.requires.near.bank_width few in
     let near = bank_end_near _ _ _ left c.requires.near.bank_width few in
     let from = c.requires.near.logic_x in
-    let wide = of.logic_width in
     let tall = of.precharge_height in
     let low = c.requires.near.precharge_y in
     let logic = c.logic_end-logic.ensures.is in
     let upper = c.upper_edge-height.ensures.is in
     let trunk = trunk_is (organization c.args.plan.now) kit c.args.wire.now (floorplan_of c.args.floorplan.now) _ _ _ _ _ c.right_end.ensures.is (kept _ near (omega arith) ∙ left) (banks_are (numbers_of c.args.plan.now) c.requires.plan)
-    (kept _ c.logic_end-logic.ensures.near (omega arith) ∙ (logic ∙ ap (λ (z : ℤ). z +ℤ pos c.args.sides.now.logic_width) (kept _ from (omega arith)))) wide in
+    (kept _ c.logic_end-logic.ensures.near (omega arith) ∙ (logic ∙ ap (λ (z : ℤ). z +ℤ pos c.args.logic_width) (kept _ from (omega arith)))) wide in
     let end = c.right_end.ensures.near in
     let same = kept _ end (omega arith) in
     record {

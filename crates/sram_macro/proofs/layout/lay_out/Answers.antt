@@ -74,7 +74,7 @@ returns-clause-layout c =
       sides_of = of;
       stands = subst (λ (n : ℕ). IsFloorplan plan kit here (record { main = n; column = c.args.column.now.tracks }) (floorplan_of c.floorplan-stands.result)) tracks (c.floorplan-stands.ensures.stated kit of);
       near = c.floorplan-stands.ensures.near;
-      ends = c.extents_of.ensures.are kit of;
+      ends = c.extents_of.ensures.are kit of (c.row_width.ensures.is plan c.requires.row);
       near_ends = c.extents_of.ensures.near;
       power = c.extents_of.ensures.power;
       ground = c.extents_of.ensures.ground;
@@ -84,3 +84,6 @@ returns-clause-layout c =
       bank = λ s there. c.in_ok-bank.ensures.near here c.wire_of-wire.ensures.is s there;
       main = subst (λ (r : Result Routed RouteFault). IfOk r (IsMainRouted plan kit here)) c.in_ok-main.was c.route_main-main.ensures.routed;
     }
+
+pub row_width-requires-clause-row : goal.row_width-requires-clause-row
+row_width-requires-clause-row c = (organization c.args.plan.now, c.requires.plan.plan, c.requires.row)

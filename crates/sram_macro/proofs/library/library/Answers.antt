@@ -46,7 +46,7 @@ finish-requires c =
     let d = drawing_with bits c.args.frame.now.floorplan c.args.wires in
     let cells =
     three_more parts _ _ _ _ _ _ _ (bank_cell plan kit fl n d.bank_wires) (logic_row_cell plan kit n) (macro_cell plan fl n d.wires d.labels) c.in_ok-draw_parts.ensures.cells c.in_ok-draw.ensures.ok c.in_ok-draw-2.ensures.ok c.in_ok-draw-3.ensures.ok
-    (c.in_ok-bank_cell.ensures plan kit c.requires.of) c.in_ok-logic_row_cell.ensures c.in_ok-macro_cell.ensures
+    (c.in_ok-bank_cell.ensures plan kit c.requires.of) (c.in_ok-logic_row_cell.ensures plan c.requires.row) c.in_ok-macro_cell.ensures
     ∙ all_cells c.args.kit.now plan n d in
     record { layers = subst (AllByRecursion (HasLayers c.args.kit.now.tech.layers)) (sym cells) (on_layers c.args.kit.now.tech.layers c.args.kit.now plan n bits c.args.frame.now.floorplan c.args.wires c.requires.layers) }
 
@@ -61,8 +61,11 @@ returns c =
     let d = drawing_with bits c.args.frame.now.floorplan c.args.wires in
     let cells =
     three_more parts _ _ _ _ _ _ _ (bank_cell plan kit fl n d.bank_wires) (logic_row_cell plan kit n) (macro_cell plan fl n d.wires d.labels) c.in_ok-draw_parts.ensures.cells c.in_ok-draw.ensures.ok c.in_ok-draw-2.ensures.ok c.in_ok-draw-3.ensures.ok
-    (c.in_ok-bank_cell.ensures plan kit c.requires.of) c.in_ok-logic_row_cell.ensures c.in_ok-macro_cell.ensures
+    (c.in_ok-bank_cell.ensures plan kit c.requires.of) (c.in_ok-logic_row_cell.ensures plan c.requires.row) c.in_ok-macro_cell.ensures
     ∙ all_cells c.args.kit.now plan n d in
     let first = now_adopted _ _ c.args.kit.now.lib.structs (ap (λ (l : CellList). l.adopted) c.in_ok-cells.ensures) c.in_ok-adopt.ensures.ok in
     let adopted = still_adopted _ _ _ _ (still_adopted _ _ _ _ (still_adopted _ _ _ _ (c.in_ok-draw_parts.ensures.adopted ∙ first) c.in_ok-draw.ensures.ok) c.in_ok-draw-2.ensures.ok) c.in_ok-draw-3.ensures.ok in
     subst (λ (l : CellList). IsLibraryOf c.args.kit.now.tech.layers l n c.in_ok-finish.field-0) (list_is _ c.args.kit.now.lib.structs (macro_list c.args.kit.now plan n d).cells adopted cells) c.in_ok-finish.ensures
+
+pub logic_row_cell-requires-clause-row : goal.logic_row_cell-requires-clause-row
+logic_row_cell-requires-clause-row c = (organization c.args.plan.now, c.requires.plan.plan, c.requires.row)
