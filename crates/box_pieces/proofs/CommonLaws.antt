@@ -6,7 +6,8 @@ use Rattle.std.proofs.lemmas.Float.{T_from_true}
 use Rattle.std.proofs.lemmas.Int.{ints, clamps, by_lt_z}
 use Rattle.or_geom.specs.declared.shape.Rect.{Rect}
 use Rattle.or_geom.specs.Covered.{HasCell}
-use Rattle.box_pieces.specs.Cells.{ShareNoCell, IsIntersection, IsPartOf, IsBetweenSides, IsCellAround}
+use Rattle.or_geom.specs.Containing.{HoldsRect}
+use Rattle.box_pieces.specs.Cells.{ShareNoCell, IsIntersection, IsBetweenSides, IsCellAround}
 
 -- the rectangle has the greater of the lower sides and the lesser of the higher
 pub is_common : (a b r : Rect) → r.x1 ≡ int_max a.x1 b.x1 → r.y1 ≡ int_max a.y1 b.y1 → r.x2 ≡ int_min a.x2 b.x2 → r.y2 ≡ int_min a.y2 b.y2 → IsIntersection a b r
@@ -29,7 +30,7 @@ none_across a b x1 x2 test is_x1 is_x2 x y f g = let none : x2 ≤ℤ x1 = le_z_
 pub none_upward : (a b : Rect) (y1 y2 : ℤ) → le_z y2 y1 ≡ true → y1 ≡ int_max a.y1 b.y1 → y2 ≡ int_min a.y2 b.y2 → ShareNoCell a b
 none_upward a b y1 y2 test is_y1 is_y2 x y f g = let none : y2 ≤ℤ y1 = le_z_yes (T_from_true (le_z y2 y1) test) in omega (arith, ints, clamps, f.low, f.high, g.low, g.high)
 
-pub is_part : (rect part : Rect) → ((x y : ℤ) → HasCell part x y → HasCell rect x y) → IsPartOf rect part
+pub is_part : (rect part : Rect) → ((x y : ℤ) → HasCell part x y → HasCell rect x y) → HoldsRect rect part
 is_part rect part all =
     let wide = part.wide in
     let tall = part.tall in
@@ -43,7 +44,7 @@ is_part rect part all =
 abbrev pub IsBeside : Rect → Rect → ℤ → ℤ → Type 0
 IsBeside rect part x y = ((IsBetweenSides rect.x1 rect.y1 rect.x2 part.y1 x y ⊎ IsBetweenSides rect.x1 part.y2 rect.x2 rect.y2 x y) ⊎ IsBetweenSides rect.x1 part.y1 part.x1 part.y2 x y) ⊎ IsBetweenSides part.x2 part.y1 rect.x2 part.y2 x y
 
-pub beside_around : (rect part : Rect) → IsPartOf rect part → (x y : ℤ) → IsBeside rect part x y → IsCellAround rect part x y
+pub beside_around : (rect part : Rect) → HoldsRect rect part → (x y : ℤ) → IsBeside rect part x y → IsCellAround rect part x y
 beside_around rect part p x y (inl (inl (inl b))) = let wide = part.wide in let tall = part.tall in record {
   within = record { left = b.left; right = b.right; low = b.low; high = omega (arith, ints, b.high, p.high) };
   out = λ h. omega (arith, ints, h.low, b.high);

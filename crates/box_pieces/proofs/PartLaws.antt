@@ -1,17 +1,18 @@
 -- Parts of boxes in an area, and rectangles round boxes, gathered box by box.
 use Rattle.std.proofs.Common.{◌≡◌, ◌⊎◌, inl, inr, ℕ, ◌+◌, ◌<◌, ◌≤◌, ℤ, List, [], ◌∷◌, ◌++◌, length, get_or, drop, sym, subst, arith}
-use Rattle.std.specs.Int.{int_max, int_min}
-use Rattle.std.proofs.lemmas.Int.{ints, clamps}
+use Rattle.std.proofs.lemmas.Int.{ints}
 use Rattle.std.proofs.lemmas.List.{at_drop_more, at_drop_all}
 use Rattle.or_geom.specs.declared.shape.Rect.{Rect}
 use Rattle.or_geom.specs.Covered.{HasCell, HasCellInSome}
 use Rattle.or_geom.proofs.CoverLaws.{cell_among}
-use Rattle.box_pieces.specs.Cells.{IsPartOf, IsIntersection, ShareNoCell, AreParts, HoldsAll, IsRound, IsBoundOf, HasSameCells}
+use Rattle.or_geom.proofs.ContainingLaws.{around_first, around_second, around_least}
+use Rattle.or_geom.specs.Containing.{HoldsRect, IsAround}
+use Rattle.box_pieces.specs.Cells.{IsIntersection, ShareNoCell, AreParts, HoldsAll, IsBoundOf, HasSameCells}
 use Rattle.box_pieces.proofs.CellLaws.{cells_first, cells_second, cells_cases, only_cell}
 use Rattle.box_pieces.proofs.CommonLaws.{is_part}
 
 -- a unit cell of a part is one of the rectangle
-in_part : (rect part : Rect) (x y : ℤ) → IsPartOf rect part → HasCell part x y → HasCell rect x y
+in_part : (rect part : Rect) (x y : ℤ) → HoldsRect rect part → HasCell part x y → HasCell rect x y
 in_part rect part x y p h = record { left = omega (arith, ints, p.left, h.left); right = omega (arith, ints, p.right, h.right); low = omega (arith, ints, p.low, h.low); high = omega (arith, ints, p.high, h.high) }
 
 -- gathering the parts of boxes that lie in an area: those so far, and the boxes that are left
@@ -62,7 +63,7 @@ parts_end area boxes parts k far p = let e : drop k boxes ≡ [] = at_drop_all (
 }
 
 -- a box that covers the area
-pub area_alone : (area : Rect) (boxes : List Rect) (k : ℕ) (r : Rect) → k < length boxes → r ≡ get_or boxes k r → IsPartOf r area → AreParts area boxes (area ∷ [])
+pub area_alone : (area : Rect) (boxes : List Rect) (k : ℕ) (r : Rect) → k < length boxes → r ≡ get_or boxes k r → HoldsRect r area → AreParts area boxes (area ∷ [])
 area_alone area boxes k r lt is part = record {
   only = λ x y h. let a = only_cell area x y h in (a, cell_among boxes r x y (k, lt, sym is) (in_part r area x y part a));
   each = λ x y a h. inl a;
@@ -72,14 +73,7 @@ area_alone area boxes k r lt is part = record {
 pub record HoldsSoFar (boxes others : List Rect) (done : ℕ) (area : Rect) : Type 0 where
   pub rest : (x y : ℤ) → HasCellInSome others x y → HasCellInSome boxes x y
   pub each : (x y : ℤ) → HasCellInSome boxes x y → HasCell area x y ⊎ HasCellInSome (drop done others) x y
-  pub least : (r : Rect) → HoldsAll boxes r → IsPartOf r area
-
-pub is_round : (a b r : Rect) → r.x1 ≡ int_min a.x1 b.x1 → r.y1 ≡ int_min a.y1 b.y1 → r.x2 ≡ int_max a.x2 b.x2 → r.y2 ≡ int_max a.y2 b.y2 → IsRound a b r
-is_round a b r left low right high = record {
-  first = record { left = omega (arith, ints, clamps); right = omega (arith, ints, clamps); low = omega (arith, ints, clamps); high = omega (arith, ints, clamps) };
-  second = record { left = omega (arith, ints, clamps); right = omega (arith, ints, clamps); low = omega (arith, ints, clamps); high = omega (arith, ints, clamps) };
-  least = λ o p q. record { left = omega (arith, ints, clamps, p.left, q.left); right = omega (arith, ints, clamps, p.right, q.right); low = omega (arith, ints, clamps, p.low, q.low); high = omega (arith, ints, clamps, p.high, q.high) };
-}
+  pub least : (r : Rect) → HoldsAll boxes r → HoldsRect r area
 
 pub bounds_begin : (boxes others : List Rect) (first : Rect) → boxes ≡ first ∷ others → HoldsSoFar boxes others 0 first
 bounds_begin boxes others first e = record {
@@ -88,14 +82,14 @@ bounds_begin boxes others first e = record {
   least = λ r all. is_part r first (λ x y h. all x y (subst (λ (l : List Rect). HasCellInSome l x y) (sym e) (inl h)));
 }
 
-pub bounds_more : (boxes others : List Rect) (k : ℕ) (r old new : Rect) → k < length others → r ≡ get_or others k r → IsRound old r new → HoldsSoFar boxes others k old → HoldsSoFar boxes others (k + 1) new
+pub bounds_more : (boxes others : List Rect) (k : ℕ) (r old new : Rect) → k < length others → r ≡ get_or others k r → IsAround old r new → HoldsSoFar boxes others k old → HoldsSoFar boxes others (k + 1) new
 bounds_more boxes others k r old new lt is round b = record {
   rest = b.rest;
   each = λ x y h. elim (b.each x y h) [
-    | inl f ↦ inl (in_part new old x y round.first f)
-    | inr left ↦ elim (next_cell others k r x y lt is left) [ inl here ↦ inl (in_part new r x y round.second here) | inr more ↦ inr more ]
+    | inl f ↦ inl (in_part new old x y (around_first old r new round) f)
+    | inr left ↦ elim (next_cell others k r x y lt is left) [ inl here ↦ inl (in_part new r x y (around_second old r new round) here) | inr more ↦ inr more ]
   ];
-  least = λ o all. round.least o (b.least o all) (is_part o r (λ x y h. all x y (b.rest x y (cell_among others r x y (k, lt, sym is) h))));
+  least = λ o all. around_least old r new o round (b.least o all) (is_part o r (λ x y h. all x y (b.rest x y (cell_among others r x y (k, lt, sym is) h))));
 }
 
 pub bounds_end : (boxes others : List Rect) (k : ℕ) (area : Rect) → length others ≤ k → HoldsSoFar boxes others k area → IsBoundOf boxes area

@@ -8,7 +8,8 @@ use Rattle.or_geom.specs.Covered.{HasCell, HasCellInSome}
 use Rattle.or_geom.proofs.CoverLaws.{cell_among}
 use Rattle.or_geom.proofs.ListLaws.{contains_first}
 use Rattle.box_pieces.specs.declared.pieces.Pieces.{Pieces}
-use Rattle.box_pieces.specs.Cells.{IsPartOf, IsIntersection, ShareNoCell, AreParts, AddsCells, IsInArea, IsCellInside, IsCellOutside, IsCellAround}
+use Rattle.or_geom.specs.Containing.{HoldsRect}
+use Rattle.box_pieces.specs.Cells.{IsIntersection, ShareNoCell, AreParts, AddsCells, IsInArea, IsCellInside, IsCellOutside, IsCellAround}
 use Rattle.box_pieces.specs.declared.edges.Axis.TheVariants.{Across, Upward}
 use Rattle.box_pieces.specs.declared.cut.Cut.{Cut}
 use Rattle.box_pieces.specs.Edges.{IsPlaceBetween, CutsArea, AreHalves, AreUncut, HasNoEdge}
@@ -90,7 +91,7 @@ reaches_high low high from to x none order within at = by_lt_z to high (λ lt. a
 pub uncut_holds : (area : Rect) (boxes parts by cutters : List Rect) → AreParts area boxes parts → AreParts area by cutters → AreUncut area cutters → (r : Rect) → Contains cutters r → (x y : ℤ) → HasCellInSome parts x y → HasCell r x y
 uncut_holds area boxes parts by cutters p q uncut r one x y h =
     let w = (p.only x y h).0 in
-    let part : IsPartOf area r = is_part area r (λ i j c. (q.only i j (cell_among cutters r i j one c)).0) in
+    let part : HoldsRect area r = is_part area r (λ i j c. (q.only i j (cell_among cutters r i j one c)).0) in
     let across : HasNoEdge Across area r = uncut.across r one in
     let upward : HasNoEdge Upward area r = uncut.upward r one in
     record {

@@ -1,6 +1,7 @@
 -- The unit cells of boxes, of what they have in common, and of their pieces.
 use Rattle.std.specs.Prelude.{◌⊎◌, ◌↔◌, ℤ, ◌≤ℤ◌, ◌<ℤ◌, List, Contains}
 use Rattle.or_geom.specs.declared.shape.Rect.{Rect}
+use Rattle.or_geom.specs.Containing.{HoldsRect}
 use Rattle.or_geom.specs.Covered.{HasCell, HasCellInSome}
 
 -- no unit cell lies in both
@@ -11,13 +12,6 @@ ShareNoCell a b = (x y : ℤ) → HasCell a x y → HasCell b x y → ⊥
 pub record IsIntersection (a b r : Rect) : Type 0 where
   pub only : (x y : ℤ) → HasCell r x y → HasCell a x y × HasCell b x y
   pub each : (x y : ℤ) → HasCell a x y → HasCell b x y → HasCell r x y
-
--- the sides of the part lie within those of the rectangle
-pub record IsPartOf (rect part : Rect) : Type 0 where
-  pub left : rect.x1 ≤ℤ part.x1
-  pub right : part.x2 ≤ℤ rect.x2
-  pub low : rect.y1 ≤ℤ part.y1
-  pub high : part.y2 ≤ℤ rect.y2
 
 -- the parts have the unit cells of the area that lie in one of the boxes
 pub record AreParts (area : Rect) (boxes parts : List Rect) : Type 0 where
@@ -32,16 +26,10 @@ HaveNone boxes = (x y : ℤ) → HasCellInSome boxes x y → ⊥
 abbrev pub HoldsAll : List Rect → Rect → Type 0
 HoldsAll boxes area = (x y : ℤ) → HasCellInSome boxes x y → HasCell area x y
 
--- the least rectangle that contains both
-pub record IsRound (a b round : Rect) : Type 0 where
-  pub first : IsPartOf round a
-  pub second : IsPartOf round b
-  pub least : (r : Rect) → IsPartOf r a → IsPartOf r b → IsPartOf r round
-
 -- the least rectangle that has all unit cells of the boxes
 pub record IsBoundOf (boxes : List Rect) (area : Rect) : Type 0 where
   pub holds : HoldsAll boxes area
-  pub least : (r : Rect) → HoldsAll boxes r → IsPartOf r area
+  pub least : (r : Rect) → HoldsAll boxes r → HoldsRect r area
 
 -- the rectangle has exactly the unit cells of the boxes
 abbrev pub HasSameCells : List Rect → Rect → Type 0

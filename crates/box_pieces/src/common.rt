@@ -1,7 +1,7 @@
-ghost use Rattle.std.specs.Prelude.{◌↔◌, MatchOption, IfOk, IsTrue};
-ghost use Rattle.box_pieces.specs.Cells.{IsIntersection, ShareNoCell, IsPartOf, IsRound, AreParts, HaveNone, IsBoundOf};
+ghost use Rattle.std.specs.Prelude.{MatchOption, IfOk};
+ghost use Rattle.box_pieces.specs.Cells.{IsIntersection, ShareNoCell, AreParts, HaveNone, IsBoundOf};
 
-use or_geom::{Memory, Rect};
+use or_geom::{Memory, Rect, around, holds};
 use std::alloc::Global;
 
 /// What the rectangles have in common, if they share area.
@@ -21,25 +21,6 @@ pub fn common(a: Rect, b: Rect) -> Option<Rect>
     Some(Rect { x1, y1, x2, y2 })
 }
 
-/// Whether the outer rectangle contains the inner one.
-fn holds(outer: Rect, inner: Rect) -> bool
-    ensures { IsTrue result ↔ IsPartOf outer inner }
-{
-    if inner.x1 < outer.x1 {
-        return false;
-    }
-    if outer.x2 < inner.x2 {
-        return false;
-    }
-    if inner.y1 < outer.y1 {
-        return false;
-    }
-    if outer.y2 < inner.y2 {
-        return false;
-    }
-    true
-}
-
 /// The boxes' parts in the area; the area alone where one of the boxes covers it.
 pub fn within(alloc: Global, area: Rect, boxes: &[Rect]) -> Result<Vec<Rect>, Memory>
     ensures { IfOk result (λ parts. AreParts area boxes.now parts.items) }
@@ -55,18 +36,6 @@ pub fn within(alloc: Global, area: Rect, boxes: &[Rect]) -> Result<Vec<Rect>, Me
         parts.push(part)?;
     }
     Ok(parts)
-}
-
-/// The least rectangle that contains both.
-fn around(a: Rect, b: Rect) -> Rect
-    ensures { IsRound a b result }
-{
-    Rect {
-        x1: a.x1.min(b.x1),
-        y1: a.y1.min(b.y1),
-        x2: a.x2.max(b.x2),
-        y2: a.y2.max(b.y2),
-    }
 }
 
 /// The least rectangle that contains all of the boxes.

@@ -7,7 +7,7 @@ const MANY: usize = 64;
 /// About so many boxes stand for all.
 const SOME: usize = 32;
 
-/// Of so many pairs, in both orders, one that crosses is enough. In a mesh it is one of four.
+/// Boxes cross often if more than one in this many ordered pairs of the sample crosses. In a mesh one in four does.
 const OF_PAIRS: usize = 6;
 
 /// Whether the first box is longer than the second on both sides, and the second taller than the first on both.

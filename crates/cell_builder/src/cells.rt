@@ -15,8 +15,8 @@ use std::alloc::Global;
 use std::marker::Model;
 use tech_rules::{Layer, Tech};
 
-/// Cells that are being built, beside the structures of libraries that they may refer to. Coordinates are nanometres.
-/// Where memory is wanting a call changes nothing.
+/// Builds a GDS library cell by cell: each cell gets instances, wires and labels, and may refer to the other cells and to
+/// the structures of adopted libraries. Coordinates are in nanometres. A call that runs out of memory changes nothing.
 #[derive(Drop)]
 pub struct Cells {
     alloc: Global,

@@ -1,4 +1,4 @@
-mod StepLaws
+pub mod StepLaws
 pub mod MovedLaws
 pub mod BelowLaws
 pub mod ChainLaws
@@ -12,6 +12,7 @@ mod GrowsLaws
 pub mod ComposeLaws
 mod SortedLaws
 mod WalkLaws
+mod WalkedElementLaws
 mod TopLaws
 pub mod AlongLaws
 pub mod AsciiLaws

@@ -7,9 +7,9 @@ use Rattle.or_geom.proofs.PlaceLaws.{same_rect}
 use Rattle.rectilinear.specs.Ring.{side}
 use Rattle.rectilinear.specs.Simple.{AllStraight, IsStraight}
 use Rattle.gds_library.specs.Values.{segments, segments_from}
-use Rattle.element_drawing.specs.Paths.{IsBox, IsRightward, IsUpward, IsSegmentBox, AreBoxesFrom, IsEnd, AreBoxes}
+use Rattle.element_drawing.specs.Paths.{IsRectOf, IsRightward, IsUpward, IsSegmentBox, AreBoxesFrom, IsEnd, AreBoxes}
 
-one_box : (left bottom right top : ℤ) (r s : Rect) → IsBox left bottom right top r → IsBox left bottom right top s → r ≡ s
+one_box : (left bottom right top : ℤ) (r s : Rect) → IsRectOf left bottom right top r → IsRectOf left bottom right top s → r ≡ s
 one_box left bottom right top r s a b = same_rect r s (a.x1 ∙ sym b.x1) (a.y1 ∙ sym b.y1) (a.x2 ∙ sym b.x2) (a.y2 ∙ sym b.y2)
 
 one_of_two : (a b : ℤ) → a ≢ b → (a <ℤ b) ⊎ (b <ℤ a)

@@ -2,12 +2,11 @@
 use Rattle.std.specs.Prelude.{◌≡◌, ◌⊎◌, ℕ, Bool, true, List, [], ◌∷◌, Contains, map}
 use Rattle.or_geom.specs.declared.shape.Point.{Point}
 use Rattle.or_geom.specs.declared.shape.Shape.{Shape}
-use Rattle.or_geom.specs.Place.{placed, IsWithin}
+use Rattle.or_geom.specs.Place.{placed}
 use Rattle.gds_library.specs.declared.library.Element.{Element}
 use Rattle.gds_library.specs.declared.library.Structure.{Structure}
 use Rattle.tech_rules.specs.declared.tech.Layer.{Layer}
 use Rattle.element_drawing.specs.PlainLabel.{PlainLabel}
-use Rattle.element_drawing.specs.OwnShapes.{IsShapeWithin}
 use Rattle.element_drawing.specs.OwnLabels.{own_labels}
 use Rattle.cell_chains.specs.Instances.{Item}
 use Rattle.cell_chains.specs.Chains.{elements_of, IsItemOf}
@@ -65,9 +64,3 @@ pub record DrawingGrows (old new : Drawing) (P : Thing → Type 0) : Type 0 wher
   pub only : (x : Thing) → HasThing new x → HasThing old x ⊎ P x
   pub stays : (x : Thing) → HasThing old x → HasThing new x
   pub each : (x : Thing) → P x → HasThing new x
-
--- all coordinates are within n
-abbrev pub IsThingWithin : ℕ → Thing → Type 0
-IsThingWithin n (AShape s) = IsShapeWithin n s
-IsThingWithin n (ALabel l) = IsWithin n l.at
-IsThingWithin n (APoint p) = IsWithin n p

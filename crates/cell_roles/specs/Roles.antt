@@ -1,5 +1,5 @@
 -- The roles of leaf cells: their names and ports, and the pins and bits that a cell's act is about.
-use Rattle.std.specs.Prelude.{ℕ, suc, List, [], ◌∷◌, map, nat_eq, if◌then◌else◌, codes}
+use Rattle.std.specs.Prelude.{ℕ, suc, List, [], ◌∷◌, nat_eq, if◌then◌else◌, codes}
 use Rattle.std.specs.Cmp.Lexicographic.{pointwise}
 use Rattle.cell_roles.specs.declared.role.Role.{Role}
 use Rattle.cell_roles.specs.declared.role.Role.TheVariants.{Bitcell, Precharge, Mux, Tie, Sense, Write, RowNand2, RowNand3, Driver, Nand2, Nand3, Inv, Dff, Delay}
@@ -88,13 +88,3 @@ joined_pins role = []
 abbrev pub number_in : List (List ℕ) → List ℕ → ℕ
 number_in [] name = 0
 number_in (p ∷ ps) name = if pointwise nat_eq p name then 0 else suc (number_in ps name)
-
--- the same pins by the numbers of their ports
-abbrev pub input_ports : Role → List ℕ
-input_ports role = map (number_in (role_ports role)) (input_pins role)
-
-abbrev pub driven_ports : Role → List ℕ
-driven_ports role = map (number_in (role_ports role)) (driven_pins role)
-
-abbrev pub joined_ports : Role → List (ℕ × ℕ)
-joined_ports role = map (λ pair. (number_in (role_ports role) pair.0, number_in (role_ports role) pair.1)) (joined_pins role)

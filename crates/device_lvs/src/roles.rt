@@ -33,7 +33,7 @@ fn have_one_cell(role: &RoleName, other: &RoleName) -> bool
 /// Whether an earlier role has the cell of the role at the place.
 fn has_earlier_cell(roles: &[RoleName], place: usize) -> bool
     requires { place < length roles.now }
-    ensures { IsTrue result → HasEarlierCell roles.now place }
+    ensures { IsTrue result ↔ HasEarlierCell roles.now place }
 {
     for earlier in 0..place {
         if have_one_cell(&roles[earlier], &roles[place]) {

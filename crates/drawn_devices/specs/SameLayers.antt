@@ -17,6 +17,10 @@ pub record IsAlikeBefore (devices : List Device) (index earlier : ℕ) : Type 0 
   pub here : slice_get devices index ≡ Some device
   pub same : HaveSameLayers other device
 
+-- no earlier device has its layers
+abbrev pub HasNoneAlike : List Device → ℕ → Type 0
+HasNoneAlike devices index = (earlier : ℕ) → IsAlikeBefore devices index earlier → ⊥
+
 -- the channel as one of the device with this index
 abbrev pub with_device : ℕ → Channel → Channel
 with_device index channel = record { device = index; least = channel.least; terminals = channel.terminals }

@@ -53,7 +53,7 @@ fn channel_of(
     })
 }
 
-/// Adds the channels of one device, found by its layers.
+/// Adds the channels of one device, found from the shapes on its layers.
 fn add_own_channels(
     alloc: Global,
     cell: &CutCell,
@@ -74,7 +74,7 @@ fn add_own_channels(
     Ok(())
 }
 
-/// Adds the channels of one device.
+/// Adds the channels of one device, copied from an earlier device with the same layers, or else found.
 fn add_channels(
     alloc: Global,
     cell: &CutCell,

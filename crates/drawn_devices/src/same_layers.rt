@@ -1,7 +1,7 @@
-ghost use Rattle.std.specs.Prelude.{◌↔◌, ◌+◌, ◌<◌, length, IfSome, IsTrue, OnOk};
+ghost use Rattle.std.specs.Prelude.{◌↔◌, ◌+◌, ◌<◌, length, IsTrue, MatchOption, OnOk};
 ghost use Rattle.drawn_devices.specs.CutCell.{IsCutCell};
 ghost use Rattle.drawn_devices.specs.DrawnChannels.{AreFirstChannels};
-ghost use Rattle.drawn_devices.specs.SameLayers.{HaveSameLayers, IsAlikeBefore, IsSameAdded};
+ghost use Rattle.drawn_devices.specs.SameLayers.{HasNoneAlike, HaveSameLayers, IsAlikeBefore, IsSameAdded};
 
 use crate::cut_cell::CutCell;
 use crate::drawn::Channel;
@@ -24,7 +24,7 @@ fn have_same_layers(device: &Device, other: &Device) -> bool
 /// The index of an earlier device that has the layers of the one at the index, if there is such.
 pub fn earlier_alike(devices: &[Device], index: u16) -> Option<u16>
     requires { index < length devices.now }
-    ensures { IfSome result (IsAlikeBefore devices.now index) }
+    ensures { MatchOption result (HasNoneAlike devices.now index) (IsAlikeBefore devices.now index) }
 {
     for earlier in 0..index {
         if have_same_layers(&devices[usize::from(earlier)], &devices[usize::from(index)]) {

@@ -19,7 +19,7 @@ use Rattle.rectilinear.specs.Slabs.{IsSlabList}
 use Rattle.rectilinear.proofs.NearLaws.{slabs_stay_near}
 use Rattle.tech_rules.specs.declared.tech.Layer.{Layer}
 use Rattle.element_drawing.specs.PlainLabel.{PlainLabel}
-use Rattle.element_drawing.specs.Paths.{IsBox, IsSegmentBox, AreBoxesFrom, IsEnd, AreBoxes}
+use Rattle.element_drawing.specs.Paths.{IsRectOf, IsSegmentBox, AreBoxesFrom, IsEnd, AreBoxes}
 use Rattle.element_drawing.specs.Drawing.{IsDrawing}
 use Rattle.element_drawing.specs.OwnLabels.{own_labels, with_label, text_place_of, IsLabelWithin}
 use Rattle.element_drawing.specs.OwnShapes.{AreOn, AreOwnShapes, layer_of, on_layer, IsRectWithin, IsShapeWithin}
@@ -69,7 +69,7 @@ higher_below : (y z n : ℤ) → y ≡ z +ℤ n → FitsSigned w32 z → IsLengt
 higher_below y z n is fits length = omega (arith, ints, is, fits, length.above, length.below)
 
 box_near : (left bottom right top a b c d : ℤ) (r : Rect) → FitsSigned w32 left → FitsSigned w32 bottom → FitsSigned w32 right → FitsSigned w32 top → IsLength a → IsLength b → IsLength c → IsLength d
-    → IsBox (left -ℤ a) (bottom -ℤ b) (right +ℤ c) (top +ℤ d) r → IsRectWithin (2 ^ 32) r
+    → IsRectOf (left -ℤ a) (bottom -ℤ b) (right +ℤ c) (top +ℤ d) r → IsRectWithin (2 ^ 32) r
 box_near left bottom right top a b c d r fl fb fr ft la lb lc ld box = record {
   low = record { x_above = lower_above r.x1 left a box.x1 fl la; x_below = lower_below r.x1 left a box.x1 fl la; y_above = lower_above r.y1 bottom b box.y1 fb lb; y_below = lower_below r.y1 bottom b box.y1 fb lb };
   high = record { x_above = higher_above r.x2 right c box.x2 fr lc; x_below = higher_below r.x2 right c box.x2 fr lc; y_above = higher_above r.y2 top d box.y2 ft ld; y_below = higher_below r.y2 top d box.y2 ft ld };

@@ -3,7 +3,7 @@ use Rattle.std.specs.Prelude.{◌≡◌, ◌⊎◌, pos, ℤ, ◌+ℤ◌, ◌-�
 use Rattle.or_geom.specs.declared.shape.Point.{Point}
 use Rattle.or_geom.specs.declared.shape.Rect.{Rect}
 
-pub record IsBox (left bottom right top : ℤ) (r : Rect) : Type 0 where
+pub record IsRectOf (left bottom right top : ℤ) (r : Rect) : Type 0 where
   pub x1 : r.x1 ≡ left
   pub y1 : r.y1 ≡ bottom
   pub x2 : r.x2 ≡ right
@@ -21,10 +21,10 @@ pub record IsUpward (p q : Point) : Type 0 where
 
 -- the box of the segment from p to q: half the width to each side, longer by `before` at p and by `after` at q
 pub record IsSegmentBox (half before after : ℤ) (p q : Point) (r : Rect) : Type 0 where
-  pub right : IsRightward p q → IsBox (p.x -ℤ before) (p.y -ℤ half) (q.x +ℤ after) (p.y +ℤ half) r
-  pub left : IsRightward q p → IsBox (q.x -ℤ after) (p.y -ℤ half) (p.x +ℤ before) (p.y +ℤ half) r
-  pub up : IsUpward p q → IsBox (p.x -ℤ half) (p.y -ℤ before) (p.x +ℤ half) (q.y +ℤ after) r
-  pub down : IsUpward q p → IsBox (p.x -ℤ half) (q.y -ℤ after) (p.x +ℤ half) (p.y +ℤ before) r
+  pub right : IsRightward p q → IsRectOf (p.x -ℤ before) (p.y -ℤ half) (q.x +ℤ after) (p.y +ℤ half) r
+  pub left : IsRightward q p → IsRectOf (q.x -ℤ after) (p.y -ℤ half) (p.x +ℤ before) (p.y +ℤ half) r
+  pub up : IsUpward p q → IsRectOf (p.x -ℤ half) (p.y -ℤ before) (p.x +ℤ half) (q.y +ℤ after) r
+  pub down : IsUpward q p → IsRectOf (p.x -ℤ half) (q.y -ℤ after) (p.x +ℤ half) (p.y +ℤ before) r
 
 -- The boxes of the segments from a point on: longer by half the width where another segment precedes or follows, by `last`
 -- at the path's end, and by `before` at the point.

@@ -139,7 +139,8 @@ fn touches_elsewhere(
     Ok(touches_one_of(layout, shape, instance, places.as_slice()))
 }
 
-/// Whether one of the loose shapes, where their cell stands, touches a shape elsewhere.
+/// Whether a loose shape of a leaf cell, moved to where an instance of the cell stands, touches a shape outside of that
+/// instance. `places` is a list to use again.
 fn has_contact_of(
     layout: &MarkedLayout,
     loose: &[Shape],

@@ -2,10 +2,9 @@ ghost use Rattle.std.specs.Prelude.{◌↔◌, IsTrue, MatchOption};
 ghost use Rattle.leaf_shapes.specs.Outline.{AreAll, IsAlone, IsEmptyLayer, IsOn, IsCellOutline, IsWireLayer, LieInside};
 ghost use Rattle.leaf_shapes.specs.declared.fit.CellSize.{CellSize};
 ghost use Rattle.or_geom.specs.declared.shape.Shape.{Shape};
-ghost use Rattle.shape_bins.specs.Meets.{HoldsRect};
 
 use crate::fit::CellSize;
-use or_geom::{Rect, Shape};
+use or_geom::{Rect, Shape, holds};
 use tech_rules::Wire;
 
 /// The longest side of a cell, in nanometres.
@@ -56,25 +55,6 @@ fn is_wire_layer(wire: &Wire, layer: u16) -> bool
     ensures { IsTrue result ↔ IsWireLayer wire.now layer }
 {
     wire.metals.contains(&layer) || wire.cuts.contains(&layer)
-}
-
-/// Whether the outer rectangle contains the inner.
-fn holds(outer: Rect, inner: Rect) -> bool
-    ensures { IsTrue result ↔ HoldsRect outer inner }
-{
-    if inner.x1 < outer.x1 {
-        return false;
-    }
-    if outer.x2 < inner.x2 {
-        return false;
-    }
-    if inner.y1 < outer.y1 {
-        return false;
-    }
-    if outer.y2 < inner.y2 {
-        return false;
-    }
-    true
 }
 
 /// Whether all shapes on metals and cuts lie inside.

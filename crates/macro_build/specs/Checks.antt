@@ -1,11 +1,7 @@
 -- What the two checks of a macro find first.
-use Rattle.std.specs.Prelude.{List, [], ◌∷◌, ℕ, Option, MatchOption}
-use Rattle.or_geom.specs.declared.shape.Shape.{Shape}
-use Rattle.tech_rules.specs.declared.tech.Rule.{Rule}
+use Rattle.std.specs.Prelude.{List, ℕ, Option, MatchOption}
 use Rattle.netlist.specs.declared.rows.RowPin.{RowPin}
 use Rattle.cell_hierarchy.specs.Plain.{FlatLists}
-use Rattle.tile_checker.specs.declared.violation.Violation.{Violation}
-use Rattle.tile_checker.specs.RuleReport.{IsReport}
 use Rattle.net_extractor.specs.declared.label.NetLabel.{NetLabel}
 use Rattle.net_extractor.specs.declared.difference.NetDiff.{NetDiff}
 use Rattle.net_extractor.specs.Difference.{AreAlike}
@@ -14,11 +10,6 @@ use Rattle.leaf_tables.specs.declared.kit.Kit.{Kit}
 use Rattle.port_lists.specs.Held.{Held}
 use Rattle.sram_macro.specs.declared.assembly.Macro.{Macro}
 use Rattle.macro_build.specs.Built.{AreNetsAndRows}
-
--- the first entry of the shapes' report; none where the report is empty
-abbrev pub IsFirstBroken : List Rule → List Shape → Option Violation → Type 0
-IsFirstBroken rules shapes found =
-    MatchOption found (IsReport rules shapes []) (λ violation. (more : List Violation) × IsReport rules shapes (violation ∷ more))
 
 -- the labels' nets and the rows of the netlist are alike
 pub record AreAllAlike (kit : Kit) (held : Held) (name : List ℕ) (m : Macro) (lists : FlatLists) : Type 0 where

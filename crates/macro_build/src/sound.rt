@@ -10,7 +10,7 @@ ghost use Rattle.sram_netlist.specs.Numbers.{ArePlanNumbers};
 ghost use Rattle.sram_plan.specs.PlanNumbers.{numbers_of};
 ghost use Rattle.sram_macro.specs.Macro.{IsMacro};
 ghost use Rattle.macro_build.specs.Built.{IsBuildFault, IsSoundMacro};
-ghost use Rattle.macro_build.specs.Checks.{IsFirstBroken, IsFirstDiffering};
+ghost use Rattle.macro_build.specs.Checks.{IsFirstDiffering};
 
 use crate::built::BuildFault;
 use crate::rows::rows_of;
@@ -25,7 +25,7 @@ use sram_macro::Macro;
 use sram_plan::Plan;
 use std::alloc::Global;
 use std::thread::Threads;
-use tile_checker::{Gate, Violation, first_violation};
+use tile_checker::{Gate, first_violation};
 
 /// The flat shapes and labels of the macro, in the arena.
 fn flat_of<'b>(
@@ -47,27 +47,6 @@ fn flat_of<'b>(
     ensures fault { IfErr result (IsBuildFault kit.now _plan.now (held_of _contents.entry) name.now) }
 {
     Ok(flatten(alloc, bump, &made.lib, &kit.tech, name)?)
-}
-
-/// The first violation of the rules over a flat layout, by as many workers.
-fn broken_rule<'b, R: Threads + Sync, G: Gate + Sync>(
-    rt: &R,
-    alloc: Global,
-    gate: &G,
-    kit: &Kit,
-    flat: &Flat<'b>,
-    bins: &Bins<'b>,
-    workers: u8,
-) -> Result<Option<Violation>, Memory>
-    requires kit { IsKit kit.now }
-    requires rises { IsStrictlySortedBy shape_order flat.now.shapes.now }
-    requires reach { AreReachable flat.now.shapes.now }
-    requires bins { bins.now ≡ flat.now.shapes.now }
-    requires some { 0 < workers }
-    requires at_most { workers ≤ 64 }
-    ensures { IfOk result (IsFirstBroken kit.now.tech.rules flat.now.shapes.now) }
-{
-    first_violation(rt, alloc, gate, &kit.tech, flat, bins, workers)
 }
 
 /// The first difference of the nets of a flat layout from the macro's netlist.
@@ -117,7 +96,7 @@ pub fn check_sound<R: Threads + Sync, G: Gate + Sync>(
     let bump = Bump::new(alloc);
     let flat = flat_of(alloc, &bump, kit, plan, name, contents, made)?;
     let bins = index(alloc, &bump, &flat)?;
-    if let Some(violation) = broken_rule(rt, alloc, gate, kit, &flat, &bins, workers)? {
+    if let Some(violation) = first_violation(rt, alloc, gate, &kit.tech, &flat, &bins, workers)? {
         return Err(BuildFault::RuleBroken(violation));
     }
     if let Some(difference) = net_difference(

@@ -12,7 +12,7 @@ use Rattle.net_extractor.specs.declared.label.NetLabel.{NetLabel}
 use Rattle.net_extractor.specs.Difference.{in_lower_case, IsLabelOf, IsLabelled}
 use Rattle.net_extractor.specs.PinNets.{IsElsewhere}
 use Rattle.net_extractor.specs.KeyPlaces.{same_bytes, first_place, path_name_key, label_key_with, label_key, pin_key, IsMixedAt, AreMixed, KeepsMarks, IsOnNetAt, IsFirstFor}
-use Rattle.net_extractor.proofs.KeyLaws.{same_self}
+use Rattle.or_geom.proofs.NamePlaceLaws.{same_self}
 use Rattle.net_extractor.proofs.PlaceLaws.{at_contained}
 
 -- a bound label of a pin has its key

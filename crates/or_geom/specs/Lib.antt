@@ -4,6 +4,7 @@ pub mod Gap
 pub mod Covered
 pub mod Span
 pub mod Contact
+pub mod Containing
 pub mod Texts
 pub mod Row
 pub mod Place

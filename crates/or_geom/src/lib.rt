@@ -2,6 +2,7 @@
 #![tactic(auto)]
 
 mod contact;
+mod containing;
 mod cover;
 mod distance;
 mod distinct;
@@ -15,6 +16,7 @@ mod shape;
 mod span;
 
 pub use contact::joined;
+pub use containing::{around, holds};
 pub use cover::covered;
 pub use distance::dist2;
 pub use distinct::sort_distinct;

@@ -5,7 +5,7 @@ use Rattle.or_geom.specs.declared.shape.Point.{Point}
 use Rattle.rectilinear.specs.declared.ring.Side.{Side}
 use Rattle.rectilinear.specs.declared.simple.Extent.{Extent}
 use Rattle.rectilinear.specs.Simple.{IsOn, MeetAsNeighbours, AllMeet, MeetAcross, PairsMeet}
-use Rattle.rectilinear.specs.Extents.{IsWithinExtent, IsExtentOf, IsCommon, IsAround, IsEmpty, HoldsSides}
+use Rattle.rectilinear.specs.Extents.{IsWithinExtent, IsExtentOf, IsCommon, IsExtentAround, IsEmpty, HoldsSides}
 
 -- the box holds the sides so far, and holds them all where it holds the rest too
 pub hull_grows : (ss : List Side) (e f : Extent) → ((p : Point) → IsWithinExtent e p → IsWithinExtent f p) → HoldsSides e ss → HoldsSides f ss
@@ -86,7 +86,7 @@ apart_lists all ss others ts e f both is are es ft c empty = subst (λ (xs : Lis
 pub none_behind : (ss ts : List Side) → ts ≡ [] → MeetAcross ss ts
 none_behind ss ts e = subst (λ (xs : List Side). MeetAcross ss xs) (sym e) (across_none ss)
 
-pub hull_more : (first : Side) (others : List Side) (d : Side) (k : ℕ) (e f g : Extent) → k < length others → IsExtentOf (get_or others k d) f → IsAround e f g → HoldsSides e (first ∷ take k others) → HoldsSides g (first ∷ take (k + 1) others)
+pub hull_more : (first : Side) (others : List Side) (d : Side) (k : ℕ) (e f g : Extent) → k < length others → IsExtentOf (get_or others k d) f → IsExtentAround e f g → HoldsSides e (first ∷ take k others) → HoldsSides g (first ∷ take (k + 1) others)
 hull_more first others d k e f g lt es a holds =
     let more : HoldsSides g ((first ∷ take k others) ++ get_or others k d ∷ []) =
     holds_append (first ∷ take k others) (get_or others k d) g (hull_grows (first ∷ take k others) e g a.first holds) (λ p on. a.second p (es.each p on)) in

@@ -9,5 +9,6 @@ pub mod BandLaws
 pub mod FillLaws
 pub mod NearLaws
 pub mod ChangeLaws
+pub mod RowEndLaws
 pub mod SweepLaws
 pub mod HullLaws

@@ -7,7 +7,7 @@ use Rattle.or_geom.proofs.PlaceLaws.{same_point}
 use Rattle.rectilinear.specs.declared.ring.Side.{Side}
 use Rattle.rectilinear.specs.declared.simple.Extent.{Extent}
 use Rattle.rectilinear.specs.Simple.{IsBetween, MeetAtMostThere}
-use Rattle.rectilinear.specs.Extents.{IsExtentOf, IsCommon, IsAround, IsAtMostPoint}
+use Rattle.rectilinear.specs.Extents.{IsExtentOf, IsCommon, IsExtentAround, IsAtMostPoint}
 
 pub both_at_most : (s t : Side) (e f both : Extent) → IsExtentOf s e → IsExtentOf t f → IsCommon e f both → IsAtMostPoint both s.b → IsAtMostPoint both t.a → MeetAtMostThere s t
 both_at_most s t e f both es ft c a b p on_s on_t = let in_both = c.each p (es.each p on_s) (ft.each p on_t) in (a p in_both, b p in_both)
@@ -61,7 +61,7 @@ common_law e f both lx ly hx hy = record {
 pub neighbours_last : (s t : Side) (a b : Bool) → (IsTrue a ↔ MeetAtMostThere s t) → (IsTrue b ↔ MeetAtMostThere t s) → a ≡ false → IsTrue b ↔ (MeetAtMostThere s t ⊎ MeetAtMostThere t s)
 neighbours_last s t a b ha hb f = (λ yes. inr (hb.0 yes), λ m. elim m [ inl x ↦ (let yes = ha.1 x in absurd cc) | inr x ↦ hb.1 x ])
 
-pub around_law : (e f both : Extent) → both.low.x ≡ int_min e.low.x f.low.x → both.low.y ≡ int_min e.low.y f.low.y → both.high.x ≡ int_max e.high.x f.high.x → both.high.y ≡ int_max e.high.y f.high.y → IsAround e f both
+pub around_law : (e f both : Extent) → both.low.x ≡ int_min e.low.x f.low.x → both.low.y ≡ int_min e.low.y f.low.y → both.high.x ≡ int_max e.high.x f.high.x → both.high.y ≡ int_max e.high.y f.high.y → IsExtentAround e f both
 around_law e f both lx ly hx hy = record {
   first = λ p w. record { left = omega (arith, ints, clamps, w.left, lx); right = omega (arith, ints, clamps, w.right, hx); low = omega (arith, ints, clamps, w.low, ly); high = omega (arith, ints, clamps, w.high, hy) };
   second = λ p w. record { left = omega (arith, ints, clamps, w.left, lx); right = omega (arith, ints, clamps, w.right, hx); low = omega (arith, ints, clamps, w.low, ly); high = omega (arith, ints, clamps, w.high, hy) };

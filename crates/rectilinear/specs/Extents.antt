@@ -28,7 +28,7 @@ abbrev pub IsEmpty : Extent → Type 0
 IsEmpty e = (p : Point) → IsWithinExtent e p → ⊥
 
 -- what lies within one of two lies within the box
-pub record IsAround (e f both : Extent) : Type 0 where
+pub record IsExtentAround (e f both : Extent) : Type 0 where
   pub first : (p : Point) → IsWithinExtent e p → IsWithinExtent both p
   pub second : (p : Point) → IsWithinExtent f p → IsWithinExtent both p
 

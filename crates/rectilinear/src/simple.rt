@@ -1,6 +1,6 @@
 ghost use Rattle.std.specs.Prelude.{◌≡◌, ◌∷◌, ◌↔◌, ◌≤ℤ◌, IsTrue, IfOk};
 ghost use Rattle.rectilinear.specs.Simple.{IsOn, IsStraight, MeetAtMostThere, MeetAsNeighbours, MeetAcross, AllStraight, PairsMeet, IsSimple};
-ghost use Rattle.rectilinear.specs.Extents.{IsExtentOf, IsCommon, IsAround, IsEmpty, HoldsSides, IsAtMostPoint};
+ghost use Rattle.rectilinear.specs.Extents.{IsExtentOf, IsCommon, IsExtentAround, IsEmpty, HoldsSides, IsAtMostPoint};
 
 use crate::ring::{Side, sides};
 use or_geom::{Memory, Point};
@@ -112,7 +112,7 @@ fn all_straight(sides: &[Side]) -> bool
 
 /// The box round both.
 fn around(e: Extent, f: Extent) -> Extent
-    ensures { IsAround e f result }
+    ensures { IsExtentAround e f result }
 {
     Extent {
         low: Point {

@@ -30,7 +30,8 @@ fn bytes_per_word(word_size: u32) -> usize
     (word_size as usize + 7) / 8
 }
 
-/// The words of so many bytes as there have to be, or the first that is too wide.
+/// Splits a data file of the right length into words, or tells the address of the first word that has a bit at or above the
+/// word size.
 fn split_words(alloc: Global, plan: &Plan, bytes: &[u8]) -> Result<Vec<u64>, RomFault>
     requires bits { plan.now.word_size ≤ 64 }
     requires whole { length bytes.now ≡ data_length plan.now }

@@ -15,7 +15,7 @@ use Rattle.or_geom.proofs.CoverLaws.{cell_among}
 use Rattle.or_geom.proofs.ListLaws.{contains_none, contains_cases, contains_first, contains_later, contained_at}
 use Rattle.or_geom.specs.Gathering.{SomeHas}
 use Rattle.shape_bins.specs.declared.node.Node.{Node}
-use Rattle.shape_bins.specs.Meets.{HoldsRect}
+use Rattle.or_geom.specs.Containing.{HoldsRect}
 use Rattle.shape_bins.specs.Nodes.{IsUnder, IsLeafUnder, IsBoxNode}
 use Rattle.shape_bins.specs.Trees.{IsLeafOf, IsLeafAt}
 use Rattle.shape_bins.specs.Forest.{IsForest}

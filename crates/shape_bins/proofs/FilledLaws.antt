@@ -1,5 +1,5 @@
 -- Boxes that are joined stay filled.
-use Rattle.std.proofs.Common.{◌≡◌, inl, inr, ℕ, ℤ, ◌+◌, ◌≤◌, List, [], ◌∷◌, ◌++◌, length, length-append, append-nil, Option, None, Some, refl, sym, ap, subst, ◌∙◌, arith}
+use Rattle.std.proofs.Common.{◌≡◌, inl, inr, ℕ, ℤ, List, [], ◌∷◌, ◌++◌, length, length-append, append-nil, Option, None, Some, refl, sym, ap, subst, ◌∙◌, arith}
 use Rattle.std.specs.Prelude.{All, Contains, IfSome, MatchOption}
 use Rattle.std.specs.List.Sorted.{IsPermutation}
 use Rattle.std.proofs.lemmas.List.Elements.{All-contains, All-push, All-pop}
@@ -12,7 +12,7 @@ use Rattle.or_geom.specs.Covered.{HasCellInSome, IsCovered}
 use Rattle.or_geom.specs.Row.{IsFound}
 use Rattle.or_geom.proofs.CoverLaws.{cell_among}
 use Rattle.shape_bins.specs.declared.filled.Filled.{Filled}
-use Rattle.shape_bins.specs.Meets.{IsAround}
+use Rattle.or_geom.specs.Containing.{IsAround}
 use Rattle.shape_bins.specs.Layers.{rects_on}
 use Rattle.shape_bins.specs.Filled.{AreStacked, AreBeside, IsFilledBox, AreFilledBoxes, IsFilledBy, IsJoint, AddsFilled, AreJoinedOf, AreJoinedFrom}
 use Rattle.shape_bins.proofs.CoverLaws.{on_rects, shape_over}

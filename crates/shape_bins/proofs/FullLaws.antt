@@ -1,17 +1,17 @@
 -- Nodes below which all shapes have numbers.
-use Rattle.std.proofs.Common.{◌≡◌, ◌⊎◌, inl, inr, ℕ, zero, suc, ◌+◌, ◌-◌, ◌<◌, ◌≤◌, Bool, true, false, List, [], ◌∷◌, length, get_or, set, replicate, take, Option, Some, None, refl, sym, ap, subst, ◌∙◌, arith, get_or-set_same, get_or-set_other}
+use Rattle.std.proofs.Common.{◌≡◌, inl, inr, ℕ, zero, suc, ◌+◌, ◌-◌, ◌<◌, ◌≤◌, Bool, true, false, List, [], ◌∷◌, length, get_or, set, replicate, take, Option, Some, None, refl, sym, ap, subst, ◌∙◌, arith, get_or-set_same, get_or-set_other}
 use Rattle.std.specs.Prelude.{slice_get}
 use Rattle.std.specs.List.{AllByRecursion}
 use Rattle.std.proofs.lemmas.List.{length-set, length-replicate}
 use Rattle.std.proofs.lemmas.Bool.{cases_eq, cases_lt}
 use Rattle.std.proofs.lemmas.Option.{same_Some, slice_get_within, slice_get_read, slice_get-get_or}
 use Rattle.or_geom.specs.declared.shape.Shape.{Shape}
-use Rattle.or_geom.specs.Gathering.{SomeGives, SomeHas}
+use Rattle.or_geom.specs.Gathering.{SomeGives}
 use Rattle.or_geom.proofs.GatheringLaws.{giver, gives_some}
 use Rattle.or_geom.proofs.ListLaws.{contained_at}
 use Rattle.shape_bins.specs.declared.node.Node.{Node}
 use Rattle.shape_bins.specs.declared.query.Query.{Query}
-use Rattle.shape_bins.specs.Nodes.{IsUnder, IsLeafUnder, IsBoxNode, AreBoxNodes, IsNodeNear, IsLeafNear}
+use Rattle.shape_bins.specs.Nodes.{IsUnder, IsLeafUnder, AreBoxNodes, IsNodeNear, IsLeafNear}
 use Rattle.shape_bins.specs.Trees.{IsLeafOf}
 use Rattle.shape_bins.specs.Forest.{IsForest}
 use Rattle.shape_bins.specs.Numbers.{HasNumber, KeepsNumbers, GivesNumber, GivesAll}

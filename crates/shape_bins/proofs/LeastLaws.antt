@@ -1,7 +1,6 @@
 -- A walk that looks for the least place.
 use Rattle.std.proofs.Common.{◌≡◌, ◌⊎◌, inl, inr, ℕ, ◌-◌, ◌≤◌, List, [], ◌∷◌, drop, Option, None, Some, refl, sym, subst, arith}
 use Rattle.std.specs.Prelude.{MatchOption}
-use Rattle.or_geom.specs.declared.shape.Rect.{Rect}
 use Rattle.or_geom.specs.Gathering.{SomeGives}
 use Rattle.shape_bins.specs.declared.node.Node.{Node}
 use Rattle.shape_bins.specs.declared.query.Query.{Query}

@@ -1,10 +1,10 @@
 -- How numbers are given, one after another.
-use Rattle.std.proofs.Common.{◌≡◌, ◌⊎◌, inl, inr, ℕ, zero, suc, ◌+◌, ◌<◌, List, [], ◌∷◌, ◌++◌, length, get_or, set, refl, sym, ap, subst, ◌∙◌, arith, get_or-set_same, get_or-set_other}
+use Rattle.std.proofs.Common.{◌≡◌, inl, inr, ℕ, zero, suc, ◌+◌, ◌<◌, List, [], ◌∷◌, ◌++◌, length, get_or, set, refl, sym, ap, subst, ◌∙◌, arith, get_or-set_same, get_or-set_other}
 use Rattle.std.specs.Prelude.{Contains, Option, None, Some}
-use Rattle.std.proofs.lemmas.List.{length-set, length_push, get_or_past}
+use Rattle.std.proofs.lemmas.List.{length-set, length_push}
 use Rattle.std.proofs.lemmas.List.Elements.{Contains-append_left, Contains-push, Contains-push_cases}
-use Rattle.std.proofs.lemmas.Bool.{cases_eq, cases_lt}
-use Rattle.shape_bins.specs.Numbers.{IsOn, HasNumber, KeepsNumbers, unnumbered, IsListedWith, GivesNumber, GivesAll}
+use Rattle.std.proofs.lemmas.Bool.{cases_eq}
+use Rattle.shape_bins.specs.Numbers.{IsOn, HasNumber, KeepsNumbers, unnumbered, GivesNumber, GivesAll}
 
 pub has_kept : (old new : List (Option ℕ)) (place : ℕ) → KeepsNumbers old new → HasNumber old place → HasNumber new place
 has_kept old new place kept h = record { number = h.number; is = kept place h.number h.is }

@@ -13,7 +13,7 @@ use Rattle.or_geom.proofs.ListLaws.{contains_cases, contains_none, contained_at,
 use Rattle.std.proofs.lemmas.Int.{ints, clamps}
 use Rattle.or_geom.specs.Gathering.{SomeHas}
 use Rattle.shape_bins.specs.declared.node.Node.{Node}
-use Rattle.shape_bins.specs.Meets.{HoldsRect, IsAround}
+use Rattle.or_geom.specs.Containing.{HoldsRect}
 use Rattle.shape_bins.specs.Nodes.{IsLeafUnder, AreBoxNodes}
 use Rattle.shape_bins.specs.Trees.{IsPlaceOn, ArePlacesOn, IsHullOf, IsLeafOf, IsLeafAt, IsBoxTree, IsTreeAdded}
 
@@ -96,12 +96,6 @@ place_within shapes layer places k lt all =
 
 holds_all : (outer mid inner : Rect) → HoldsRect outer mid → HoldsRect mid inner → HoldsRect outer inner
 holds_all outer mid inner a b = record { left = omega (arith, ints, a.left, b.left); right = omega (arith, ints, a.right, b.right); low = omega (arith, ints, a.low, b.low); high = omega (arith, ints, a.high, b.high) }
-
-pub around_first : (a b r : Rect) → IsAround a b r → HoldsRect r a
-around_first a b r h = record { left = omega (arith, ints, clamps, h.x1); right = omega (arith, ints, clamps, h.x2); low = omega (arith, ints, clamps, h.y1); high = omega (arith, ints, clamps, h.y2) }
-
-pub around_second : (a b r : Rect) → IsAround a b r → HoldsRect r b
-around_second a b r h = record { left = omega (arith, ints, clamps, h.x1); right = omega (arith, ints, clamps, h.x2); low = omega (arith, ints, clamps, h.y1); high = omega (arith, ints, clamps, h.y2) }
 
 -- the rectangle contains the shapes at the first k places
 abbrev pub HoldsFirst : List Shape → List ℕ → ℕ → Rect → Type 0

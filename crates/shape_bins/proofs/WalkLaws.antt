@@ -11,7 +11,8 @@ use Rattle.shape_bins.specs.declared.query.Query.{Query}
 use Rattle.or_geom.specs.declared.shape.Point.{Point}
 use Rattle.or_geom.specs.Joined.{IsIn}
 use Rattle.shape_bins.specs.declared.query.Query.TheVariants.{Meets, MeetsOutside, Joins, Overlaps, At}
-use Rattle.shape_bins.specs.Meets.{HoldsRect, Meet}
+use Rattle.or_geom.specs.Containing.{HoldsRect}
+use Rattle.shape_bins.specs.Meets.{Meet}
 use Rattle.shape_bins.specs.Query.{FitsQuery}
 use Rattle.shape_bins.specs.Nodes.{IsUnder, IsLeafUnder, AreBoxNodes, IsBoxNode, IsNodeNear, IsLeafNear}
 

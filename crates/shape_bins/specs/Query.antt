@@ -3,7 +3,8 @@ use Rattle.or_geom.specs.declared.shape.Rect.{Rect}
 use Rattle.or_geom.specs.Joined.{IsIn, AreJoined}
 use Rattle.shape_bins.specs.declared.query.Query.{Query}
 use Rattle.shape_bins.specs.declared.query.Query.TheVariants.{Meets, MeetsOutside, Joins, Overlaps, At}
-use Rattle.shape_bins.specs.Meets.{HoldsRect, Meet, Overlap}
+use Rattle.or_geom.specs.Containing.{HoldsRect}
+use Rattle.shape_bins.specs.Meets.{Meet, Overlap}
 
 -- the rectangle meets the area, and isn't held
 pub record IsOutside (area held r : Rect) : Type 0 where

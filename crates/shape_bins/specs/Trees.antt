@@ -4,7 +4,7 @@ use Rattle.std.specs.List.{AllByRecursion}
 use Rattle.or_geom.specs.declared.shape.Shape.{Shape}
 use Rattle.or_geom.specs.Gathering.{SomeHas}
 use Rattle.shape_bins.specs.declared.node.Node.{Node}
-use Rattle.shape_bins.specs.Meets.{HoldsRect}
+use Rattle.or_geom.specs.Containing.{HoldsRect}
 use Rattle.shape_bins.specs.Nodes.{IsLeafUnder, AreBoxNodes}
 
 -- there is a shape of the layer at the place

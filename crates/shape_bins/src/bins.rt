@@ -109,7 +109,7 @@ impl<'b> Bins<'b> {
         add_near(self.nodes, layer, Query::Meets(area), out)
     }
 
-    /// Adds the places of those alone that `held` doesn't hold.
+    /// Adds the places of the layer's shapes whose closed box meets the area and that `held` doesn't contain.
     pub fn add_outside(
         &self,
         layer: u16,
@@ -119,7 +119,7 @@ impl<'b> Bins<'b> {
     ) -> Result<(), Memory>
         ensures { OnOk result (Adds out.old.items out.new.items (IsHit self.now layer (MeetsOutside area held))) }
     {
-        add_near(self.nodes, layer, Query::MeetsOutside(area, held), out)
+        add_near(self.nodes, layer, Query::MeetsOutside { area, held }, out)
     }
 }
 

@@ -1,10 +1,9 @@
-ghost use Rattle.std.specs.Prelude.{◌≤◌, [], ◌∷◌, length, IsTrue, IfOk, IfSome, OnOk};
+ghost use Rattle.std.specs.Prelude.{◌↔◌, ◌≤◌, [], ◌∷◌, length, IsTrue, IfOk, IfSome, OnOk};
 ghost use Rattle.or_geom.specs.Covered.{IsCovered};
 ghost use Rattle.shape_bins.specs.Filled.{AreFilledBoxes, AreStacked, AreBeside, IsJoint, AddsFilled, AreJoinedFrom, AreJoinedOf};
 
-use crate::tree::around;
 use bumpalo::Bump;
-use or_geom::{Memory, Rect, Shape};
+use or_geom::{Memory, Rect, Shape, around};
 use std::alloc::Global;
 
 /// So many shapes have to fill a box for it to be kept. Boxes of fewer save little.
@@ -19,7 +18,7 @@ pub struct Filled {
 
 /// Whether the rectangles are as wide as each other and one stands on the other, or they share area.
 fn are_stacked(a: Rect, b: Rect) -> bool
-    ensures { IsTrue result → AreStacked a b }
+    ensures { IsTrue result ↔ AreStacked a b }
 {
     if a.x1 != b.x1 {
         return false;
@@ -38,7 +37,7 @@ fn are_stacked(a: Rect, b: Rect) -> bool
 
 /// Whether the rectangles are as tall as each other and one stands beside the other, or they share area.
 fn are_beside(a: Rect, b: Rect) -> bool
-    ensures { IsTrue result → AreBeside a b }
+    ensures { IsTrue result ↔ AreBeside a b }
 {
     if a.y1 != b.y1 {
         return false;
@@ -129,7 +128,8 @@ fn joined(alloc: Global, boxes: &[Filled]) -> Result<Vec<Filled>, Memory>
     Ok(out)
 }
 
-/// All boxes that the shapes fill: columns of shapes, rows of these, and columns of rows. The shapes come in order.
+/// Boxes that the shapes fill: columns of shapes, rows of these, and columns of rows. The shapes come in order. Not all such
+/// boxes are found: only neighbours in these two orders are joined, and most shapes that are joined with none are dropped.
 fn all_filled(alloc: Global, shapes: &[Shape]) -> Result<Vec<Filled>, Memory>
     ensures { IfOk result (λ out. AreJoinedFrom shapes.now out.items) }
 {

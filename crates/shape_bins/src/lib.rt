@@ -15,4 +15,4 @@ mod walk;
 
 pub use bins::{Bins, bins_are_shared, index};
 pub use numbers::ShapeNumbers;
-pub use query::{Query, holds};
+pub use query::Query;

@@ -1,17 +1,17 @@
 ghost use Rattle.std.specs.Prelude.{◌↔◌, IsTrue};
 ghost use Rattle.or_geom.specs.Joined.{IsIn};
-ghost use Rattle.shape_bins.specs.Meets.{HoldsRect, Meet, Overlap};
+ghost use Rattle.shape_bins.specs.Meets.{Meet, Overlap};
 ghost use Rattle.shape_bins.specs.Query.{FitsQuery};
 
-use or_geom::{Point, Rect, joined};
+use or_geom::{Point, Rect, holds, joined};
 
 /// Which shapes of a layer are looked for.
 #[derive(Clone, Copy)]
 pub enum Query {
     /// Those whose closed boxes meet the area.
     Meets(Rect),
-    /// Those whose closed boxes meet the first rectangle, and that the second doesn't hold.
-    MeetsOutside(Rect, Rect),
+    /// Those whose closed boxes meet the area, and that the rectangle `held` doesn't contain.
+    MeetsOutside { area: Rect, held: Rect },
     /// Those that are joined with the area: the closed boxes meet in more than one point.
     Joins(Rect),
     /// Those that share area with it.
@@ -35,26 +35,6 @@ fn meet(a: Rect, b: Rect) -> bool
         return false;
     }
     if b.y2 < a.y1 {
-        return false;
-    }
-    true
-}
-
-/// Whether the outer rectangle contains the inner.
-#[inline(always)]
-pub fn holds(outer: Rect, inner: Rect) -> bool
-    ensures { IsTrue result ↔ HoldsRect outer inner }
-{
-    if inner.x1 < outer.x1 {
-        return false;
-    }
-    if outer.x2 < inner.x2 {
-        return false;
-    }
-    if inner.y1 < outer.y1 {
-        return false;
-    }
-    if outer.y2 < inner.y2 {
         return false;
     }
     true
@@ -107,7 +87,7 @@ pub fn fits(query: Query, rect: Rect) -> bool
 {
     match query {
         Query::Meets(area) => meet(rect, area),
-        Query::MeetsOutside(area, held) => meet(rect, area) && !holds(held, rect),
+        Query::MeetsOutside { area, held } => meet(rect, area) && !holds(held, rect),
         Query::Joins(area) => joined(rect, area),
         Query::Overlaps(area) => overlap(rect, area),
         Query::At(point) => has_point(rect, point),

@@ -10,7 +10,7 @@ use Rattle.std.proofs.lemmas.List.Quantifiers.{position-Some}
 use Rattle.indexmap.specs.IndexSet.{insert_key}
 use Rattle.spice_netlist.specs.Names.{same_name}
 use Rattle.spice_netlist.specs.Numbers.{HasBefore, IsNumberOf, IsTableNumbering}
-use Rattle.spice_netlist.proofs.NameIndexLaws.{same_self}
+use Rattle.or_geom.proofs.NamePlaceLaws.{same_self}
 
 pub get_or_push : {X : Type 0} (xs : List X) (x d : X) → get_or (xs ++ x ∷ []) (length xs) d ≡ x
 get_or_push [] x d = refl

@@ -1,6 +1,7 @@
 -- The numbers of a plan.
 use Rattle.std.proofs.Common.{◌≡◌, ◌⊎◌, inl, inr, ℕ, zero, suc, ◌+◌, ◌-◌, ◌*◌, ◌/◌, ◌%◌, ◌<◌, ◌≤◌, ◌^◌, ◌==◌, Bool, true, false, cond, List, length, refl, sym, ap, subst, ◌∙◌, arith, pow_pos, pow_mono, pow-add, mul_comm, mul_assoc}
 use Rattle.std.proofs.Math.Nat.{div-eq_of_lt, mul-div_cancel, div-add-mod}
+use Rattle.std.specs.Prelude.{Option, None, Some, IfSome, MatchOption}
 use Rattle.std.specs.List.{AllByRecursion}
 use Rattle.sram_netlist.specs.Organization.{total_bits, IsGroupSize}
 use Rattle.sram_netlist.specs.Membership.{IsOneOf}
@@ -9,7 +10,7 @@ use Rattle.sram_netlist.proofs.Bounds.{power_of_two-is}
 use Rattle.sram_plan.specs.declared.config.Config.{Config}
 use Rattle.sram_plan.specs.declared.numbers.Plan.{Plan}
 use Rattle.sram_plan.specs.Config.{IsConfig, word_counts, row_counts, bank_counts}
-use Rattle.sram_plan.specs.Plan.{FitsBank, rows_with, candidates, masks_of, row_groups, IsPlanWith}
+use Rattle.sram_plan.specs.Plan.{FitsBank, IsNearest, IsPlanOf, IsPlanWith, rows_with, candidates, masks_of, row_groups}
 use Rattle.sram_plan.specs.PlanNumbers.{numbers_of, used_groups}
 
 order : (a b : ℕ) → (a ≡ b) ⊎ ((a < b) ⊎ (b < a))
@@ -197,3 +198,14 @@ numbers_are config wpr plan ok among fits p =
       addr_bits = omega (arith, addr_bits, col_bits, bank_bits, bits, total);
       words = p.num_words ∙ words_are config wpr fits ∙ (λ i. sym p.banks i * (sym p.rows i * sym p.wpr i));
     }
+
+-- The words in a row of a configuration's plan are among the listed counts.
+words_listed : (config : Config) (wpr : ℕ) (o : Option ℕ) → IfSome o (λ w. IsOneOf w row_counts) → MatchOption o (IsNearest config candidates wpr) (λ given. (wpr ≡ given) × FitsBank config wpr) → IsOneOf wpr candidates × FitsBank config wpr
+words_listed config wpr None listed chosen = (chosen.among, chosen.fits)
+words_listed config wpr (Some given) listed chosen = (subst (λ (w : ℕ). IsOneOf w candidates) (sym chosen.0) listed, chosen.1)
+
+-- so each plan of a configuration has the numbers of a plan
+pub plan_numbers : (config : Config) (plan : Plan) → IsConfig config → IsPlanOf config plan → ArePlanNumbers (numbers_of plan)
+plan_numbers config plan good of =
+    let words = words_listed config plan.wpr config.words_per_row good.words_per_row of.chosen in
+    numbers_are config plan.wpr plan good words.0 words.1 of.with

@@ -9,7 +9,7 @@ use Rattle.or_geom.specs.declared.shape.Shape.{Shape}
 use Rattle.or_geom.specs.Covered.{IsCovered}
 use Rattle.or_geom.proofs.CoverLaws.{cell_among}
 use Rattle.shape_bins.specs.Layers.{rects_on}
-use Rattle.shape_bins.specs.Meets.{HoldsRect}
+use Rattle.or_geom.specs.Containing.{HoldsRect}
 use Rattle.tile_checker.specs.WideArea.{IsWideArea}
 use Rattle.tile_checker.specs.declared.width.WideArea.{WideArea}
 use Rattle.tile_checker.specs.Breaks.{HasWidth, IsAsWide}

@@ -13,7 +13,7 @@ use Rattle.or_geom.proofs.ListLaws.{contained_at}
 use Rattle.cell_hierarchy.specs.Below.{SomeBelow}
 use Rattle.cell_hierarchy.proofs.BelowLaws.{step_from, step_to}
 use Rattle.tile_checker.specs.declared.violation.Violation.{Violation}
-use Rattle.tile_checker.specs.Earliest.{AreNotEarlier, IsEarliestOf, IsEarliestWith, IsKeptOr, IsOfFirst, IsOfRule, StandsAt, earlier, earlier_of}
+use Rattle.tile_checker.specs.Earliest.{AreNotEarlier, IsEarliestOf, IsEarliestWith, IsKeptOr, IsOfFirst, IsOfRule, StandsAt}
 use Rattle.tile_checker.specs.RuleReport.{violation_order}
 use Rattle.tile_checker.proofs.OneReportLaws.{violation_total}
 use Rattle.tile_checker.proofs.PlaceLaws.{place_of}
@@ -57,26 +57,34 @@ none_first None P none = λ v h. elim h [ inl e ↦ let both : ◌≡◌ {A = Op
 none_first (Some v) P none = stays_first (Some v) P (λ w p. absurd (none w p))
 
 -- one other
-by_order : (v w : Violation) (o : Ordering) → violation_order v w ≡ o → IsEarliestWith (Some v) (λ u. w ≡ u) (Some (earlier o v w))
-by_order v w Less e = stays_first (Some v) (λ u. w ≡ u) (λ u same. subst (λ (x : Violation). violation_order v x ≢ Greater) same (less_is (violation_order v w) e))
-by_order v w Equal e = stays_first (Some v) (λ u. w ≡ u) (λ u same. subst (λ (x : Violation). violation_order v x ≢ Greater) same (equal_is (violation_order v w) e))
-by_order v w Greater e = record {
+pub one_alone : (kept : Option Violation) (w : Violation) → kept ≡ None → IsEarliestWith kept (λ u. w ≡ u) (Some w)
+one_alone kept w none = record {
   has = inr refl;
   first = λ u h. elim h [
-    | inl same ↦ subst (λ (x : Violation). violation_order w x ≢ Greater) (same_Some v u same) (turned v w e)
+    | inl e ↦ let both : ◌≡◌ {A = Option Violation} None (Some u) = sym none ∙ e in absurd cc
     | inr same ↦ subst (λ (x : Violation). violation_order w x ≢ Greater) same (itself w)
   ];
 }
 
-pub one_first : (kept : Option Violation) (w : Violation) → IsEarliestWith kept (λ u. w ≡ u) (Some (earlier_of kept w))
-one_first None w = record {
+stays_before : (kept : Option Violation) (v w : Violation) → kept ≡ Some v → violation_order v w ≢ Greater → IsEarliestWith kept (λ u. w ≡ u) (Some v)
+stays_before kept v w is before =
+    subst (λ (k : Option Violation). IsEarliestWith k (λ u. w ≡ u) (Some v)) (sym is)
+    (stays_first (Some v) (λ u. w ≡ u) (λ u same. subst (λ (x : Violation). violation_order v x ≢ Greater) same before))
+
+pub less_stays : (kept : Option Violation) (v w : Violation) → kept ≡ Some v → violation_order v w ≡ Less → IsEarliestWith kept (λ u. w ≡ u) (Some v)
+less_stays kept v w is o = stays_before kept v w is (less_is (violation_order v w) o)
+
+pub equal_stays : (kept : Option Violation) (v w : Violation) → kept ≡ Some v → violation_order v w ≡ Equal → IsEarliestWith kept (λ u. w ≡ u) (Some v)
+equal_stays kept v w is o = stays_before kept v w is (equal_is (violation_order v w) o)
+
+pub greater_goes : (kept : Option Violation) (v w : Violation) → kept ≡ Some v → violation_order v w ≡ Greater → IsEarliestWith kept (λ u. w ≡ u) (Some w)
+greater_goes kept v w is o = record {
   has = inr refl;
   first = λ u h. elim h [
-    | inl e ↦ let both : ◌≡◌ {A = Option Violation} None (Some u) = e in absurd cc
+    | inl same ↦ subst (λ (x : Violation). violation_order w x ≢ Greater) (same_Some v u (sym is ∙ same)) (turned v w o)
     | inr same ↦ subst (λ (x : Violation). violation_order w x ≢ Greater) same (itself w)
   ];
 }
-one_first (Some v) w = by_order v w (violation_order v w) refl
 
 -- those of Q after those of P
 pub first_then : (kept now next : Option Violation) (P Q : Violation → Type 0) → IsEarliestWith kept P now → IsEarliestWith now Q next → IsEarliestWith kept (λ v. P v ⊎ Q v) next
@@ -120,17 +128,15 @@ below_goes_on kept now next P n a b =
     first_with_as kept next (λ v. SomeBelow P n v ⊎ P n v) (SomeBelow P (n + 1)) (step_to P n) (step_from P n) (first_then kept now next (SomeBelow P n) (P n) a b)
 
 -- a list of violations
-pub read_one : (list : List Violation) (n : ℕ) (v : Violation) (now : Option Violation) (next : Violation) → n < length list → v ≡ get_or list n v → next ≡ earlier_of now v → IsEarliestWith now (StandsAt list n) (Some next)
-read_one list n v now next lt is e =
+pub read_one : (list : List Violation) (n : ℕ) (v : Violation) (now next : Option Violation) → n < length list → v ≡ get_or list n v → IsEarliestWith now (λ u. v ≡ u) next → IsEarliestWith now (StandsAt list n) next
+read_one list n v now next lt is first =
     let there : slice_get list n ≡ Some v = slice_get_read list (length list) n v refl lt is in
-    subst (λ (w : Violation). IsEarliestWith now (StandsAt list n) (Some w)) (sym e)
-    (first_with_as now (Some (earlier_of now v)) (λ u. v ≡ u) (StandsAt list n) (λ u same. there ∙ ap (λ (x : Violation). Some x) same) (λ u h. same_Some v u (sym there ∙ h)) (one_first now v))
+    first_with_as now next (λ u. v ≡ u) (StandsAt list n) (λ u same. there ∙ ap (λ (x : Violation). Some x) same) (λ u h. same_Some v u (sym there ∙ h)) first
 
 -- what another found
-pub some_found : (kept other : Option Violation) (w next : Violation) → other ≡ Some w → next ≡ earlier_of kept w → IsEarliestWith kept (λ v. other ≡ Some v) (Some next)
-some_found kept other w next is e =
-    subst (λ (v : Violation). IsEarliestWith kept (λ u. other ≡ Some u) (Some v)) (sym e)
-    (first_with_as kept (Some (earlier_of kept w)) (λ u. w ≡ u) (λ u. other ≡ Some u) (λ u same. is ∙ ap (λ (x : Violation). Some x) same) (λ u h. same_Some w u (sym is ∙ h)) (one_first kept w))
+pub some_found : (kept other : Option Violation) (w : Violation) (next : Option Violation) → other ≡ Some w → IsEarliestWith kept (λ u. w ≡ u) next → IsEarliestWith kept (λ v. other ≡ Some v) next
+some_found kept other w next is first =
+    first_with_as kept next (λ u. w ≡ u) (λ u. other ≡ Some u) (λ u same. is ∙ ap (λ (x : Violation). Some x) same) (λ u h. same_Some w u (sym is ∙ h)) first
 
 pub none_found : (kept other : Option Violation) → other ≡ None → IsEarliestWith kept (λ v. other ≡ Some v) kept
 none_found kept other is = none_first kept (λ v. other ≡ Some v) (λ v h. let both : ◌≡◌ {A = Option Violation} None (Some v) = sym is ∙ h in cc)

@@ -1,6 +1,5 @@
 -- Two shapes in a box that their layer covers have a covered gap.
-use Rattle.std.proofs.Common.{◌≡◌, refl, ◌⊎◌, inl, inr, ℕ, ℤ, pos, ◌≤ℤ◌, ◌<ℤ◌, ◌+ℤ◌, ◌-ℤ◌, List, [], Option, Some, sym, subst, ◌∙◌, arith}
-use Rattle.std.specs.Prelude.{Contains, slice_get}
+use Rattle.std.proofs.Common.{◌≡◌, refl, ◌⊎◌, inl, inr, ℕ, ℤ, pos, ◌≤ℤ◌, ◌+ℤ◌, ◌-ℤ◌, List, [], sym, subst, ◌∙◌, arith}
 use Rattle.std.specs.Int.{int_max, int_min}
 use Rattle.std.proofs.lemmas.Int.{ints, clamps, by_lt_z}
 use Rattle.or_geom.specs.declared.shape.Rect.{Rect}
@@ -8,12 +7,12 @@ use Rattle.or_geom.specs.declared.shape.Shape.{Shape}
 use Rattle.or_geom.specs.declared.span.Span.{Span}
 use Rattle.or_geom.specs.Adds.{Adds}
 use Rattle.or_geom.specs.Covered.{HasCell}
-use Rattle.or_geom.specs.Gap.{IsGap, IsGapBox}
+use Rattle.or_geom.specs.Gap.{IsGap}
 use Rattle.or_geom.specs.Span.{across, upward}
 use Rattle.or_geom.proofs.ListLaws.{one_at}
 use Rattle.shape_bins.specs.declared.query.Query.TheVariants.{MeetsOutside}
 use Rattle.shape_bins.specs.Hits.{IsHit, IsNearShape}
-use Rattle.shape_bins.specs.Meets.{HoldsRect}
+use Rattle.or_geom.specs.Containing.{HoldsRect}
 use Rattle.tile_checker.specs.Breaks.{IsGapCovered}
 use Rattle.tile_checker.specs.Firsts.{IsFilledAround, LieInOneBox, ArePartnersIn}
 use Rattle.tile_checker.proofs.PlaceLaws.{adds_all}

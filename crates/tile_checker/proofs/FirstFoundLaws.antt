@@ -30,27 +30,26 @@ use Rattle.tile_checker.proofs.ReportThereLaws.{reports_are_there}
 use Rattle.tile_checker.proofs.ShareLaws.{all_own, mod_below}
 
 -- from one first shape
-pub found_first : (number : ℕ) (rule : Rule) (shapes : List Shape) (tile : Rect) (places : List ℕ) (k : ℕ) (first : First) (none found : List Violation) (now next : Option Violation) → slice_get places k ≡ Some first.place → IsAt shapes first → none ≡ []
-    → Adds none found (IsFromIn number rule shapes tile first) → IsEarliestWith now (Contains found) next → IsEarliestWith now (IsFromIndex number rule shapes tile places k) next
-found_first number rule shapes tile places k first none found now next stands there empty adds a =
+pub found_first : (number : ℕ) (rule : Rule) (shapes : List Shape) (tile : Rect) (first : First) (none found : List Violation) (now next : Option Violation) → none ≡ [] → Adds none found (IsFromIn number rule shapes tile first)
+    → IsEarliestWith now (Contains found) next → IsEarliestWith now (IsFromIn number rule shapes tile first) next
+found_first number rule shapes tile first none found now next empty adds a =
     let all = adds_all found (IsFromIn number rule shapes tile first) (subst (λ (l : List Violation). Adds l found (IsFromIn number rule shapes tile first)) empty adds) in
-    first_with_as now next (Contains found) (IsFromIndex number rule shapes tile places k)
-    (λ v h. let f = (all v).0 h in record { place = first.place; stands = stands; from = record { at = there ∙ ap (λ (s : Shape). Some s) (sym f.from.of); is = record { violation = f.from.violation; owned = f.owned } } })
-    (λ v i.
-    let same : i.place ≡ first.place = same_Some i.place first.place (sym i.stands ∙ stands) in
-    let at : slice_get shapes first.place ≡ Some v.first = subst (λ (p : ℕ). slice_get shapes p ≡ Some v.first) same i.from.at in
-    (all v).1 (record { from = record { of = same_Some v.first first.shape (sym at ∙ there); violation = i.from.is.violation }; owned = i.from.is.owned }))
-    a
+    first_with_as now next (Contains found) (IsFromIn number rule shapes tile first) (λ v h. (all v).0 h) (λ v f. (all v).1 f) a
 
-pub index_behind : (number : ℕ) (rule : Rule) (shapes : List Shape) (tile : Rect) (places : List ℕ) (k : ℕ) (first : First) (now : Option Violation) → slice_get places k ≡ Some first.place → IsAt shapes first → AreNotEarlier now (IsOfFirst number first.shape)
-    → AreNotEarlier now (IsFromIndex number rule shapes tile places k)
-index_behind number rule shapes tile places k first now stands there behind =
-    behind_as now (IsOfFirst number first.shape) (IsFromIndex number rule shapes tile places k)
+pub shape_behind : (number : ℕ) (rule : Rule) (shapes : List Shape) (tile : Rect) (first : First) (now : Option Violation) → AreNotEarlier now (IsOfFirst number first.shape) → AreNotEarlier now (IsFromIn number rule shapes tile first)
+shape_behind number rule shapes tile first now behind = behind_as now (IsOfFirst number first.shape) (IsFromIn number rule shapes tile first) (λ v f. (f.from.violation.numbered, f.from.of)) behind
+
+-- whose place stands at an index
+pub index_first : (number : ℕ) (rule : Rule) (shapes : List Shape) (tile : Rect) (places : List ℕ) (k : ℕ) (first : First) (now next : Option Violation) → slice_get places k ≡ Some first.place → IsAt shapes first
+    → IsEarliestWith now (IsFromIn number rule shapes tile first) next → IsEarliestWith now (IsFromIndex number rule shapes tile places k) next
+index_first number rule shapes tile places k first now next stands there a =
+    first_with_as now next (IsFromIn number rule shapes tile first) (IsFromIndex number rule shapes tile places k)
+    (λ v f. record { place = first.place; stands = stands; from = record { at = there ∙ ap (λ (s : Shape). Some s) (sym f.from.of); is = record { violation = f.from.violation; owned = f.owned } } })
     (λ v i.
     let same : i.place ≡ first.place = same_Some i.place first.place (sym i.stands ∙ stands) in
     let at : slice_get shapes first.place ≡ Some v.first = subst (λ (p : ℕ). slice_get shapes p ≡ Some v.first) same i.from.at in
-    (i.from.is.violation.numbered, same_Some v.first first.shape (sym at ∙ there)))
-    behind
+    record { from = record { of = same_Some v.first first.shape (sym at ∙ there); violation = i.from.is.violation }; owned = i.from.is.owned })
+    a
 
 -- from all first shapes of a rule
 pub rule_first : (number : ℕ) (rule : Rule) (shapes : List Shape) (tile : Rect) (places : List ℕ) (n : ℕ) (kept now : Option Violation) → AreFirstPlaces rule shapes tile places → length places ≤ n → IsEarliestWith kept (SomeBelow (IsFromIndex number rule shapes tile places) n) now

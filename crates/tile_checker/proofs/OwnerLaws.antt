@@ -202,17 +202,16 @@ width_alone rule layer min shapes is a b breaks = subst (λ (r : Rule). Breaks r
 pub enclose_alone : (rule : Rule) (layer : ℕ) (by : List ℕ) (min : ℤ) (shapes : List Shape) → rule ≡ Enclose layer by min → IsForOne rule shapes
 enclose_alone rule layer by min shapes is a b breaks = subst (λ (r : Rule). Breaks r shapes a (Some b)) is breaks
 
-pub width_owned : (number : ℕ) (rule : Rule) (layer : ℕ) (min read : ℤ) (shapes : List Shape) (tile : Rect) (first : First) (old new : List Violation) → rule ≡ Width layer min → HasCell tile first.shape.rect.x1 first.shape.rect.y1
-    → read ≡ min → Adds old new (IsFrom number (Width layer read) shapes first) → Adds old new (IsFromIn number rule shapes tile first)
-width_owned number rule layer min read shapes tile first old new is has same a =
-    all_owned number rule shapes tile first old new (width_alone rule layer min shapes is) has
-    (subst (λ (r : Rule). Adds old new (IsFrom number r shapes first)) (sym is) (subst (λ (m : ℤ). Adds old new (IsFrom number (Width layer m) shapes first)) same a))
+-- the rule, whose minimum was read
+pub width_read : (number : ℕ) (rule : Rule) (layer : ℕ) (min read : ℤ) (shapes : List Shape) (tile : Rect) (first : First) (old new : List Violation) → rule ≡ Width layer min → read ≡ min
+    → Adds old new (IsFromIn number (Width layer read) shapes tile first) → Adds old new (IsFromIn number rule shapes tile first)
+width_read number rule layer min read shapes tile first old new is same a =
+    subst (λ (r : Rule). Adds old new (IsFromIn number r shapes tile first)) (sym is) (subst (λ (m : ℤ). Adds old new (IsFromIn number (Width layer m) shapes tile first)) same a)
 
-pub enclose_owned : (number : ℕ) (rule : Rule) (layer : ℕ) (by : List ℕ) (min read : ℤ) (shapes : List Shape) (tile : Rect) (first : First) (old new : List Violation) → rule ≡ Enclose layer by min
-    → HasCell tile first.shape.rect.x1 first.shape.rect.y1 → read ≡ min → Adds old new (IsFrom number (Enclose layer by read) shapes first) → Adds old new (IsFromIn number rule shapes tile first)
-enclose_owned number rule layer by min read shapes tile first old new is has same a =
-    all_owned number rule shapes tile first old new (enclose_alone rule layer by min shapes is) has
-    (subst (λ (r : Rule). Adds old new (IsFrom number r shapes first)) (sym is) (subst (λ (m : ℤ). Adds old new (IsFrom number (Enclose layer by m) shapes first)) same a))
+pub enclose_read : (number : ℕ) (rule : Rule) (layer : ℕ) (by : List ℕ) (min read : ℤ) (shapes : List Shape) (tile : Rect) (first : First) (old new : List Violation) → rule ≡ Enclose layer by min → read ≡ min
+    → Adds old new (IsFromIn number (Enclose layer by read) shapes tile first) → Adds old new (IsFromIn number rule shapes tile first)
+enclose_read number rule layer by min read shapes tile first old new is same a =
+    subst (λ (r : Rule). Adds old new (IsFromIn number r shapes tile first)) (sym is) (subst (λ (m : ℤ). Adds old new (IsFromIn number (Enclose layer by m) shapes tile first)) same a)
 
 -- the area has the corner of what breaks a rule
 corner_in : (area : Rect) (shapes : List Shape) (min : ℤ) (a : Shape) (b : Option Shape) → HasCorners area shapes → pos 1 ≤ℤ min → Contains shapes a → IsLater shapes a b → HasCell area (corner min a b).x (corner min a b).y

@@ -1,6 +1,6 @@
 -- The pairs that are found among the shapes near a first one.
-use Rattle.std.proofs.Common.{◌≡◌, inl, inr, ℕ, ◌<◌, ℤ, ◌-ℤ◌, List, [], length, Option, Some, None, refl, sym, subst, ◌∙◌}
-use Rattle.std.specs.Prelude.{Contains, slice_get}
+use Rattle.std.proofs.Common.{◌≡◌, inl, inr, ℕ, ◌<◌, ℤ, ◌-ℤ◌, List, length, Option, Some, None, refl, sym, subst, ◌∙◌}
+use Rattle.std.specs.Prelude.{slice_get}
 use Rattle.std.specs.Int.{int_max}
 use Rattle.or_geom.specs.Covered.{HasCell}
 use Rattle.std.specs.List.Sorted.{IsStrictlySortedBy}

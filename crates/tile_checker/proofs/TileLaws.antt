@@ -9,7 +9,7 @@ use Rattle.or_geom.specs.declared.shape.Shape.{Shape}
 use Rattle.or_geom.specs.Covered.{HasCell, HasCellInSome}
 use Rattle.or_geom.specs.Distance.{IsNear, IsReachable}
 use Rattle.or_geom.specs.Reachable.{AreReachable}
-use Rattle.shape_bins.specs.Meets.{IsAround}
+use Rattle.or_geom.specs.Containing.{IsAround}
 use Rattle.or_geom.proofs.ListLaws.{below_or, contains_none, contains_cases, contains_first, contains_later, contained_at}
 use Rattle.tile_checker.specs.Tiles.{AreApart, HasCorners, IsTiling, AreCellRows, IsRowAdded}
 use Rattle.tile_checker.proofs.PlaceLaws.{place_of, reachable_in}

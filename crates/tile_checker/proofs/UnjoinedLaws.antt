@@ -10,7 +10,7 @@ use Rattle.or_geom.specs.Joined.{AreJoined}
 use Rattle.or_geom.specs.Covered.{HasCell, HasCellInSome, IsCovered}
 use Rattle.or_geom.proofs.ListLaws.{contains_none, contains_cases, contains_first, contains_later, contains_here}
 use Rattle.or_geom.proofs.CoverLaws.{cell_among}
-use Rattle.shape_bins.specs.Meets.{HoldsRect}
+use Rattle.or_geom.specs.Containing.{HoldsRect}
 use Rattle.tile_checker.specs.Breaks.{IsAsWide, HasWidth}
 use Rattle.shape_bins.specs.Layers.{rects_on}
 use Rattle.tile_checker.specs.Unjoined.{AreUnjoined, WidthOfUnjoinedShapes}

@@ -8,7 +8,7 @@ use Rattle.or_geom.specs.Distance.{IsLeastDist2}
 use Rattle.or_geom.specs.Gap.{IsGapBox}
 use Rattle.tech_rules.specs.declared.tech.Rule.{Rule}
 use Rattle.tech_rules.specs.declared.tech.Rule.TheVariants.{Width, Space, Enclose}
-use Rattle.shape_bins.specs.Meets.{HoldsRect}
+use Rattle.or_geom.specs.Containing.{HoldsRect}
 use Rattle.shape_bins.specs.Layers.{rects_on, IsCoveredBy}
 
 -- both sides of the box are at least so long

@@ -1,7 +1,6 @@
 -- The first of some violations, in the order of reports.
 use Rattle.std.specs.Prelude.{◌≡◌, ◌≢◌, ◌⊎◌, ℕ, ◌<◌, List, length, slice_get, Option, Some, None, Result, Ok, Err}
-use Rattle.std.specs.declared.cmp.Ordering.{Ordering}
-use Rattle.std.specs.declared.cmp.Ordering.TheVariants.{Less, Equal, Greater}
+use Rattle.std.specs.declared.cmp.Ordering.TheVariants.{Greater}
 use Rattle.cell_hierarchy.specs.Below.{SomeBelow}
 use Rattle.or_geom.specs.declared.memory.Memory.{Memory}
 use Rattle.or_geom.specs.declared.shape.Rect.{Rect}
@@ -33,17 +32,6 @@ IsEarliestWith kept P found = IsEarliestOf (IsKeptOr kept P) found
 abbrev pub AreNotEarlier : Option Violation → (Violation → Type 0) → Type 0
 AreNotEarlier None P = ⊥
 AreNotEarlier (Some v) P = (w : Violation) → P w → violation_order v w ≢ Greater
-
--- of v and w the one that comes first, where o is how they compare
-abbrev pub earlier : Ordering → Violation → Violation → Violation
-earlier Less v w = v
-earlier Equal v w = v
-earlier Greater v w = w
-
--- of what is kept and w
-abbrev pub earlier_of : Option Violation → Violation → Violation
-earlier_of None w = w
-earlier_of (Some v) w = earlier (violation_order v w) v w
 
 -- a violation of the rule of this number
 abbrev pub IsOfRule : ℕ → Violation → Type 0

@@ -4,12 +4,11 @@ use Rattle.or_geom.specs.declared.shape.Rect.{Rect}
 use Rattle.or_geom.specs.declared.shape.Shape.{Shape}
 use Rattle.tech_rules.specs.declared.tech.Rule.{Rule}
 use Rattle.shape_bins.specs.Hits.{IsNearShape}
-use Rattle.shape_bins.specs.Layers.{rects_on, IsCoveredBy}
-use Rattle.shape_bins.specs.Meets.{HoldsRect}
+use Rattle.shape_bins.specs.Layers.{IsCoveredBy}
+use Rattle.or_geom.specs.Containing.{HoldsRect}
 use Rattle.tile_checker.specs.declared.violation.Violation.{Violation}
 use Rattle.tile_checker.specs.declared.space.SpaceRule.{SpaceRule}
-use Rattle.tile_checker.specs.RuleReport.{IsViolation}
-use Rattle.tile_checker.specs.Found.{AreOn, IsSpaceFound, IsViolationOf}
+use Rattle.tile_checker.specs.Found.{AreOn, IsViolationOf}
 use Rattle.tile_checker.specs.declared.first.First.{First}
 
 -- the shape stands at its place

@@ -1,5 +1,5 @@
 ghost use Rattle.std.specs.Prelude.{◌≡◌, Contains, IsTrue, Some};
-ghost use Rattle.tile_checker.specs.Earliest.{AreNotEarlier, IsEarliestWith, IsOfFirst, IsOfRule, earlier_of};
+ghost use Rattle.tile_checker.specs.Earliest.{AreNotEarlier, IsEarliestWith, IsOfFirst, IsOfRule};
 
 use crate::violation::Violation;
 use or_geom::Shape;
@@ -7,7 +7,7 @@ use std::cmp::Ordering;
 
 /// Of what is kept and another violation, the one that comes first in a report.
 fn earlier_of(kept: Option<Violation>, other: Violation) -> Violation
-    ensures { result ≡ earlier_of kept other }
+    ensures { IsEarliestWith kept (λ v. other ≡ v) (Some result) }
 {
     let Some(least) = kept else {
         return other;

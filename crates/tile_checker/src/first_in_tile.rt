@@ -1,11 +1,12 @@
-ghost use Rattle.std.specs.Prelude.{IfOk};
+ghost use Rattle.std.specs.Prelude.{◌≡◌, None, IfOk};
 ghost use Rattle.std.specs.List.Sorted.{IsStrictlySortedBy};
 ghost use Rattle.or_geom.specs.Distance.{IsReachable};
 ghost use Rattle.or_geom.specs.Reachable.{AreReachable};
 ghost use Rattle.or_geom.specs.ShapeOrder.{shape_order};
 ghost use Rattle.tile_checker.specs.Earliest.{IsEarliestWith};
+ghost use Rattle.tile_checker.specs.Firsts.{IsAt};
 ghost use Rattle.tile_checker.specs.Minimum.{HasMinimum};
-ghost use Rattle.tile_checker.specs.Tiles.{AreFirstPlaces, IsViolationIn};
+ghost use Rattle.tile_checker.specs.Tiles.{AreFirstPlaces, IsFromIn, IsViolationIn};
 ghost use Rattle.tile_checker.specs.WideArea.{IsSeen};
 
 use crate::earliest::{earliest_of, is_past, is_past_first};
@@ -30,8 +31,8 @@ pub struct Notes {
 
 impl Notes {
     /// Nothing yet.
-    pub fn new(_bins: &Bins, alloc: Global) -> Notes
-        ensures { IsSeen _bins.now result.seen }
+    pub fn new(alloc: Global) -> Notes
+        ensures { result.seen ≡ None }
     {
         Notes {
             alloc,
@@ -42,8 +43,45 @@ impl Notes {
     }
 }
 
+/// The first of what is kept and of what breaks the rule, has this first shape, and is owned by the tile. A shape that has
+/// only later violations isn't looked at.
+fn first_of_shape(
+    bins: &Bins,
+    number: u32,
+    rule: &Rule,
+    tile: Rect,
+    first: First,
+    notes: &mut Notes,
+    kept: Option<Violation>,
+) -> Result<Option<Violation>, Memory>
+    requires minimum { HasMinimum rule.now }
+    requires rises { IsStrictlySortedBy shape_order bins.now }
+    requires reach { AreReachable bins.now }
+    requires at { IsAt bins.now first }
+    requires seen { IsSeen bins.now notes.old.seen }
+    ensures seen { IsSeen bins.now notes.new.seen }
+    ensures first { IfOk result (IsEarliestWith kept (IsFromIn number rule.now bins.now tile first)) }
+{
+    if is_past_first(kept, number, first.shape) {
+        return Ok(kept);
+    }
+    notes.found.clear();
+    add_violations(
+        notes.alloc,
+        bins,
+        number,
+        rule,
+        tile,
+        first,
+        &mut notes.near,
+        &mut notes.seen,
+        &mut notes.found,
+    )?;
+    Ok(earliest_of(kept, &notes.found))
+}
+
 /// The first of what is kept and of what breaks the rule, has its first shape at one of the places, and is owned by the
-/// tile. A shape that has only later violations isn't looked at.
+/// tile.
 fn first_of_places(
     bins: &Bins,
     number: u32,
@@ -68,22 +106,7 @@ fn first_of_places(
             place: *place,
             shape: shape_at(shapes, *place),
         };
-        if is_past_first(least, number, first.shape) {
-            continue;
-        }
-        notes.found.clear();
-        add_violations(
-            notes.alloc,
-            bins,
-            number,
-            rule,
-            tile,
-            first,
-            &mut notes.near,
-            &mut notes.seen,
-            &mut notes.found,
-        )?;
-        least = earliest_of(least, &notes.found);
+        least = first_of_shape(bins, number, rule, tile, first, notes, least)?;
     }
     Ok(least)
 }

@@ -69,7 +69,7 @@ pub fn first_of_share(
 {
     let rules = tech.rules.as_slice();
     let mut places = Vec::new(alloc);
-    let mut notes = Notes::new(bins, alloc);
+    let mut notes = Notes::new(alloc);
     let mut least = None;
     for index in 0..tiles.len() {
         if !is_own(index, worker, workers) {

@@ -5,6 +5,7 @@ ghost use Rattle.or_geom.specs.Gathering.{SomeGives};
 ghost use Rattle.or_geom.specs.ShapeOrder.{shape_order};
 ghost use Rattle.or_geom.specs.Distance.{IsReachable};
 ghost use Rattle.or_geom.specs.Reachable.{AreReachable};
+ghost use Rattle.tech_rules.specs.declared.tech.Rule.TheVariants as kind;
 ghost use Rattle.tile_checker.specs.Minimum.{HasMinimum};
 ghost use Rattle.tile_checker.specs.Firsts.{IsAt, ArePlaces};
 ghost use Rattle.tile_checker.specs.Tiles.{AreFirstPlaces, IsNearOnSome, IsFromIn, IsFromPlace, IsViolationIn};
@@ -17,7 +18,7 @@ use crate::owner::has_corner;
 use crate::space::{SpaceRule, add_spaces};
 use crate::violation::Violation;
 use crate::width::{WideArea, add_widths};
-use or_geom::{Memory, Rect};
+use or_geom::{Items, Memory, Rect};
 use shape_bins::Bins;
 use std::alloc::Global;
 use tech_rules::Rule;
@@ -61,6 +62,51 @@ pub fn list_firsts(
     }
 }
 
+/// Adds the shape if it is of the layer and too narrow, and the tile has its corner.
+fn add_own_widths(
+    alloc: Global,
+    bins: &Bins,
+    number: u32,
+    layer: u16,
+    min: Minimum,
+    tile: Rect,
+    first: First,
+    seen: &mut Option<WideArea>,
+    out: &mut Vec<Violation>,
+) -> Result<(), Memory>
+    requires reach { AreReachable bins.now }
+    requires at { IsAt bins.now first }
+    requires seen { IsSeen bins.now seen.old }
+    ensures seen { IsSeen bins.now seen.new }
+    ensures adds { OnOk result (Adds out.old.items out.new.items (IsFromIn number (kind.Width layer min.value) bins.now tile first)) }
+{
+    if !has_corner(tile, first.shape.rect) {
+        return Ok(());
+    }
+    add_widths(alloc, bins, number, layer, min, first, seen, out)
+}
+
+/// Adds the shape if it is of the layer, none of the layers `by` encloses it, and the tile has its corner.
+fn add_own_encloses(
+    bins: &Bins,
+    number: u32,
+    layer: u16,
+    by: &Items<u16>,
+    min: Minimum,
+    tile: Rect,
+    first: First,
+    out: &mut Vec<Violation>,
+) -> Result<(), Memory>
+    requires reach { AreReachable bins.now }
+    requires at { IsAt bins.now first }
+    ensures { OnOk result (Adds out.old.items out.new.items (IsFromIn number (kind.Enclose layer by.now min.value) bins.now tile first)) }
+{
+    if !has_corner(tile, first.shape.rect) {
+        return Ok(());
+    }
+    add_encloses(bins, number, layer, by, min, first, out)
+}
+
 /// Adds what breaks the rule, has this first shape, and is owned by the tile. `near` is a list to use again, and `seen`
 /// what the last shape showed of the next ones.
 pub fn add_violations(
@@ -84,11 +130,8 @@ pub fn add_violations(
 {
     match rule {
         Rule::Width { layer, min } => {
-            if !has_corner(tile, first.shape.rect) {
-                return Ok(());
-            }
             let min = Minimum { value: *min };
-            add_widths(alloc, bins, number, *layer, min, first, seen, out)
+            add_own_widths(alloc, bins, number, *layer, min, tile, first, seen, out)
         }
         Rule::Space { layer, other, min } => {
             let space = SpaceRule {
@@ -100,11 +143,8 @@ pub fn add_violations(
             add_spaces(bins, space, tile, first, near, out)
         }
         Rule::Enclose { layer, by, min } => {
-            if !has_corner(tile, first.shape.rect) {
-                return Ok(());
-            }
             let min = Minimum { value: *min };
-            add_encloses(bins, number, *layer, by, min, first, out)
+            add_own_encloses(bins, number, *layer, by, min, tile, first, out)
         }
     }
 }

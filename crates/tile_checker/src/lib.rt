@@ -28,4 +28,4 @@ pub use check::check_all;
 pub use first_found::first_violation;
 pub use gate::{Gate, OpenGate};
 pub use laws::{reports_are_there, reports_are_unique, width_of_unjoined_shapes};
-pub use violation::Violation;
+pub use violation::{Violation, first_fault};

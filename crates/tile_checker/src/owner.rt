@@ -3,7 +3,6 @@ ghost use Rattle.or_geom.specs.Covered.{HasCell};
 ghost use Rattle.or_geom.specs.Distance.{IsReachable};
 ghost use Rattle.tile_checker.specs.Tiles.{corner};
 
-use crate::extent::greater;
 use crate::minimum::Minimum;
 use or_geom::{Rect, Shape};
 
@@ -39,7 +38,9 @@ pub fn owns_pair(tile: Rect, min: Minimum, first: Shape, second: Shape) -> bool
     requires { IsReachable first.rect }
     ensures { IsTrue result ↔ HasCell tile (corner min.value first (Some second)).x (corner min.value first (Some second)).y }
 {
-    let x = greater(first.rect.x1 - min.value, second.rect.x1);
-    let y = greater(first.rect.y1 - min.value, second.rect.y1);
+    let left = first.rect.x1 - min.value;
+    let low = first.rect.y1 - min.value;
+    let x = left.max(second.rect.x1);
+    let y = low.max(second.rect.y1);
     has_cell(tile, x, y)
 }

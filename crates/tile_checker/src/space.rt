@@ -14,13 +14,12 @@ ghost use Rattle.tile_checker.specs.Firsts.{IsAt, IsPartner, HasNoPartner, ArePa
 ghost use Rattle.tile_checker.specs.Tiles.{IsFromIn, IsPairAt, IsPartIn};
 
 use crate::enclose::grown;
-use crate::extent::{greater, lesser};
 use crate::first::{First, shape_at};
 use crate::minimum::Minimum;
 use crate::owner::owns_pair;
 use crate::violation::Violation;
-use or_geom::{Memory, Point, Rect, Shape, dist2, gap_box, joined};
-use shape_bins::{Bins, holds};
+use or_geom::{Memory, Point, Rect, Shape, dist2, gap_box, holds, joined};
+use shape_bins::Bins;
 
 /// A space rule with its number.
 #[derive(Clone, Copy)]
@@ -82,7 +81,7 @@ fn end_of(begin: i64, side: i64, other: i64) -> i64
     ensures longer { begin <ℤ result }
     ensures to { int_min side other ≤ℤ result }
 {
-    let end = lesser(side, other);
+    let end = side.min(other);
     if begin < end {
         return end;
     }
@@ -93,8 +92,8 @@ fn end_of(begin: i64, side: i64, other: i64) -> i64
 fn part_in(tile: Rect, rect: Rect) -> Rect
     ensures { IsPartIn tile rect result }
 {
-    let x1 = greater(rect.x1, tile.x1);
-    let y1 = greater(rect.y1, tile.y1);
+    let x1 = rect.x1.max(tile.x1);
+    let y1 = rect.y1.max(tile.y1);
     let x2 = end_of(x1, rect.x2, tile.x2);
     let y2 = end_of(y1, rect.y2, tile.y2);
     Rect { x1, y1, x2, y2 }

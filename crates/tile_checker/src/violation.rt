@@ -1,3 +1,5 @@
+ghost use Rattle.std.specs.Prelude.{◌≡◌, slice_get};
+
 use or_geom::Shape;
 
 /// What breaks a rule: the rule's number, from 0, in the technology's list; the shape that breaks it; and for a space rule
@@ -7,4 +9,11 @@ pub struct Violation {
     pub rule: u32,
     pub first: Shape,
     pub second: Option<Shape>,
+}
+
+/// The first violation of a report, none exactly where the report is empty.
+pub fn first_fault(list: &[Violation]) -> Option<Violation>
+    ensures { result ≡ slice_get list.now 0 }
+{
+    list.first().copied()
 }

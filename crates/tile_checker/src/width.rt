@@ -15,8 +15,8 @@ use crate::frame::Frame;
 use crate::minimum::Minimum;
 use crate::sides::covered_box;
 use crate::violation::Violation;
-use or_geom::{Memory, Point, Rect};
-use shape_bins::{Bins, holds};
+use or_geom::{Memory, Point, Rect, holds};
+use shape_bins::Bins;
 use std::alloc::Global;
 
 /// An area that the layer covers, with both sides at least `least`.

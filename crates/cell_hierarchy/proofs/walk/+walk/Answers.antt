@@ -13,7 +13,8 @@ use Rattle.cell_hierarchy.proofs.BelowLaws.{whole_abs}
 use Rattle.cell_hierarchy.proofs.GrowsLaws.{grows_on, grows_end}
 use Rattle.cell_hierarchy.proofs.NearLaws.{short_within, short_near}
 use Rattle.cell_hierarchy.proofs.StepLaws.{near_in}
-use Rattle.cell_hierarchy.proofs.WalkLaws.{walked_read, live_at, so_far_begin, so_far_on, cell_done, item_placed, target_of, element_writable, reference_done, array_done, other_done, item_done, array_as}
+use Rattle.cell_hierarchy.proofs.WalkLaws.{walked_read, live_at, so_far_begin, so_far_on, cell_done, item_placed}
+use Rattle.cell_hierarchy.proofs.WalkedElementLaws.{target_of, element_writable, reference_done, array_done, other_done, item_done, array_as}
 use Rattle.cell_hierarchy.proofs.walk.+walk.Goals as goal
 
 pub add_cell-add_own-requires-clause-own : goal.add_cell-add_own-requires-clause-own

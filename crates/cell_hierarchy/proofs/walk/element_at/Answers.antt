@@ -1,5 +1,5 @@
 use Rattle.std.proofs.Common.{◌<◌, length, rules}
-use Rattle.cell_hierarchy.proofs.WalkLaws.{cell_read, targets_within, elements_within, element_read}
+use Rattle.cell_hierarchy.proofs.WalkedElementLaws.{cell_read, targets_within, elements_within, element_read}
 use Rattle.cell_hierarchy.proofs.walk.element_at.Goals as goal
 
 pub offset_bounds-as_slice-n : goal.offset_bounds-as_slice-n

@@ -1,10 +1,9 @@
-use Rattle.std.proofs.Common.{◌≡◌, ◌≢◌, ◌≤◌, ℕ, List, [], length, Option, Some, refl, sym, subst, ◌∙◌}
+use Rattle.std.proofs.Common.{◌≡◌, ◌≢◌, ◌≤◌, List, [], length, Some, refl, sym, subst}
 use Rattle.std.specs.Prelude.{slice_get}
 use Rattle.std.proofs.lemmas.Option.{slice_get_read}
 use Rattle.std.proofs.lemmas.Result.{err_from_is_err_and}
 use Rattle.tech_rules.specs.declared.tech.Device.{Device}
 use Rattle.tech_rules.specs.declared.tech.RoleName.{RoleName}
-use Rattle.device_lvs.specs.declared.difference.DeviceDiff.{DeviceDiff}
 use Rattle.device_lvs.specs.RoleSteps.{leaf_files, AreComparedBelow, HasEarlierCell}
 use Rattle.device_lvs.proofs.RoleLaws.{compared_more, compared_again, faults, answers, not_empty}
 use Rattle.device_lvs.proofs.roles.devices.Goals as goal
@@ -12,7 +11,7 @@ use Rattle.device_lvs.proofs.roles.devices.Goals as goal
 pub loop-place-preserved-then-has_earlier_cell : goal.loop-place-preserved-then-has_earlier_cell
 loop-place-preserved-then-has_earlier_cell c =
     let place = c.loop-place.place in
-    let again : HasEarlierCell c.args.tech.now.roles place = subst (λ (l : List RoleName). HasEarlierCell l place) c.as_slice-roles.ensures (c.if-has_earlier_cell.ensures refl) in
+    let again : HasEarlierCell c.args.tech.now.roles place = subst (λ (l : List RoleName). HasEarlierCell l place) c.as_slice-roles.ensures (c.if-has_earlier_cell.ensures.0 refl) in
     compared_again (leaf_files c.args.tech.now c.args.lib.now c.args.deck.now) place c.loop-place.first again c.loop-place.invariant
 
 pub loop-place-preserved : goal.loop-place-preserved

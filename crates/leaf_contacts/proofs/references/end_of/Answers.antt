@@ -1,6 +1,6 @@
 use Rattle.std.proofs.Common.{◌∙◌, ℤ, ap, subst, sym, w64, to_z, of_z, FitsSigned}
 use Rattle.std.proofs.lemmas.Int.{to_z-of_z}
-use Rattle.leaf_contacts.proofs.ArrayLaws.{way_is, way_fits, end_is, end_fits}
+use Rattle.cell_hierarchy.proofs.StepLaws.{way_is, way_fits, end_is, end_fits}
 use Rattle.leaf_contacts.proofs.references.end_of.Goals as goal
 
 pub overflow_mul-way : goal.overflow_mul-way

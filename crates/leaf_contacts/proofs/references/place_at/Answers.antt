@@ -1,7 +1,8 @@
 use Rattle.std.proofs.Common.{◌∙◌, sym, subst, ◌^◌, ℤ, w32, FitsSigned}
 use Rattle.or_geom.specs.declared.place.Place.{Place}
 use Rattle.or_geom.specs.Place.{IsWithin}
-use Rattle.leaf_contacts.proofs.ArrayLaws.{across_x, across_y, down_x, down_y, end_x, end_y, near_in, place_is, way_seen, short_seen, end_seen, kept}
+use Rattle.cell_hierarchy.proofs.StepLaws.{way_seen, short_seen, end_seen, kept}
+use Rattle.leaf_contacts.proofs.ArrayLaws.{across_x, across_y, down_x, down_y, end_x, end_y, near_in, place_is}
 use Rattle.leaf_contacts.proofs.references.place_at.Goals as goal
 
 pub end_of-across_x-requires-clause-way : goal.end_of-across_x-requires-clause-way

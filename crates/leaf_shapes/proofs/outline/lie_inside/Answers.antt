@@ -1,7 +1,7 @@
 use Rattle.std.proofs.Common.{refl}
 use Rattle.std.proofs.lemmas.Option.{slice_get_read}
 use Rattle.or_geom.specs.declared.shape.Shape.{Shape}
-use Rattle.shape_bins.specs.Meets.{HoldsRect}
+use Rattle.or_geom.specs.Containing.{HoldsRect}
 use Rattle.leaf_shapes.specs.Outline.{IsWireLayer}
 use Rattle.leaf_shapes.proofs.PlaceLaws.{each_more, each_contained}
 use Rattle.leaf_shapes.proofs.outline.lie_inside.Goals as goal

@@ -1,5 +1,5 @@
 use Rattle.or_geom.specs.declared.shape.Shape.{Shape}
-use Rattle.shape_bins.specs.Meets.{HoldsRect}
+use Rattle.or_geom.specs.Containing.{HoldsRect}
 use Rattle.leaf_shapes.specs.Outline.{IsWireLayer}
 use Rattle.leaf_shapes.proofs.PlaceLaws.{EachBefore}
 use Rattle.leaf_shapes.proofs.outline.lie_inside.Given as goal

@@ -1,4 +1,3 @@
-use Rattle.std.proofs.Common.{arith}
 use Rattle.shape_bins.proofs.FullLaws.{walk_goes_on, walk_ends}
 use Rattle.shape_bins.proofs.numbering.give_all.Goals as goal
 

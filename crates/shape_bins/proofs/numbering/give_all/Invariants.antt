@@ -1,5 +1,5 @@
 use Rattle.std.proofs.Common.{◌-◌, ◌≤◌, length}
-use Rattle.shape_bins.specs.Full.{AreFull, AreLeavesWithin}
+use Rattle.shape_bins.specs.Full.{AreFull}
 use Rattle.shape_bins.proofs.FullLaws.{IsGivenBefore}
 use Rattle.shape_bins.proofs.numbering.give_all.Given as goal
 

@@ -1,6 +1,5 @@
-use Rattle.std.proofs.Common.{◌≡◌, ℕ, ◌<◌, length, get_or, refl, sym, ap, subst, ◌∙◌, arith}
-use Rattle.std.specs.Prelude.{Option, None, Some}
-use Rattle.shape_bins.specs.Numbers.{HasNumber}
+use Rattle.std.proofs.Common.{◌≡◌, ℕ, get_or, refl, sym, subst}
+use Rattle.std.specs.Prelude.{None, Some}
 use Rattle.shape_bins.proofs.NumberLaws.{gives_none, one_given, none_there}
 use Rattle.shape_bins.proofs.numbering.give_one.Goals as goal
 

@@ -1,9 +1,8 @@
-use Rattle.std.proofs.Common.{◌≡◌, ◌+◌, ◌<◌, ℕ, length, get_or, refl, sym, ap, subst, ◌∙◌, arith, Some}
-use Rattle.std.specs.Prelude.{slice_get}
-use Rattle.std.proofs.lemmas.Option.{slice_get_read, same_Some}
+use Rattle.std.proofs.Common.{◌≡◌, ◌+◌, ◌<◌, length, get_or, refl, sym, ap, subst, ◌∙◌, arith}
+use Rattle.std.proofs.lemmas.Option.{slice_get_read}
 use Rattle.shape_bins.specs.declared.node.Node.{Node}
 use Rattle.shape_bins.specs.Full.{AreLeavesNumbered}
-use Rattle.shape_bins.proofs.FullLaws.{IsSized, size_at, parts_full, part_goes_on, node_size}
+use Rattle.shape_bins.proofs.FullLaws.{parts_full, part_goes_on, node_size}
 use Rattle.shape_bins.proofs.numbering.is_full.Goals as goal
 
 pub overflow_add-end : goal.overflow_add-end

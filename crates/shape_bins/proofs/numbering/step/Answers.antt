@@ -1,7 +1,5 @@
-use Rattle.std.proofs.Common.{◌≡◌, ◌+◌, ◌<◌, ℕ, Bool, true, false, List, length, get_or, set, refl, sym, ap, subst, ◌∙◌, arith, Some}
-use Rattle.std.specs.Prelude.{slice_get}
+use Rattle.std.proofs.Common.{length, refl, arith}
 use Rattle.std.proofs.lemmas.Option.{slice_get_read}
-use Rattle.shape_bins.specs.declared.node.Node.{Node}
 use Rattle.shape_bins.proofs.FullLaws.{size_at, full_kept, full_set, leaf_full, passed_step, full_step, leaf_step, inner_step}
 use Rattle.shape_bins.proofs.numbering.step.Goals as goal
 use Rattle.shape_bins.proofs.numbering.step.Goals.{then-full-at-via-then-full-at, then-full-at-via-else-full-at+then-not-is_wanted}

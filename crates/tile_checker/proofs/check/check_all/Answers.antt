@@ -1,5 +1,4 @@
-use Rattle.std.proofs.Common.{sym, subst, arith, List}
-use Rattle.std.proofs.lemmas.Result.{IfOk-weaker}
+use Rattle.std.proofs.Common.{sym, subst, List}
 use Rattle.or_geom.specs.declared.shape.Shape.{Shape}
 use Rattle.or_geom.specs.declared.shape.Rect.{Rect}
 use Rattle.tile_checker.specs.Tiles.{AreTiles}

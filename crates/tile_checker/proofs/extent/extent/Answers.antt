@@ -1,8 +1,3 @@
-use Rattle.std.proofs.Common.{sym, ap, ◌∙◌, Some}
-use Rattle.std.proofs.lemmas.Option.{slice_get-get_or}
-use Rattle.or_geom.specs.declared.shape.Shape.{Shape}
-use Rattle.or_geom.proofs.ListLaws.{contained_at}
-use Rattle.tile_checker.proofs.PlaceLaws.{reachable_in}
 use Rattle.tile_checker.proofs.TileLaws.{area_goes_on, area_ends}
 use Rattle.tile_checker.proofs.extent.extent.Goals as goal
 

@@ -1,4 +1,3 @@
-use Rattle.std.proofs.Common.{arith}
 use Rattle.std.proofs.lemmas.Result.{on_ok_weaker}
 use Rattle.tile_checker.proofs.OwnerLaws.{one_near, both_near}
 use Rattle.tile_checker.proofs.in_tile.add_of_layers.Goals as goal

@@ -1,4 +1,4 @@
-use Rattle.std.proofs.Common.{refl, sym, ◌≡◌, get_or}
+use Rattle.std.proofs.Common.{refl, sym}
 use Rattle.tile_checker.proofs.ReportLaws.{minimums}
 use Rattle.tile_checker.proofs.FirstLaws.{own_passes, own_goes_on, own_share}
 use Rattle.tile_checker.proofs.share.share_of.Goals as goal

@@ -1,6 +1,6 @@
 use Rattle.std.proofs.Common.{refl, arith}
 use Rattle.std.proofs.lemmas.Int.{ints}
-use Rattle.leaf_shapes.proofs.outline.holds.Goals as goal
+use Rattle.or_geom.proofs.containing.holds.Goals as goal
 
 pub returns : goal.returns
 returns c = (λ yes. record { left = omega (arith, ints); right = omega (arith, ints); low = omega (arith, ints); high = omega (arith, ints) }, λ m. refl)
