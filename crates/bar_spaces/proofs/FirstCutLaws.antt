@@ -24,7 +24,7 @@ use Rattle.local_report.proofs.SpaceLaws.{grown_rect}
 use Rattle.good_places.specs.Leaves.{zone_of, ReachesNeighboursOnly}
 use Rattle.good_places.specs.Seen.{AreCompared}
 use Rattle.good_places.specs.Windows.{IsWindowOf, IsWrittenPlan}
-use Rattle.good_places.specs.Plain.{IsOfWires}
+use Rattle.leaf_shapes.specs.Outline.{IsWireLayer}
 use Rattle.good_places.proofs.SeenLaws.{space_seen_with}
 use Rattle.good_places.proofs.WindowLaws.{leaves_have_windows}
 use Rattle.good_wires.specs.Drawn.{IsDrawnWire}
@@ -46,7 +46,7 @@ module _ (Flat : List ℕ → Shape → Type 0) (rules : List Rule) (plan : Orga
   abbrev cut : ℕ
   cut = slice_index wire.cuts 0
 
-  of_wires : IsOfWires wire cut
+  of_wires : IsWireLayer wire cut
   of_wires = inr (flat.drawn.three 0 (omega arith))
 
   -- no cut of wires reaches into a leaf shape, grown
@@ -67,7 +67,7 @@ module _ (Flat : List ℕ → Shape → Type 0) (rules : List Rule) (plan : Orga
       let w = leaves_have_windows plan kit bit wire f reach p flat.drawn.laid short o.leaf o.place o.has o.stands in
       let c = windows w.other w.is in
       let z = w.there c.floorplan c.flat.drawn.laid in
-      let own : IsOfWires wire a.layer = subst (IsOfWires wire) (sym on) of_wires in
+      let own : IsWireLayer wire a.layer = subst (IsWireLayer wire) (sym on) of_wires in
       let compared : AreCompared Flat rules plan w.other kit (Alike bit) f c.floorplan wire by reach (zone_of plan kit f o.leaf o.place) z.0 c.shapes =
       record { laid = flat.drawn.laid; laid_there = c.flat.drawn.laid; clean = c.clean; alike = z.1; passes = flat.passes; passes_there = c.flat.passes } in
       space_seen_with Flat rules plan w.other kit (Alike bit) f c.floorplan wire by reach (zone_of plan kit f o.leaf o.place) z.0 c.shapes to compared (IsDrawnWire w.other kit wire c.tracks c.floorplan) (IsDrawnWire plan kit wire tracks f) min a b some near (at ∙ sym on)

@@ -21,7 +21,7 @@ use Rattle.local_report.specs.Local.{KeepsRule}
 use Rattle.local_report.proofs.CleanLaws.{space_back, joined_itself}
 use Rattle.good_places.specs.Beside.{HaveOneLeftPart}
 use Rattle.good_places.specs.Leaves.{ReachesNeighboursOnly}
-use Rattle.good_places.specs.Plain.{IsOfWires}
+use Rattle.leaf_shapes.specs.Outline.{IsWireLayer}
 use Rattle.good_places.specs.Windows.{IsWindowOf, IsWrittenPlan}
 use Rattle.good_places.proofs.NumberLaws.{banks_before}
 use Rattle.good_wires.specs.Spaced.{AreSpaced}
@@ -85,7 +85,7 @@ module _ (Flat : List ℕ → Shape → Type 0) (rules : List Rule) (plan : Orga
   abbrev metal : ℕ
   metal = slice_index wire.metals 0
 
-  of_wires : IsOfWires wire metal
+  of_wires : IsWireLayer wire metal
   of_wires = inl listed
 
   abbrev other : Organization

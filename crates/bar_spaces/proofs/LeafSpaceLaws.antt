@@ -16,7 +16,7 @@ use Rattle.macro_layout.specs.LayoutKit.{LayoutKit}
 use Rattle.macro_layout.specs.Places.{Floorplan}
 use Rattle.macro_layout.specs.Floorplan.{Tracks}
 use Rattle.macro_layout.specs.Layout.{IsOfLeaf}
-use Rattle.local_report.specs.Moved.{IsMoved, OverlapsMoved}
+use Rattle.local_report.specs.Moved.{IsMovedBy, OverlapsMoved}
 use Rattle.local_report.specs.Seen.{HasPartner}
 use Rattle.local_report.specs.Alike.{HasImage}
 use Rattle.local_report.specs.Local.{IsSpaceSeen}
@@ -25,7 +25,7 @@ use Rattle.good_places.specs.Beside.{HaveOneLeftPart}
 use Rattle.good_places.specs.Leaves.{Zone, zone_of, ReachesNeighboursOnly, LiesNear}
 use Rattle.good_places.specs.Seen.{AreCompared, IsMovedZone}
 use Rattle.good_places.specs.Windows.{IsWindowOf, IsWrittenPlan}
-use Rattle.good_places.specs.Plain.{IsOfWires}
+use Rattle.leaf_shapes.specs.Outline.{IsWireLayer}
 use Rattle.good_places.proofs.LaidLaws.{in_zone}
 use Rattle.good_places.proofs.SeenLaws.{space_seen_with}
 use Rattle.good_places.proofs.WindowLaws.{leaves_have_windows}
@@ -47,7 +47,7 @@ pub record AreFrames (dx dy : ℤ) (there frame : Rect) : Type 0 where
   pub right : frame.x2 ≡ there.x2 +ℤ dx
   pub high : frame.y2 ≡ there.y2 +ℤ dy
 
-pub frames : (min dx dy : ℤ) (a image frame there : Rect) → IsMoved dx dy image a → IsGrown min a frame → IsGrown min image there → AreFrames dx dy there frame
+pub frames : (min dx dy : ℤ) (a image frame there : Rect) → IsMovedBy dx dy image a → IsGrown min a frame → IsGrown min image there → AreFrames dx dy there frame
 frames min dx dy a image frame there at g h = record {
   left = let e = at.x1 in let p = g.left in let q = h.left in omega (arith, ints, e, p, q);
   low = let e = at.y1 in let p = g.low in let q = h.low in omega (arith, ints, e, p, q);
@@ -121,14 +121,14 @@ module _ (Flat : List ℕ → Shape → Type 0) (rules : List Rule) (plan : Orga
   abbrev metal : ℕ
   metal = slice_index wire.metals 0
 
-  of_wires : IsOfWires wire metal
+  of_wires : IsWireLayer wire metal
   of_wires = inl listed
 
   min_short : min ≤ℤ reach
   min_short = omega (arith, ints, near, over)
 
   inside : (a : Shape) → a.layer ≡ metal → (o : IsOfLeaf plan kit (Alike bit) f IsShapeTaken Flat a) → LiesNear (pos 0) (zone_of plan kit f o.leaf o.place) a.rect
-  inside a on o = in_zone plan kit wire f (pos 0) flat.drawn.laid o.leaf o.place o.taken.inner a o.has o.stands (flat.inside o.leaf o.taken.inner o.has o.taken.has (subst (IsOfWires wire) (sym on ∙ o.taken.moved.layer) of_wires)) o.taken.moved
+  inside a on o = in_zone plan kit wire f (pos 0) flat.drawn.laid o.leaf o.place o.taken.inner a o.has o.stands (flat.inside o.leaf o.taken.inner o.has o.taken.has (subst (IsWireLayer wire) (sym on ∙ o.taken.moved.layer) of_wires)) o.taken.moved
 
   pub leaf_seen : (a b : Shape) → a.layer ≡ metal → b.layer ≡ metal → IsOfLeaf plan kit (Alike bit) f IsShapeTaken Flat a → Contains to b → AreNear min a.rect b.rect → IsSpaceSeen rules min to a b
   leaf_seen a b on at o shape close =
@@ -136,7 +136,7 @@ module _ (Flat : List ℕ → Shape → Type 0) (rules : List Rule) (plan : Orga
       let c = windows w.other w.is in
       let z = w.there c.floorplan c.flat.drawn.laid in
       let here = zone_of plan kit f o.leaf o.place in
-      let own : IsOfWires wire a.layer = subst (IsOfWires wire) (sym on) of_wires in
+      let own : IsWireLayer wire a.layer = subst (IsWireLayer wire) (sym on) of_wires in
       let compared : AreCompared Flat rules plan w.other kit (Alike bit) f c.floorplan wire by reach here z.0 c.shapes =
       record { laid = flat.drawn.laid; laid_there = c.flat.drawn.laid; clean = c.clean; alike = z.1; passes = flat.passes; passes_there = c.flat.passes } in
       let pair : ArePaired plan w.other kit wire f c.floorplan reach z.1.left z.1.down here z.0 =

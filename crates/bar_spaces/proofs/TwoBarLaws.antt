@@ -21,7 +21,7 @@ use Rattle.macro_layout.specs.Layout.{IsOfLeaf}
 use Rattle.macro_layout.specs.Wires.{trunk_x, columns_end}
 use Rattle.good_places.specs.Beside.{HaveOneLeftPart}
 use Rattle.good_places.specs.Leaves.{Zone, zone_of, LiesNear, HasLeavesAndWires}
-use Rattle.good_places.specs.Plain.{IsOfWires}
+use Rattle.leaf_shapes.specs.Outline.{IsWireLayer}
 use Rattle.good_places.proofs.LaidLaws.{in_zone}
 use Rattle.good_wires.specs.Drawn.{IsDrawnMemory, IsDrawnWire}
 use Rattle.good_wires.specs.Kept.{AllDrawInside}
@@ -45,10 +45,10 @@ module _ (Flat : List ℕ → Shape → Type 0) (plan : Organization) (kit : Lay
     bank : (b : ℕ) → IsBankZone plan kit wire tracks f m b z → (z.right +ℤ wire.space) ≤ℤ trunk_x plan kit wire f
     bank b i = let e = banks_end plan kit wire tracks f m b i.below in let r = i.right in omega (arith, ints, e, r)
 
-  pub leaf_inside : (layer : ℕ) → IsOfWires wire layer → (s : Shape) → s.layer ≡ layer → (o : IsOfLeaf plan kit bits f IsShapeTaken Flat s) → LiesNear (pos 0) (zone_of plan kit f o.leaf o.place) s.rect
-  leaf_inside layer of s on o = in_zone plan kit wire f (pos 0) m.laid o.leaf o.place o.taken.inner s o.has o.stands (insides o.leaf o.taken.inner o.has o.taken.has (subst (IsOfWires wire) (sym on ∙ o.taken.moved.layer) of)) o.taken.moved
+  pub leaf_inside : (layer : ℕ) → IsWireLayer wire layer → (s : Shape) → s.layer ≡ layer → (o : IsOfLeaf plan kit bits f IsShapeTaken Flat s) → LiesNear (pos 0) (zone_of plan kit f o.leaf o.place) s.rect
+  leaf_inside layer of s on o = in_zone plan kit wire f (pos 0) m.laid o.leaf o.place o.taken.inner s o.has o.stands (insides o.leaf o.taken.inner o.has o.taken.has (subst (IsWireLayer wire) (sym on ∙ o.taken.moved.layer) of)) o.taken.moved
 
-  pub leaf_ends : (layer : ℕ) → IsOfWires wire layer → (s : Shape) → s.layer ≡ layer → (o : IsOfLeaf plan kit bits f IsShapeTaken Flat s) → (s.rect.x2 +ℤ wire.space) ≤ℤ trunk_x plan kit wire f
+  pub leaf_ends : (layer : ℕ) → IsWireLayer wire layer → (s : Shape) → s.layer ≡ layer → (o : IsOfLeaf plan kit bits f IsShapeTaken Flat s) → (s.rect.x2 +ℤ wire.space) ≤ℤ trunk_x plan kit wire f
   leaf_ends layer of s on o =
       let l = leaf_inside layer of s on o in
       let r = l.right in

@@ -19,7 +19,7 @@ use Rattle.macro_layout.specs.Floorplan.{Tracks}
 use Rattle.macro_layout.specs.Wires.{trunk_x}
 use Rattle.good_places.specs.Beside.{HaveOneLeftPart}
 use Rattle.good_places.specs.Leaves.{HasLeavesAndWires}
-use Rattle.good_places.specs.Plain.{IsOfWires}
+use Rattle.leaf_shapes.specs.Outline.{IsWireLayer}
 use Rattle.good_wires.specs.Spaced.{AreSpaced}
 use Rattle.good_wires.specs.Drawn.{IsDrawnMemory, IsDrawnWire}
 use Rattle.good_wires.specs.Kept.{AllDrawInside}
@@ -83,7 +83,7 @@ module _ (Flat : List ℕ → Shape → Type 0) (plan other : Organization) (kit
   abbrev cut : ℕ
   cut = slice_index wire.cuts 0
 
-  of_wires : IsOfWires wire cut
+  of_wires : IsWireLayer wire cut
   of_wires = inr (n.three 0 (omega arith))
 
   some_cut : pos 1 ≤ℤ wire.cut

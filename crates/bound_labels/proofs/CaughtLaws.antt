@@ -25,7 +25,7 @@ use Rattle.sram_netlist.specs.Netlist.{role, ports}
 use Rattle.good_nets.specs.Drawn.{BindsFor}
 use Rattle.good_nets.proofs.MovedLaws.{point_moved}
 use Rattle.good_nets.proofs.NetLaws.{nets_on}
-use Rattle.row_nets.specs.Rows.{IsOfNet}
+use Rattle.row_nets.specs.Rows.{IsRowOfNet}
 use Rattle.kit_nets.specs.Bound.{BindsForPort}
 use Rattle.kit_nets.specs.StatedParts.{Source, Standing, leaf_lists}
 use Rattle.kit_nets.proofs.PartsLaws.{stands_plain}
@@ -41,7 +41,7 @@ module _ (connections : List Connect) (s : Source) (flat : FlatLists) (labels : 
     pub under : IsUnder (record { layer = label.layer; at = placed i.place label.at }) shape
     pub row : RowPin
     pub listed : Contains rows row
-    pub of : IsOfNet s.plan s.kit.cell s.bits rows row n
+    pub of : IsRowOfNet s.plan s.kit.cell s.bits rows row n
     pub u : Shape
     pub binds : Binds flat.shapes (record { layer = label.layer; at = placed i.place label.at }) u
     pub named : BindsFor flat.shapes labels row u

@@ -29,7 +29,7 @@ use Rattle.good_nets.specs.Parts.{IsShapeOf, IsFree, IsOutside}
 use Rattle.good_nets.proofs.CellLaws.{has_image, net_moved}
 use Rattle.good_nets.proofs.NetLaws.{nets_on, net_back}
 use Rattle.good_places.specs.Leaves.{zone_of, LiesNear}
-use Rattle.good_places.specs.Plain.{IsOfWires}
+use Rattle.leaf_shapes.specs.Outline.{IsWireLayer}
 use Rattle.joined_nets.proofs.WireNetLaws.{item_there, place_below}
 use Rattle.kit_nets.specs.StatedParts.{Source, Standing, leaf_lists, stated_parts}
 use Rattle.kit_nets.specs.OuterHubs.{AreOuterHubs}
@@ -80,10 +80,10 @@ module _ (tech : Tech) (s : Source) (flat : FlatLists) (d : IsWiredMacro tech s 
     inner : Shape
     shape : Shape
     is : IsShapeOf tech.connects (stated_parts s) i inner shape
-    on : IsOfWires s.wire shape.layer
+    on : IsWireLayer s.wire shape.layer
     bound : Bound i n inner shape
 
-  metal_of_wires : (on : Metal) → IsOfWires s.wire (metal_layer s.wire on)
+  metal_of_wires : (on : Metal) → IsWireLayer s.wire (metal_layer s.wire on)
   metal_of_wires M1 = of_metal tech s flat d inside 0 (omega arith) (metal_layer s.wire M1) refl
   metal_of_wires M2 = of_metal tech s flat d inside 1 (omega arith) (metal_layer s.wire M2) refl
   metal_of_wires M3 = of_metal tech s flat d inside 2 (omega arith) (metal_layer s.wire M3) refl
@@ -102,7 +102,7 @@ module _ (tech : Tech) (s : Source) (flat : FlatLists) (d : IsWiredMacro tech s 
         inner = inner;
         shape = image.0;
         is = is;
-        on = subst (IsOfWires s.wire) (sym image.1.layer) (metal_of_wires drawn.on);
+        on = subst (IsWireLayer s.wire) (sym image.1.layer) (metal_of_wires drawn.on);
         bound = bound_port tech.connects s flat labels rows (array_hub s (data_hub s outer)) m i port n inner image.0 on drawn.is.bound image.1 ((stated_are_parts tech.connects s flat k.by).stands i inner image.0 is);
       }
 
@@ -165,7 +165,7 @@ module _ (tech : Tech) (s : Source) (flat : FlatLists) (d : IsWiredMacro tech s 
         let q = other_pin far.i far.port n far.on in
         let agree = labels_agree tech.connects s flat labels rows (array_hub s (data_hub s outer)) m r.i far.i n r.inner q.inner r.p q.shape r.bound q.bound in
         free_net tech.connects (stated_parts s) flat.shapes (stated_are_parts tech.connects s flat k.by) apart f.j r.bound.u q.bound.u (record { inner = f.x; is = f.is; free = free }) agree
-        (λ g. apart_from q.bound.u.rect q.shape.rect (placed far.i.place q.bound.label.at) (lies_in_row tech s flat d inside f.j f.c f.leaf_is g.inner q.bound.u g.is (subst (IsOfWires s.wire) (q.bound.under.on ∙ sym q.bound.binds.under.on) q.on))
+        (λ g. apart_from q.bound.u.rect q.shape.rect (placed far.i.place q.bound.label.at) (lies_in_row tech s flat d inside f.j f.c f.leaf_is g.inner q.bound.u g.is (subst (IsWireLayer s.wire) (q.bound.under.on ∙ sym q.bound.binds.under.on) q.on))
         (lies_in tech s flat d inside far.i q.inner q.shape q.is q.on) q.bound.binds.under.holds q.bound.under.holds)
       where
         apart_from : (v t : Rect) (at : Point) → LiesNear (pos 0) (zone_of s.plan s.kit s.floorplan (LogicAt f.c) f.j.place) v → LiesNear (pos 0) (zone_of s.plan s.kit s.floorplan far.i.leaf far.i.place) t → IsIn v at → IsIn t at → ⊥

@@ -29,7 +29,7 @@ use Rattle.good_nets.specs.Parts.{IsShapeOf}
 use Rattle.good_nets.proofs.CellLaws.{has_image}
 use Rattle.good_nets.proofs.NetLaws.{nets_on}
 use Rattle.good_places.specs.Leaves.{zone_of, LiesNear}
-use Rattle.good_places.specs.Plain.{IsOfWires}
+use Rattle.leaf_shapes.specs.Outline.{IsWireLayer}
 use Rattle.joined_nets.proofs.WireNetLaws.{place_below}
 use Rattle.kit_nets.specs.StatedParts.{Source, Standing, stated_parts}
 use Rattle.kit_nets.specs.OuterHubs.{AreOuterHubs}
@@ -121,7 +121,7 @@ module _ (tech : Tech) (s : Source) (flat : FlatLists) (d : IsWiredMacro tech s 
     u_on : b.u.layer ≡ slice_index s.wire.metals 1
     u_on = same_layer tech.connects s flat labels rows (array_hub s (data_hub s outer)) m here n (pin_of s (LogicAt cell) port 1) p b conductor p_there
 
-    u_of_wires : IsOfWires s.wire b.u.layer
+    u_of_wires : IsWireLayer s.wire b.u.layer
     u_of_wires = of_metal tech s flat d inside 1 (omega arith) b.u.layer u_on
 
     p_zone : LiesNear (pos 0) (zone_of s.plan s.kit s.floorplan (LogicAt cell) (row_place tech s flat d inside before)) p.rect

@@ -20,7 +20,7 @@ use Rattle.macro_layout.specs.Floorplan.{column_channel_y}
 use Rattle.macro_layout.specs.Wires.{trunk_x, ground_x}
 use Rattle.good_nets.specs.Parts.{IsShapeOf}
 use Rattle.good_places.specs.Leaves.{zone_of, LiesNear}
-use Rattle.good_places.specs.Plain.{IsOfWires}
+use Rattle.leaf_shapes.specs.Outline.{IsWireLayer}
 use Rattle.good_places.proofs.LaidLaws.{in_zone}
 use Rattle.good_places.proofs.RowLaws.{total_split}
 use Rattle.good_wires.proofs.ClearLaws.{write_high, column_high}
@@ -61,8 +61,8 @@ side_of (b ∷ before) x after y (inr later) = elim (side_of before x after y la
 
 module _ (tech : Tech) (s : Source) (flat : FlatLists) (d : IsWiredMacro tech s flat) (inside : AreLeavesInside s) where
   -- a shape of a leaf instance on a layer of wires lies in its zone
-  pub lies_in : (i : Standing s) (inner u : Shape) → IsShapeOf tech.connects (stated_parts s) i inner u → IsOfWires s.wire u.layer → LiesNear (pos 0) (zone_of s.plan s.kit s.floorplan i.leaf i.place) u.rect
-  lies_in i inner u is on = in_zone s.plan s.kit s.wire s.floorplan (pos 0) d.memory.laid i.leaf i.place inner u i.has i.stands (inside i.leaf inner i.has is.listed (subst (IsOfWires s.wire) is.moved.layer on)) is.moved
+  pub lies_in : (i : Standing s) (inner u : Shape) → IsShapeOf tech.connects (stated_parts s) i inner u → IsWireLayer s.wire u.layer → LiesNear (pos 0) (zone_of s.plan s.kit s.floorplan i.leaf i.place) u.rect
+  lies_in i inner u is on = in_zone s.plan s.kit s.wire s.floorplan (pos 0) d.memory.laid i.leaf i.place inner u i.has i.stands (inside i.leaf inner i.has is.listed (subst (IsWireLayer s.wire) is.moved.layer on)) is.moved
 
   same : (z : ℤ) → z ≤ℤ z
   same z = omega (arith, ints)
@@ -163,11 +163,11 @@ module _ (tech : Tech) (s : Source) (flat : FlatLists) (d : IsWiredMacro tech s 
       at x1 x t w space a b c e = omega (arith, ints, a, b, c, e)
 
   -- a shape on a metal is on a layer of wires
-  pub of_metal : (metal : ℕ) → metal < 4 → (layer : ℕ) → layer ≡ slice_index s.wire.metals metal → IsOfWires s.wire layer
-  of_metal metal lt layer on = inl (subst (Contains s.wire.metals) (sym on) (d.first.metals metal lt))
+  pub of_metal : (metal : ℕ) → metal < 4 → (layer : ℕ) → layer ≡ slice_index s.wire.metals metal → IsWireLayer s.wire layer
+  of_metal metal lt layer on = inl (subst (Contains s.wire.metals) (sym on) (d.laid.first.metals metal lt))
 
   -- what a leaf instance of the row draws on a layer of wires
-  pub lies_in_row : (i : Standing s) (c : LogicCell) (e : i.leaf ≡ LogicAt c) (inner u : Shape) → IsShapeOf tech.connects (stated_parts s) i inner u → IsOfWires s.wire u.layer → LiesNear (pos 0) (zone_of s.plan s.kit s.floorplan (LogicAt c) i.place) u.rect
+  pub lies_in_row : (i : Standing s) (c : LogicCell) (e : i.leaf ≡ LogicAt c) (inner u : Shape) → IsShapeOf tech.connects (stated_parts s) i inner u → IsWireLayer s.wire u.layer → LiesNear (pos 0) (zone_of s.plan s.kit s.floorplan (LogicAt c) i.place) u.rect
   lies_in_row i c e inner u is on = subst (λ (l : LeafInstance). LiesNear (pos 0) (zone_of s.plan s.kit s.floorplan l i.place) u.rect) e (lies_in i inner u is on)
 
   module _ (before after : List LogicCell) (cell : LogicCell) (row : logic_cells s.plan ≡ before ++ (cell ∷ after)) where

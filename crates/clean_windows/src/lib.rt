@@ -1,4 +1,5 @@
-//! The windows of a good kit: small memories, of which each is assembled and nothing is wrong with it.
+//! A law of good kits: each window of a memory, a small memory in which leaf cells stand side by side as in the large one,
+//! is assembled, breaks no rule, and is joined as its netlist says.
 #![tactic(auto)]
 
 ghost use Rattle.clean_windows.specs.Sound.{GoodKitsHaveCleanWindows};

@@ -22,8 +22,8 @@ use Rattle.port_lists.specs.Held.Held.{Stored}
 use Rattle.view_cover.proofs.BitLaws.{stored_inside}
 use Rattle.view_cover.proofs.KitLaws.{kit_layers}
 use Rattle.view_cover.proofs.LayerLaws.{IsFirst}
-use Rattle.good_places.specs.Plain.{IsOfWires}
-use Rattle.good_places.specs.Stated.{AreFirstWires}
+use Rattle.leaf_shapes.specs.Outline.{IsWireLayer}
+use Rattle.leaf_shapes.specs.FirstLayers.{AreFirstLayers}
 use Rattle.drawn_memories.proofs.ApartLaws.{place_of}
 
 -- a layer with the numbers is found
@@ -49,7 +49,7 @@ first_found layers index layer first at =
     is ∙ ap (λ (k : ℕ). Some k) (first layer (position_or_len p layers) at is)
 
 module _ (kit : Kit) (is : IsKit kit) where
-  all_first : (index : ℕ) → IsOfWires is.wire index → IsFirst kit.tech.layers index
+  all_first : (index : ℕ) → IsWireLayer is.wire index → IsFirst kit.tech.layers index
   all_first index (inl metal) =
       let at = place_of is.wire.metals index metal in
       let lt = slice_get_within is.wire.metals at.0 index at.1 in
@@ -67,14 +67,14 @@ module _ (kit : Kit) (is : IsKit kit) where
       plan : Organization
       plan = record { word_size = 1; write_size = 1; masks = 0; bank_bits = 0; col_bits = 0; groups = [] }
 
-  below : (index : ℕ) → IsOfWires is.wire index → index < length kit.tech.layers
+  below : (index : ℕ) → IsWireLayer is.wire index → index < length kit.tech.layers
   below index (inl metal) = All-contains (IsLayerIndex kit.tech.layers) is.wire.metals index (wire_there kit is).metals metal
   below index (inr cut) = All-contains (IsLayerIndex kit.tech.layers) is.wire.cuts index (wire_there kit is).cuts cut
 
-  pub are_first_wires : AreFirstWires kit.tech.layers is.wire
-  are_first_wires = record {
+  pub are_first_layers : AreFirstLayers kit.tech.layers is.wire
+  are_first_layers = record {
     metals = λ k lt. layer_at is.wire.metals k (let four = (wire_there kit is).four in omega (arith, four, lt));
     cuts = λ k lt. layer_at is.wire.cuts k (let three = (wire_there kit is).three in omega (arith, three, lt));
     first = λ index other layer of at found. all_first index of layer other at found;
-    there = λ index of. (let layer = exists_at kit.tech.layers index (below index of) in (layer.0, layer.1, first_found kit.tech.layers index layer.0 (all_first index of) layer.1));
+    there = λ index of. (let layer = exists_at kit.tech.layers index (below index of) in record { layer = layer.0; there = layer.1; first = first_found kit.tech.layers index layer.0 (all_first index of) layer.1 });
   }

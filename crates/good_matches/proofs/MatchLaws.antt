@@ -18,6 +18,7 @@ use Rattle.sram_plan.specs.declared.numbers.Plan.{Plan}
 use Rattle.sram_plan.specs.Config.{IsConfig}
 use Rattle.sram_plan.specs.Plan.{IsPlanOf, row_groups}
 use Rattle.sram_plan.specs.PlanNumbers.{numbers_of, organization}
+use Rattle.sram_plan.proofs.PlanLaws.{plan_numbers}
 use Rattle.port_lists.specs.Held.Held.{Stored}
 use Rattle.leaf_tables.specs.declared.kit.Kit.{Kit}
 use Rattle.leaf_tables.specs.Kits.{IsKit}
@@ -33,7 +34,7 @@ use Rattle.good_reports.proofs.ReportLaws.{written_plan, some_written}
 use Rattle.clean_windows.specs.Sound.{IsWrittenOfRows}
 use Rattle.drawn_memories.specs.Drawn.{IsDrawnMacro}
 use Rattle.drawn_memories.proofs.DrawnLaws.{macros_are_drawn}
-use Rattle.drawn_memories.proofs.LayerLaws.{are_first_wires}
+use Rattle.drawn_memories.proofs.LayerLaws.{are_first_layers}
 use Rattle.moved_nets.proofs.StableLaws.{stable_net}
 use Rattle.kit_nets.specs.StatedParts.{stated_parts}
 use Rattle.kit_nets.proofs.JoinedLaws.{joined_are_alike}
@@ -79,8 +80,8 @@ module _ (kit : Kit) (config : Config) (plan : Plan) (name : List ℕ) (is : IsK
         record {
           pair = λ i j x y a b differ one two touch. pairs_seen kit.tech.connects s by (reach_with kit by) source window i j x y a b differ one two touch;
           wire = λ i x a t n one two touch. beside_seen kit.tech.connects s by (reach_with kit by) source window i x a t n one two touch;
-          wires = λ k n a b one two touch. stated_wires_touch kit.tech.layers (organization plan) lk is.wire drawn.tracks drawn.floorplan (are_first_wires kit is) drawn.drawn named high numbers.plan.words drawn.reaches kit.tech.connects (only kit is good) k n a b one two touch;
-          wire_once = λ k n a one two. stated_wire_once kit.tech.layers (organization plan) lk is.wire drawn.tracks drawn.floorplan (are_first_wires kit is) drawn.drawn named high numbers.plan.words drawn.reaches k n a one two;
+          wires = λ k n a b one two touch. stated_wires_touch kit.tech.layers (organization plan) lk is.wire drawn.tracks drawn.floorplan (are_first_layers kit is) drawn.drawn named high numbers.plan.words drawn.reaches kit.tech.connects (only kit is good) k n a b one two touch;
+          wire_once = λ k n a one two. stated_wire_once kit.tech.layers (organization plan) lk is.wire drawn.tracks drawn.floorplan (are_first_layers kit is) drawn.drawn named high numbers.plan.words drawn.reaches k n a one two;
           stable = stable_net;
         }
 
@@ -110,4 +111,4 @@ module _ (kit : Kit) (config : Config) (plan : Plan) (name : List ℕ) (is : IsK
   }
 
 pub good_kits_match : GoodKitsMatch
-good_kits_match kit config plan name is good is_config of numbers = matches_netlist kit config plan name is good is_config of numbers
+good_kits_match kit config plan name is good is_config of = matches_netlist kit config plan name is good is_config of (plan_numbers config plan is_config of)

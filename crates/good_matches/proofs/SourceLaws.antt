@@ -25,7 +25,7 @@ use Rattle.good_windows.proofs.PassLaws.{shapes_pass_little, leaves_draw_inside}
 use Rattle.good_windows.proofs.ShortLaws.{good_kits_are_short}
 use Rattle.good_reports.proofs.OverhangLaws.{overhang_there}
 use Rattle.drawn_memories.specs.Drawn.{IsDrawnMacro}
-use Rattle.drawn_memories.proofs.LayerLaws.{are_first_wires}
+use Rattle.drawn_memories.proofs.LayerLaws.{are_first_layers}
 use Rattle.joined_nets.specs.Joints.{JoinsOnlyWires}
 use Rattle.kit_nets.proofs.JointLaws.{good_joints}
 use Rattle.kit_nets.proofs.PartsLaws.{cell_of_role}
@@ -67,7 +67,7 @@ module _ (kit : Kit) (is : IsKit kit) (good : IsGoodKit IsAssembled kit) where
           words = build.words;
           written = written;
           source = drawn_source;
-          first = are_first_wires kit is;
+          first = are_first_layers kit is;
           only = only;
           from = short.from;
           space = (good.wires.reach is.wire overhang.0 is.wired overhang.1).inside;

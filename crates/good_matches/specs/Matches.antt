@@ -8,12 +8,10 @@ use Rattle.cell_hierarchy.specs.Plain.{FlatLists}
 use Rattle.net_extractor.specs.declared.label.NetLabel.{NetLabel}
 use Rattle.net_extractor.specs.declared.difference.NetDiff.{NetDiff}
 use Rattle.net_extractor.specs.Difference.{AreAlike}
-use Rattle.sram_netlist.specs.Numbers.{ArePlanNumbers}
 use Rattle.sram_plan.specs.declared.config.Config.{Config}
 use Rattle.sram_plan.specs.declared.numbers.Plan.{Plan}
 use Rattle.sram_plan.specs.Config.{IsConfig}
 use Rattle.sram_plan.specs.Plan.{IsPlanOf}
-use Rattle.sram_plan.specs.PlanNumbers.{numbers_of}
 use Rattle.port_lists.specs.Held.Held.{Stored}
 use Rattle.leaf_tables.specs.declared.kit.Kit.{Kit}
 use Rattle.leaf_tables.specs.Kits.{IsKit}
@@ -29,6 +27,6 @@ pub record MatchesNetlist (kit : Kit) (plan : Plan) (name : List ℕ) : Type 0 w
   pub alike : (made : Library × Deck) (lists : FlatLists) (labels : List NetLabel) (rows : List RowPin) → IsAssembled kit plan name (Ok made) → AreFlatLists kit.tech.layers made.0.structs name lists → AreNetsAndRowsOf kit name made.1 lists labels rows → AreAlike labels rows
   pub unrefused : (difference : NetDiff) → IsBuildFault kit plan Stored name (build_fault.NetsDiffer difference) → ⊥
 
--- So it is for a good kit and each plan.
+-- So it is for a good kit and each plan of a configuration.
 abbrev pub GoodKitsMatch : Type 0
-GoodKitsMatch = (kit : Kit) (config : Config) (plan : Plan) (name : List ℕ) → IsKit kit → IsGoodKit IsAssembled kit → IsConfig config → IsPlanOf config plan → ArePlanNumbers (numbers_of plan) → MatchesNetlist kit plan name
+GoodKitsMatch = (kit : Kit) (config : Config) (plan : Plan) (name : List ℕ) → IsKit kit → IsGoodKit IsAssembled kit → IsConfig config → IsPlanOf config plan → MatchesNetlist kit plan name

@@ -1,5 +1,5 @@
 -- What touching shapes say where labels and rows don't differ, and how it goes over to another macro.
-use Rattle.std.proofs.Common.{◌≡◌, ℕ, zero, suc, List, [], ◌∷◌, Contains, Option, Some, map, sym, ap, subst, ◌∙◌}
+use Rattle.std.proofs.Common.{◌≡◌, ℕ, zero, suc, List, [], ◌∷◌, Contains, Option, Some, map, sym, ap, ◌∙◌}
 use Rattle.std.specs.Prelude.{slice_get}
 use Rattle.or_geom.specs.declared.shape.Shape.{Shape}
 use Rattle.netlist.specs.declared.rows.RowPin.{RowPin}
@@ -13,7 +13,7 @@ use Rattle.net_extractor.specs.Extraction.{anchor_of, AreNetsUnder}
 use Rattle.net_extractor.specs.Difference.{AreAlike}
 use Rattle.good_nets.proofs.NetLaws.{nets_on, net_back, net_further}
 use Rattle.good_nets.specs.Drawn.{BindsFor}
-use Rattle.good_nets.specs.Seen.{IsLabelledAt, IsSeenBy}
+use Rattle.good_nets.specs.Seen.{IsLabelledAt}
 use Rattle.good_nets.proofs.DrawnLaws.{has_some}
 pub use Rattle.or_geom.proofs.ListLaws.{one_at}
 
@@ -42,10 +42,3 @@ pub mapped_at : {N : Type 0} {M : Type 0} (f : N → M) (xs : List N) (place : �
 mapped_at f [] place x h = absurd cc
 mapped_at {N = N} f (y ∷ ys) zero x h = let same : y ≡ x = cc in ap (λ (z : N). Some (f z)) same
 mapped_at f (y ∷ ys) (suc place) x h = mapped_at f ys place x h
-
--- Ports that have one net there have one net here.
-pub seen_nets : {N : Type 0} {M : Type 0} (f : N → M) (i j : List M) (i' j' : List N) → IsSeenBy f i i' → IsSeenBy f j j' → (a b : ℕ) (m n : M) (k l : N) → slice_get i a ≡ Some m → slice_get j b ≡ Some n → slice_get i' a ≡ Some k → slice_get j' b ≡ Some l → k ≡ l → m ≡ n
-seen_nets {M = M} f i j i' j' one two a b m n k l at_m at_n at_k at_l same =
-    let m_is = one_at i a m (f k) at_m (subst (λ (xs : List M). slice_get xs a ≡ Some (f k)) (sym one.is) (mapped_at f i' a k at_k)) in
-    let n_is = one_at j b n (f l) at_n (subst (λ (xs : List M). slice_get xs b ≡ Some (f l)) (sym two.is) (mapped_at f j' b l at_l)) in
-    m_is ∙ (ap f same ∙ sym n_is)

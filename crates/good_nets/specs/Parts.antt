@@ -108,7 +108,7 @@ pub record StandsIn {N : Type 0} (parts window : Parts N) (f : N → N) (dx dy :
   pub place : (p : Point) → placed (window.place j) p ≡ placed (upright_place dx dy) (placed (parts.place i) p)
 
 -- another layout, whose nets are right
-pub record Window (N : Type 0) (connections : List Connect) : Type 1 where
+pub record SeenLayout (N : Type 0) (connections : List Connect) : Type 1 where
   pub parts : Parts N
   pub shapes : List Shape
   pub plain : List PlainLabel
@@ -118,7 +118,7 @@ pub record Window (N : Type 0) (connections : List Connect) : Type 1 where
 
 -- two instances stand, moved, in a window
 pub record ArePairSeen {N : Type 0} (connections : List Connect) (parts : Parts N) (i j : parts.Instance) : Type 1 where
-  pub window : Window N connections
+  pub window : SeenLayout N connections
   pub f : N → N
   pub dx : ℤ
   pub dy : ℤ
@@ -130,7 +130,7 @@ pub record ArePairSeen {N : Type 0} (connections : List Connect) (parts : Parts 
 
 -- an instance stands, moved, in a window, and what touches the wire there touches one that stands for it
 pub record IsWireSeen {N : Type 0} (connections : List Connect) (parts : Parts N) (i : parts.Instance) (n : N) (t : Shape) : Type 1 where
-  pub window : Window N connections
+  pub window : SeenLayout N connections
   pub f : N → N
   pub dx : ℤ
   pub dy : ℤ

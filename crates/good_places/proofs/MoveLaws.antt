@@ -19,7 +19,7 @@ most_moved : (a b x d s m : ℤ) → s ≡ int_max (a +ℤ x) (b +ℤ x) → m �
 most_moved a b x d s m p q = omega (arith, ints, clamps, p, q)
 
 -- the image at a moved place is the moved image
-pub moved_image : (dx dy : ℤ) (place : Place) (r s m : Rect) → IsImage (placed place) r s → moved.IsMoved dx dy s m → IsImage (placed (moved_place dx dy place)) r m
+pub moved_image : (dx dy : ℤ) (place : Place) (r s m : Rect) → IsImage (placed place) r s → moved.IsMovedBy dx dy s m → IsImage (placed (moved_place dx dy place)) r m
 moved_image dx dy place r s m is at = record {
   x1 = least_moved (turned place.orient (low_corner r)).x (turned place.orient (high_corner r)).x place.at.x dx s.x1 m.x1 is.x1 at.x1;
   y1 = least_moved (turned place.orient (low_corner r)).y (turned place.orient (high_corner r)).y place.at.y dy s.y1 m.y1 is.y1 at.y1;
@@ -28,14 +28,14 @@ moved_image dx dy place r s m is at = record {
 }
 
 -- a shape, so much further right and up
-pub moved_shape : (dx dy : ℤ) (s : Shape) → (m : Shape) × (m.layer ≡ s.layer) × moved.IsMoved dx dy s.rect m.rect
+pub moved_shape : (dx dy : ℤ) (s : Shape) → (m : Shape) × (m.layer ≡ s.layer) × moved.IsMovedBy dx dy s.rect m.rect
 moved_shape dx dy s = let m = moved_rect dx dy s.rect in (record { layer = s.layer; rect = m.0 }, refl, m.1)
 
-pub moved_taken : (dx dy : ℤ) (place : Place) (inner s m : Shape) → IsMoved place inner s → m.layer ≡ s.layer → moved.IsMoved dx dy s.rect m.rect → IsMoved (moved_place dx dy place) inner m
+pub moved_taken : (dx dy : ℤ) (place : Place) (inner s m : Shape) → IsMoved place inner s → m.layer ≡ s.layer → moved.IsMovedBy dx dy s.rect m.rect → IsMoved (moved_place dx dy place) inner m
 moved_taken dx dy place inner s m is layer at = record { layer = layer ∙ is.layer; image = moved_image dx dy place inner.rect s.rect m.rect is.image at }
 
 -- what is moved looks alike everywhere
-pub moved_alike : (frame : Rect) (dx dy : ℤ) (s m : Rect) → moved.IsMoved dx dy s m → AreAlikeIn frame dx dy s m
+pub moved_alike : (frame : Rect) (dx dy : ℤ) (s m : Rect) → moved.IsMovedBy dx dy s m → AreAlikeIn frame dx dy s m
 moved_alike frame dx dy s m at = record {
   left = ap (λ (z : ℤ). int_max z frame.x1) (sym at.x1);
   low = ap (λ (z : ℤ). int_max z frame.y1) (sym at.y1);
@@ -44,7 +44,7 @@ moved_alike frame dx dy s m at = record {
 }
 
 -- so does what is moved back
-pub back_alike : (frame : Rect) (dx dy ex ey : ℤ) (s m : Rect) → dx +ℤ ex ≡ pos 0 → dy +ℤ ey ≡ pos 0 → moved.IsMoved ex ey s m → AreAlikeIn frame dx dy m s
+pub back_alike : (frame : Rect) (dx dy ex ey : ℤ) (s m : Rect) → dx +ℤ ex ≡ pos 0 → dy +ℤ ey ≡ pos 0 → moved.IsMovedBy ex ey s m → AreAlikeIn frame dx dy m s
 back_alike frame dx dy ex ey s m zx zy at = moved_alike frame dx dy m s (record {
   x1 = let e = at.x1 in omega (arith, ints, e, zx);
   y1 = let e = at.y1 in omega (arith, ints, e, zy);

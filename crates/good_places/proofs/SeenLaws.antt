@@ -16,7 +16,7 @@ use Rattle.sram_netlist.specs.Netlist.{role}
 use Rattle.sram_netlist.specs.BitCells.{BitCells}
 use Rattle.macro_layout.specs.LayoutKit.{LayoutKit}
 use Rattle.macro_layout.specs.Places.{Floorplan, leaf_cell}
-use Rattle.local_report.specs.Moved.{IsMoved, OverlapsMoved}
+use Rattle.local_report.specs.Moved.{IsMovedBy, OverlapsMoved}
 use Rattle.local_report.specs.Seen.{HasPartner}
 use Rattle.local_report.specs.Alike.{LookAlike, HasImage}
 use Rattle.local_report.specs.Local.{IsImageIn, IsWidthSeen, IsSpaceSeen, IsEncloseSeen}
@@ -56,7 +56,7 @@ module _ (Flat : List ℕ → Shape → Type 0) (rules : List Rule) (plan other 
       shape_moves Flat other kit bits g c.alike.left c.alike.down (role plan i.of.leaf) (leaf_cell plan kit bits i.of.leaf) i.of.place i.of.taken.inner a
       (c.alike.from i.of.leaf i.of.place i.of.has i.of.stands (subst (λ (z : Zone). AreNearZones reach z here) (sym i.zone) (near_itself a min some short (lies a i)))) i.of.taken.has i.of.taken.moved
 
-  pub moved_back : (a m : Rect) → IsMoved c.alike.left c.alike.down a m → IsMoved right up m a
+  pub moved_back : (a m : Rect) → IsMovedBy c.alike.left c.alike.down a m → IsMovedBy right up m a
   moved_back a m at =
       let x = c.alike.back_x in
       let y = c.alike.back_y in
@@ -67,7 +67,7 @@ module _ (Flat : List ℕ → Shape → Type 0) (rules : List Rule) (plan other 
         y2 = let e = at.y2 in omega (arith, ints, e, y);
       }
 
-  pub lies_there : (a m : Rect) → IsMoved right up m a → LiesNear by here a → LiesNear by there m
+  pub lies_there : (a m : Rect) → IsMovedBy right up m a → LiesNear by here a → LiesNear by there m
   lies_there a m at l =
       let s = c.alike.same in
       record {
@@ -78,7 +78,7 @@ module _ (Flat : List ℕ → Shape → Type 0) (rules : List Rule) (plan other 
       }
 
   -- a layer that only leaf cells draw on looks alike around the shape
-  pub looks : (layer : ℕ) (min : ℤ) (a m frame : Rect) → (min +ℤ (by +ℤ by)) ≤ℤ reach → HasLeavesOn layer Flat other kit bits g from → HasLeavesOn layer Flat plan kit bits f to → LiesNear by here a → IsMoved right up m a → IsGrown min a frame
+  pub looks : (layer : ℕ) (min : ℤ) (a m frame : Rect) → (min +ℤ (by +ℤ by)) ≤ℤ reach → HasLeavesOn layer Flat other kit bits g from → HasLeavesOn layer Flat plan kit bits f to → LiesNear by here a → IsMovedBy right up m a → IsGrown min a frame
       → LookAlike layer frame right up from to
   looks layer min a m frame short has_from has_to l at grown =
       look_alike Flat plan other kit bits f g layer frame right up c.alike.left c.alike.down from to
@@ -145,7 +145,7 @@ module _ (Flat : List ℕ → Shape → Type 0) (rules : List Rule) (plan other 
     pub onto : (b : Shape) → WireThere b → b.layer ≡ layer → OverlapsMoved frame c.alike.right c.alike.up b.rect → HasImage frame c.alike.right c.alike.up to b
     pub off : (b : Shape) → WireHere b → b.layer ≡ layer → Overlap b.rect frame → HasPartner frame c.alike.right c.alike.up from b
 
-  looks_with : (layer : ℕ) (min : ℤ) (a m frame : Rect) → (min +ℤ (by +ℤ by)) ≤ℤ reach → HasLeavesAndWires layer Flat other kit bits g WireThere from → HasLeavesAndWires layer Flat plan kit bits f WireHere to → WiresMove layer frame → LiesNear by here a → IsMoved c.alike.right c.alike.up m a → IsGrown min a frame
+  looks_with : (layer : ℕ) (min : ℤ) (a m frame : Rect) → (min +ℤ (by +ℤ by)) ≤ℤ reach → HasLeavesAndWires layer Flat other kit bits g WireThere from → HasLeavesAndWires layer Flat plan kit bits f WireHere to → WiresMove layer frame → LiesNear by here a → IsMovedBy c.alike.right c.alike.up m a → IsGrown min a frame
       → LookAlike layer frame c.alike.right c.alike.up from to
   looks_with layer min a m frame short has_from has_to wires l at grown =
       look_alike_with Flat plan other kit bits f g layer frame c.alike.right c.alike.up c.alike.left c.alike.down from to
@@ -158,7 +158,7 @@ module _ (Flat : List ℕ → Shape → Type 0) (rules : List Rule) (plan other 
       c.alike.to c.alike.from
 
   pub space_seen_with : (min : ℤ) (a b : Shape) → pos 1 ≤ℤ min → (min +ℤ (by +ℤ by)) ≤ℤ reach → b.layer ≡ a.layer → HasLeavesAndWires a.layer Flat other kit bits g WireThere from → HasLeavesAndWires a.layer Flat plan kit bits f WireHere to
-      → ((h : HasMovedShape Flat other kit bits g c.alike.left c.alike.down a) → IsMoved c.alike.right c.alike.up h.moved.0.rect a.rect → (frame : Rect) → IsGrown min a.rect frame → WiresMove a.layer frame) → IsInZone Flat plan kit bits f here a → Contains to b → AreNear min a.rect b.rect → IsSpaceSeen rules min to a b
+      → ((h : HasMovedShape Flat other kit bits g c.alike.left c.alike.down a) → IsMovedBy c.alike.right c.alike.up h.moved.0.rect a.rect → (frame : Rect) → IsGrown min a.rect frame → WiresMove a.layer frame) → IsInZone Flat plan kit bits f here a → Contains to b → AreNear min a.rect b.rect → IsSpaceSeen rules min to a b
   space_seen_with min a b some short same has_from has_to wires i listed near =
       let h = image Flat rules plan other kit bits f g wire by reach here there from to c a min some short i in
       let at = moved_back Flat rules plan other kit bits f g wire by reach here there from to c a.rect h.moved.0.rect h.moved.2 in

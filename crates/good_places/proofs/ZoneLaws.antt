@@ -7,7 +7,7 @@ use Rattle.or_geom.specs.Place.{placed, IsImage}
 use Rattle.shape_bins.specs.Meets.{Overlap}
 use Rattle.tile_checker.specs.Breaks.{IsGrown}
 use Rattle.macro_layout.specs.Places.{upright, mirrored_at}
-use Rattle.local_report.specs.Moved.{IsMoved, OverlapsMoved}
+use Rattle.local_report.specs.Moved.{IsMovedBy, OverlapsMoved}
 use Rattle.good_places.specs.Leaves.{Zone, LiesNear, AreNearZones, PassesAtMost}
 
 pub upright_near : (by x y : ℤ) (w h : ℕ) (z : Zone) (r s : Rect) → z.left ≤ℤ x → (x +ℤ pos w) ≤ℤ z.right → z.low ≤ℤ y → (y +ℤ pos h) ≤ℤ z.high → PassesAtMost by w h r → IsImage (placed (upright x y)) r s → LiesNear by z s
@@ -57,7 +57,7 @@ near_zones by min reach z w a s frame e in_z in_w grown over = record {
 }
 
 -- the same where both are seen further right and up
-pub near_zones_moved : (by min reach dx dy : ℤ) (z w : Zone) (image a s frame : Rect) → (min +ℤ (by +ℤ by)) ≤ℤ reach → LiesNear by z image → LiesNear by w s → IsMoved dx dy image a → IsGrown min a frame → OverlapsMoved frame dx dy s → AreNearZones reach w z
+pub near_zones_moved : (by min reach dx dy : ℤ) (z w : Zone) (image a s frame : Rect) → (min +ℤ (by +ℤ by)) ≤ℤ reach → LiesNear by z image → LiesNear by w s → IsMovedBy dx dy image a → IsGrown min a frame → OverlapsMoved frame dx dy s → AreNearZones reach w z
 near_zones_moved by min reach dx dy z w image a s frame e in_z in_w m grown over = record {
   left = let p = in_w.left in let q = in_z.right in let o = over.right in let g = grown.right in let t = m.x2 in omega (arith, ints, e, p, q, o, g, t);
   right = let p = in_w.right in let q = in_z.left in let o = over.left in let g = grown.left in let t = m.x1 in omega (arith, ints, e, p, q, o, g, t);

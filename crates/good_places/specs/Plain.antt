@@ -8,6 +8,7 @@ use Rattle.tech_rules.specs.declared.tech.Rule.TheVariants.{Width, Space, Enclos
 use Rattle.tech_rules.specs.declared.tech.Wire.{Wire}
 use Rattle.tile_checker.specs.RuleReport.{IsReport}
 use Rattle.cell_hierarchy.specs.FlatSet.{IsFlatShape}
+use Rattle.leaf_shapes.specs.Outline.{IsWireLayer}
 use Rattle.sram_netlist.specs.Organization.{Organization}
 use Rattle.sram_netlist.specs.BitCells.{BitCells, Alike}
 use Rattle.macro_layout.specs.LayoutKit.{LayoutKit}
@@ -17,12 +18,9 @@ use Rattle.good_places.specs.Leaves.{HasLeavesOn, AllPassAtMost, ReachesNeighbou
 use Rattle.good_places.specs.Zones.{IsLaid}
 use Rattle.good_places.specs.Windows.{IsWindowOf, IsWrittenPlan}
 
--- a layer of the wires
-abbrev pub IsOfWires : Wire → ℕ → Type 0
-IsOfWires wire layer = Contains wire.metals layer ⊎ Contains wire.cuts layer
-
+-- no layer of the wires
 abbrev pub IsPlain : Wire → ℕ → Type 0
-IsPlain wire layer = IsOfWires wire layer → ⊥
+IsPlain wire layer = IsWireLayer wire layer → ⊥
 
 -- the rule names no layer of wires, and its minimum and the leaf cells' overhangs are at most the reach
 abbrev pub IsPlainRule : Wire → ℤ → ℤ → Rule → Type 0

@@ -3,6 +3,7 @@
 #![tactic(auto)]
 
 ghost use Rattle.good_places.specs.Columns.{ColumnsAreAlike};
+ghost use Rattle.good_places.specs.Pairs.{CellsAreAlikeZones, ColumnsAreAlikeZones, FrontsAreAlikeZones, SlicesAreAlikeZones};
 ghost use Rattle.good_places.specs.Plain.{PlainRulesAreKept};
 ghost use Rattle.good_places.specs.Row.{CellsAreNearAlike};
 ghost use Rattle.good_places.specs.Seen.{LeafEnclosuresAreSeen, LeafSpacesAreSeen, LeafWidthsAreSeen};
@@ -33,6 +34,26 @@ pub fn slices_are_near_alike()
 /// What stands near a cell of a logic row stands near a cell of another, where the cells beside it have the same roles.
 pub fn cells_are_near_alike()
     ensures { CellsAreNearAlike }
+{}
+
+/// A column's zone in a bank and that of a column of another bank with the same rows are alike: around them leaf instances stand alike.
+pub fn columns_are_alike_zones()
+    ensures { ColumnsAreAlikeZones }
+{}
+
+/// So are the zones of the gates and drivers of two such banks' rows.
+pub fn fronts_are_alike_zones()
+    ensures { FrontsAreAlikeZones }
+{}
+
+/// So are the zones of slices of two banks with as many words in a row.
+pub fn slices_are_alike_zones()
+    ensures { SlicesAreAlikeZones }
+{}
+
+/// So are the zones of cells of two logic rows, where the cells beside them have the same roles.
+pub fn cells_are_alike_zones()
+    ensures { CellsAreAlikeZones }
 {}
 
 /// On a layer on which only leaf cells draw, what a width rule sees of a shape is seen in a memory that stands alike around it.

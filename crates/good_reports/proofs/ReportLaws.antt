@@ -21,6 +21,7 @@ use Rattle.sram_plan.specs.declared.numbers.Plan.{Plan}
 use Rattle.sram_plan.specs.Config.{IsConfig}
 use Rattle.sram_plan.specs.Plan.{IsPlanOf, row_groups}
 use Rattle.sram_plan.specs.PlanNumbers.{numbers_of, organization}
+use Rattle.sram_plan.proofs.PlanLaws.{plan_numbers}
 use Rattle.port_lists.specs.Cells.{cell_in}
 use Rattle.port_lists.specs.Held.Held.{Stored}
 use Rattle.leaf_tables.specs.declared.kit.Kit.{Kit}
@@ -119,4 +120,4 @@ module _ (kit : Kit) (config : Config) (plan : Plan) (is : IsKit kit) (good : Is
   }
 
 pub good_kits_break_no_rule : GoodKitsBreakNoRule
-good_kits_break_no_rule kit config plan name is good is_config of numbers = breaks_no_rule kit config plan is good is_config of numbers name
+good_kits_break_no_rule kit config plan name is good is_config of = breaks_no_rule kit config plan is good is_config of (plan_numbers config plan is_config of) name

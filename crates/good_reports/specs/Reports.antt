@@ -6,12 +6,10 @@ use Rattle.cell_hierarchy.specs.FlatLists.{AreFlatLists}
 use Rattle.cell_hierarchy.specs.Plain.{FlatLists}
 use Rattle.tile_checker.specs.declared.violation.Violation.{Violation}
 use Rattle.tile_checker.specs.RuleReport.{IsReport}
-use Rattle.sram_netlist.specs.Numbers.{ArePlanNumbers}
 use Rattle.sram_plan.specs.declared.config.Config.{Config}
 use Rattle.sram_plan.specs.declared.numbers.Plan.{Plan}
 use Rattle.sram_plan.specs.Config.{IsConfig}
 use Rattle.sram_plan.specs.Plan.{IsPlanOf}
-use Rattle.sram_plan.specs.PlanNumbers.{numbers_of}
 use Rattle.port_lists.specs.Held.Held.{Stored}
 use Rattle.leaf_tables.specs.declared.kit.Kit.{Kit}
 use Rattle.leaf_tables.specs.Kits.{IsKit}
@@ -26,6 +24,6 @@ pub record BreaksNoRule (kit : Kit) (plan : Plan) (name : List ℕ) : Type 0 whe
   pub clean : (made : Library × Deck) (lists : FlatLists) → IsAssembled kit plan name (Ok made) → AreFlatLists kit.tech.layers made.0.structs name lists → IsReport kit.tech.rules lists.shapes []
   pub unrefused : (violation : Violation) → IsBuildFault kit plan Stored name (build_fault.RuleBroken violation) → ⊥
 
--- So it is for a good kit and each plan.
+-- So it is for a good kit and each plan of a configuration.
 abbrev pub GoodKitsBreakNoRule : Type 0
-GoodKitsBreakNoRule = (kit : Kit) (config : Config) (plan : Plan) (name : List ℕ) → IsKit kit → IsGoodKit IsAssembled kit → IsConfig config → IsPlanOf config plan → ArePlanNumbers (numbers_of plan) → BreaksNoRule kit plan name
+GoodKitsBreakNoRule = (kit : Kit) (config : Config) (plan : Plan) (name : List ℕ) → IsKit kit → IsGoodKit IsAssembled kit → IsConfig config → IsPlanOf config plan → BreaksNoRule kit plan name

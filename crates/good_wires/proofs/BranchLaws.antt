@@ -144,7 +144,7 @@ module _ (Met : Role → ℕ → Type 0) (plan other : Organization) (kit : Layo
           }
 
   -- the pin where the instance stands in the other memory
-  moved_pin : (leaf : LeafInstance) (rect : Rect) (p : IsPlacedPin Met 1 plan kit f leaf rect) (s : StandsMoved other kit bits g dx dy (role plan leaf) (leaf_cell plan kit bits leaf) p.place) (r : Rect) → moved.IsMoved dx dy rect r → IsPlacedPin Met 1 other kit g s.leaf r
+  moved_pin : (leaf : LeafInstance) (rect : Rect) (p : IsPlacedPin Met 1 plan kit f leaf rect) (s : StandsMoved other kit bits g dx dy (role plan leaf) (leaf_cell plan kit bits leaf) p.place) (r : Rect) → moved.IsMovedBy dx dy rect r → IsPlacedPin Met 1 other kit g s.leaf r
   moved_pin leaf rect p s r at = record {
     port = p.port;
     met = subst (λ (q : Role). Met q p.port) (sym s.same_role) p.met;
@@ -154,7 +154,7 @@ module _ (Met : Role → ℕ → Type 0) (plan other : Organization) (kit : Layo
     image = subst (λ (q : Role). IsImage (placed (moved_place dx dy p.place)) (kit.pin q p.port 1) r) (sym s.same_role) (moved_image dx dy p.place (kit.pin (role plan leaf) p.port 1) rect r p.image at);
   }
 
-  put : (b : Shape) (c : IsBottomBranch Met plan kit wire f b) → a.y2 ≤ℤ c.rect.y2 → (r : Rect) → moved.IsMoved dx dy c.rect r → (t : Shape) → IsDrawnWire other kit wire many g t → (y : ℤ) → IsBox (slice_index wire.metals 1) r.x1 r.y2 (r.x1 +ℤ wire.width) y t → (r.y2 +ℤ (wire.space +ℤ wire.width)) ≤ℤ y
+  put : (b : Shape) (c : IsBottomBranch Met plan kit wire f b) → a.y2 ≤ℤ c.rect.y2 → (r : Rect) → moved.IsMovedBy dx dy c.rect r → (t : Shape) → IsDrawnWire other kit wire many g t → (y : ℤ) → IsBox (slice_index wire.metals 1) r.x1 r.y2 (r.x1 +ℤ wire.width) y t → (r.y2 +ℤ (wire.space +ℤ wire.width)) ≤ℤ y
       → HasBranch dx dy frame wire (IsDrawnWire other kit wire many g) b
   put b c top r at t is y e long = record {
     image = t;

@@ -18,7 +18,7 @@ use Rattle.macro_layout.specs.LayoutKit.{LayoutKit}
 use Rattle.macro_layout.specs.Places.{Floorplan}
 use Rattle.macro_layout.specs.Floorplan.{Tracks}
 use Rattle.macro_layout.specs.Layout.{IsOfLeaf}
-use Rattle.local_report.specs.Moved.{IsMoved, OverlapsMoved}
+use Rattle.local_report.specs.Moved.{IsMovedBy, OverlapsMoved}
 use Rattle.local_report.specs.Seen.{HasPartner}
 use Rattle.local_report.specs.Alike.{HasImage}
 use Rattle.local_report.specs.Local.{KeepsRule, IsSpaceSeen}
@@ -27,7 +27,7 @@ use Rattle.local_report.proofs.SpaceLaws.{grown_rect}
 use Rattle.good_places.specs.Leaves.{Zone, zone_of, ReachesNeighboursOnly, LiesNear}
 use Rattle.good_places.specs.Seen.{AreCompared, IsMovedZone}
 use Rattle.good_places.specs.Windows.{IsWindowOf, IsWrittenPlan}
-use Rattle.good_places.specs.Plain.{IsOfWires}
+use Rattle.leaf_shapes.specs.Outline.{IsWireLayer}
 use Rattle.good_places.proofs.LaidLaws.{in_zone}
 use Rattle.good_places.proofs.SeenLaws.{space_seen_with}
 use Rattle.good_places.proofs.WindowLaws.{leaves_have_windows}
@@ -81,7 +81,7 @@ module _ (Met Out : Role → ℕ → Type 0) (drop : Role → ℕ) (Flat : List 
   abbrev metal : ℕ
   metal = slice_index wire.metals 3
 
-  of_wires : IsOfWires wire metal
+  of_wires : IsWireLayer wire metal
   of_wires = inl listed
 
   min_short : min ≤ℤ reach
@@ -89,9 +89,9 @@ module _ (Met Out : Role → ℕ → Type 0) (drop : Role → ℕ) (Flat : List 
 
   inside : (other : Organization) (many : Tracks) (g : Floorplan) (shapes : List Shape) (h : HasDrawnShapes Flat other kit (Alike bit) wire many g by shapes) (a : Shape) → a.layer ≡ metal → (o : IsOfLeaf other kit (Alike bit) g IsShapeTaken Flat a) → LiesNear (pos 0) (zone_of other kit g o.leaf o.place) a.rect
   inside other many g shapes h a on o =
-      in_zone other kit wire g (pos 0) h.drawn.laid o.leaf o.place o.taken.inner a o.has o.stands (h.inside o.leaf o.taken.inner o.has o.taken.has (subst (IsOfWires wire) (sym on ∙ o.taken.moved.layer) of_wires)) o.taken.moved
+      in_zone other kit wire g (pos 0) h.drawn.laid o.leaf o.place o.taken.inner a o.has o.stands (h.inside o.leaf o.taken.inner o.has o.taken.has (subst (IsWireLayer wire) (sym on ∙ o.taken.moved.layer) of_wires)) o.taken.moved
 
-  overlaps_there : (dx dy : ℤ) (a image frame there b : Rect) → IsMoved dx dy image a → IsGrown min a frame → IsGrown min image there → OverlapsMoved frame dx dy b → Overlap b there
+  overlaps_there : (dx dy : ℤ) (a image frame there b : Rect) → IsMovedBy dx dy image a → IsGrown min a frame → IsGrown min image there → OverlapsMoved frame dx dy b → Overlap b there
   overlaps_there dx dy a image frame there b at g h over = record {
     left = let o = over.right in let e = at.x2 in let p = g.right in let q = h.right in omega (arith, ints, o, e, p, q);
     right = let o = over.left in let e = at.x1 in let p = g.left in let q = h.left in omega (arith, ints, o, e, p, q);
@@ -99,13 +99,13 @@ module _ (Met Out : Role → ℕ → Type 0) (drop : Role → ℕ) (Flat : List 
     high = let o = over.low in let e = at.y1 in let p = g.low in let q = h.low in omega (arith, ints, o, e, p, q);
   }
 
-  frame_top : (dx dy : ℤ) (a image frame there : Rect) → IsMoved dx dy image a → IsGrown min a frame → IsGrown min image there → frame.y2 ≡ there.y2 +ℤ dy
+  frame_top : (dx dy : ℤ) (a image frame there : Rect) → IsMovedBy dx dy image a → IsGrown min a frame → IsGrown min image there → frame.y2 ≡ there.y2 +ℤ dy
   frame_top dx dy a image frame there at g h = let e = at.y2 in let p = g.high in let q = h.high in omega (arith, ints, e, p, q)
 
-  frame_bottom : (dx dy : ℤ) (a image frame there : Rect) → IsMoved dx dy image a → IsGrown min a frame → IsGrown min image there → frame.y1 ≡ there.y1 +ℤ dy
+  frame_bottom : (dx dy : ℤ) (a image frame there : Rect) → IsMovedBy dx dy image a → IsGrown min a frame → IsGrown min image there → frame.y1 ≡ there.y1 +ℤ dy
   frame_bottom dx dy a image frame there at g h = let e = at.y1 in let p = g.low in let q = h.low in omega (arith, ints, e, p, q)
 
-  lies_moved : (dx dy : ℤ) (here there : Zone) (a image : Rect) → IsMovedZone dx dy there here → IsMoved dx dy image a → LiesNear (pos 0) here a → LiesNear (pos 0) there image
+  lies_moved : (dx dy : ℤ) (here there : Zone) (a image : Rect) → IsMovedZone dx dy there here → IsMovedBy dx dy image a → LiesNear (pos 0) here a → LiesNear (pos 0) there image
   lies_moved dx dy here there a image s at i = record {
     left = let e = at.x1 in let p = i.left in let q = s.left in omega (arith, ints, e, p, q);
     right = let e = at.x2 in let p = i.right in let q = s.right in omega (arith, ints, e, p, q);
@@ -119,7 +119,7 @@ module _ (Met Out : Role → ℕ → Type 0) (drop : Role → ℕ) (Flat : List 
       let both = windows w.other w.is in
       let c = both.drawing in
       let z = w.there c.floorplan c.flat.drawn.laid in
-      let own : IsOfWires wire a.layer = subst (IsOfWires wire) (sym on) of_wires in
+      let own : IsWireLayer wire a.layer = subst (IsWireLayer wire) (sym on) of_wires in
       let lies = inside plan tracks f to flat a on o in
       let compared : AreCompared Flat rules plan w.other kit (Alike bit) f c.floorplan wire by reach (zone_of plan kit f o.leaf o.place) z.0 c.shapes =
       record { laid = flat.drawn.laid; laid_there = c.flat.drawn.laid; clean = c.clean; alike = z.1; passes = flat.passes; passes_there = c.flat.passes } in

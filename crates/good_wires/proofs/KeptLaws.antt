@@ -17,14 +17,14 @@ use Rattle.macro_layout.specs.LayoutKit.{LayoutKit}
 use Rattle.macro_layout.specs.Places.{Floorplan}
 use Rattle.macro_layout.specs.Floorplan.{Tracks}
 use Rattle.macro_layout.specs.Layout.{IsOfLeaf}
-use Rattle.local_report.specs.Moved.{IsMoved, OverlapsMoved}
+use Rattle.local_report.specs.Moved.{IsMovedBy, OverlapsMoved}
 use Rattle.local_report.specs.Local.{KeepsRule, IsSpaceSeen}
 use Rattle.local_report.proofs.CleanLaws.{space_back}
 use Rattle.local_report.proofs.SpaceLaws.{grown_rect}
 use Rattle.good_places.specs.Leaves.{Zone, zone_of, ReachesNeighboursOnly, LiesNear}
 use Rattle.good_places.specs.Seen.{AreCompared}
 use Rattle.good_places.specs.Windows.{IsWindowOf, IsWrittenPlan}
-use Rattle.good_places.specs.Plain.{IsOfWires}
+use Rattle.leaf_shapes.specs.Outline.{IsWireLayer}
 use Rattle.good_places.proofs.LaidLaws.{in_zone}
 use Rattle.good_places.proofs.SeenLaws.{space_seen_with}
 use Rattle.good_places.proofs.WindowLaws.{leaves_have_windows}
@@ -40,7 +40,7 @@ module _ (Flat : List ℕ → Shape → Type 0) (rules : List Rule) (plan : Orga
   abbrev cut : ℕ
   cut = slice_index wire.cuts k
 
-  of_wires : IsOfWires wire cut
+  of_wires : IsWireLayer wire cut
   of_wires = inr (flat.drawn.three k (few_of k which))
 
   -- a leaf shape on the cut, grown, lies around its zone
@@ -59,7 +59,7 @@ module _ (Flat : List ℕ → Shape → Type 0) (rules : List Rule) (plan : Orga
 
   inside : (other : Organization) (many : Tracks) (g : Floorplan) (shapes : List Shape) (h : HasDrawnShapes Flat other kit (Alike bit) wire many g by shapes) (a : Shape) → a.layer ≡ cut → (o : IsOfLeaf other kit (Alike bit) g IsShapeTaken Flat a) → LiesNear (pos 0) (zone_of other kit g o.leaf o.place) a.rect
   inside other many g shapes h a on o =
-      in_zone other kit wire g (pos 0) h.drawn.laid o.leaf o.place o.taken.inner a o.has o.stands (h.inside o.leaf o.taken.inner o.has o.taken.has (subst (IsOfWires wire) (sym on ∙ o.taken.moved.layer) of_wires)) o.taken.moved
+      in_zone other kit wire g (pos 0) h.drawn.laid o.leaf o.place o.taken.inner a o.has o.stands (h.inside o.leaf o.taken.inner o.has o.taken.has (subst (IsWireLayer wire) (sym on ∙ o.taken.moved.layer) of_wires)) o.taken.moved
 
   -- no wire reaches into the shape, grown
   clear : (other : Organization) (many : Tracks) (g : Floorplan) (shapes : List Shape) (h : HasDrawnShapes Flat other kit (Alike bit) wire many g by shapes) (a b : Shape) (frame : Rect) → a.layer ≡ cut → (o : IsOfLeaf other kit (Alike bit) g IsShapeTaken Flat a) → IsGrown min a.rect frame → b.layer ≡ cut → IsDrawnWire other kit wire many g b
@@ -68,7 +68,7 @@ module _ (Flat : List ℕ → Shape → Type 0) (rules : List Rule) (plan : Orga
       cut_clear other kit wire many g h.drawn k (few_of k which) (some_of k which) (zone_of other kit g o.leaf o.place) frame (zone_kind other kit wire many g h.drawn o.leaf o.place o.has o.stands)
       (frame_lies (zone_of other kit g o.leaf o.place) a.rect frame (inside other many g shapes h a on o) grown) b at is over
 
-  overlaps_there : (dx dy : ℤ) (a image frame there b : Rect) → IsMoved dx dy image a → IsGrown min a frame → IsGrown min image there → OverlapsMoved frame dx dy b → Overlap b there
+  overlaps_there : (dx dy : ℤ) (a image frame there b : Rect) → IsMovedBy dx dy image a → IsGrown min a frame → IsGrown min image there → OverlapsMoved frame dx dy b → Overlap b there
   overlaps_there dx dy a image frame there b at g h over = record {
     left = let o = over.right in let e = at.x2 in let p = g.right in let q = h.right in omega (arith, ints, o, e, p, q);
     right = let o = over.left in let e = at.x1 in let p = g.left in let q = h.left in omega (arith, ints, o, e, p, q);
@@ -85,7 +85,7 @@ module _ (Flat : List ℕ → Shape → Type 0) (rules : List Rule) (plan : Orga
       let compared : AreCompared Flat rules plan w.other kit (Alike bit) f c.floorplan wire by reach (zone_of plan kit f o.leaf o.place) z.0 c.shapes =
       record { laid = flat.drawn.laid; laid_there = c.flat.drawn.laid; clean = c.clean; alike = z.1; passes = flat.passes; passes_there = c.flat.passes } in
       space_seen_with Flat rules plan w.other kit (Alike bit) f c.floorplan wire by reach (zone_of plan kit f o.leaf o.place) z.0 c.shapes to compared (IsDrawnWire w.other kit wire c.tracks c.floorplan) (IsDrawnWire plan kit wire tracks f) min a b some near (at ∙ sym on)
-      (c.flat.has a.layer (subst (IsOfWires wire) (sym on) of_wires)) (flat.has a.layer (subst (IsOfWires wire) (sym on) of_wires))
+      (c.flat.has a.layer (subst (IsWireLayer wire) (sym on) of_wires)) (flat.has a.layer (subst (IsWireLayer wire) (sym on) of_wires))
       (λ h moved frame grown.
       let there = grown_rect min h.moved.0.rect some in
       record {

@@ -16,5 +16,6 @@ pub mod BranchLaws
 pub mod SecondKeptLaws
 pub mod TopLaws
 pub mod FourthKeptLaws
+pub mod FitLaws
 pub mod HeldLaws
 pub mod OwnLaws

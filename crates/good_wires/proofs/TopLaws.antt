@@ -157,7 +157,7 @@ module _ (Met Out : Role → ℕ → Type 0) (drop : Role → ℕ) (plan other :
         high = let ib = lies.low in let nt = n.high in let oh = over.high in let gl = grown.low in omega (arith, ints, ib, nt, oh, gl, high, rtall, short);
       }
 
-  moved_pin : (M : Role → ℕ → Type 0) (leaf : LeafInstance) (rect : Rect) (p : IsPlacedPin M 3 plan kit f leaf rect) (s : StandsMoved other kit bits g dx dy (role plan leaf) (leaf_cell plan kit bits leaf) p.place) (r : Rect) → moved.IsMoved dx dy rect r → IsPlacedPin M 3 other kit g s.leaf r
+  moved_pin : (M : Role → ℕ → Type 0) (leaf : LeafInstance) (rect : Rect) (p : IsPlacedPin M 3 plan kit f leaf rect) (s : StandsMoved other kit bits g dx dy (role plan leaf) (leaf_cell plan kit bits leaf) p.place) (r : Rect) → moved.IsMovedBy dx dy rect r → IsPlacedPin M 3 other kit g s.leaf r
   moved_pin M leaf rect p s r at = record {
     port = p.port;
     met = subst (λ (q : Role). M q p.port) (sym s.same_role) p.met;
@@ -170,7 +170,7 @@ module _ (Met Out : Role → ℕ → Type 0) (drop : Role → ℕ) (plan other :
   under_pin : (y e : ℤ) (n : ℕ) → y ≡ e +ℤ pos n → e ≤ℤ y
   under_pin y e n is = omega (arith, ints, is)
 
-  put : (b : Shape) (c : IsTopBranch Met drop plan kit wire f b) → c.edge ≤ℤ a.y1 → (leaf : LeafInstance) → role other leaf ≡ role plan c.leaf → (r : Rect) → moved.IsMoved dx dy c.rect r → (t : Shape) → IsDrawnWire other kit wire many g t → (y edge : ℤ) → r.y1 ≡ edge +ℤ pos (drop (role other leaf))
+  put : (b : Shape) (c : IsTopBranch Met drop plan kit wire f b) → c.edge ≤ℤ a.y1 → (leaf : LeafInstance) → role other leaf ≡ role plan c.leaf → (r : Rect) → moved.IsMovedBy dx dy c.rect r → (t : Shape) → IsDrawnWire other kit wire many g t → (y edge : ℤ) → r.y1 ≡ edge +ℤ pos (drop (role other leaf))
       → IsBox (slice_index wire.metals 3) r.x1 y (r.x1 +ℤ wire.width) edge t → (y +ℤ (wire.space +ℤ wire.width)) ≤ℤ edge → HasCut dx dy frame (IsDrawnWire other kit wire many g) b
   put b c low leaf same r at t is y edge on e long =
       let top : t.rect.y2 ≡ b.rect.y2 +ℤ dy = edge_moved t.rect.y2 r.y1 c.rect.y1 b.rect.y2 c.edge edge dy (drop (role plan c.leaf)) (drop (role other leaf)) e.high on at.y1 c.at (ap drop (sym same)) c.drawn.high in
@@ -184,7 +184,7 @@ module _ (Met Out : Role → ℕ → Type 0) (drop : Role → ℕ) (plan other :
         high = same_end t.rect.y2 b.rect.y2 frame.y2 dy top;
       }
 
-  put_out : (b : Shape) (c : IsOutputAt Out drop plan kit wire f b) → (leaf : LeafInstance) → role other leaf ≡ role plan c.leaf → (r : Rect) → moved.IsMoved dx dy c.rect r → (t : Shape) → IsDrawnWire other kit wire many g t → (edge : ℤ) → r.y1 ≡ edge +ℤ pos (drop (role other leaf))
+  put_out : (b : Shape) (c : IsOutputAt Out drop plan kit wire f b) → (leaf : LeafInstance) → role other leaf ≡ role plan c.leaf → (r : Rect) → moved.IsMovedBy dx dy c.rect r → (t : Shape) → IsDrawnWire other kit wire many g t → (edge : ℤ) → r.y1 ≡ edge +ℤ pos (drop (role other leaf))
       → IsBox (slice_index wire.metals 3) r.x1 edge (r.x1 +ℤ wire.width) r.y1 t → HasCut dx dy frame (IsDrawnWire other kit wire many g) b
   put_out b c leaf same r at t is edge on e = record {
     image = t;

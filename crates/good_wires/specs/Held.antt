@@ -27,9 +27,13 @@ pub record ReachesTap (plan : Organization) (kit : LayoutKit) (wire : Wire) (tra
   pub tap : IsTapAt plan kit wire tracks f x top end
   pub highest : (other other_end : ℤ) → IsTapAt plan kit wire tracks f x other other_end → other ≤ℤ top
 
+-- each does
+abbrev pub DoRailsReach : Organization → LayoutKit → Wire → ℕ → Floorplan → Type 0
+DoRailsReach plan kit wire tracks f = (x y end : ℤ) → IsTapAt plan kit wire tracks f x y end → ReachesTap plan kit wire tracks f x
+
 -- So it is with each cut of wires, on the metals below and above it.
 abbrev pub CutsAreHeld : Type 0
 CutsAreHeld = (plan : Organization) (kit : LayoutKit) (wire : Wire) (tracks : Tracks) (f : Floorplan) → IsDrawnMemory plan kit wire tracks f → 0 < plan.word_size
-    → ((x y end : ℤ) → IsTapAt plan kit wire tracks.column f x y end → ReachesTap plan kit wire tracks.column f x)
+    → DoRailsReach plan kit wire tracks.column f
     → (k : ℕ) → k < 3 → (s : Shape) → IsDrawnWire plan kit wire tracks f s → s.layer ≡ slice_index wire.cuts k
     → IsCutHeld (IsDrawnWire plan kit wire tracks f) wire k s × IsCutHeld (IsDrawnWire plan kit wire tracks f) wire (k + 1) s

@@ -18,7 +18,7 @@ use Rattle.macro_layout.specs.Places.{Floorplan, leaf_cell}
 use Rattle.macro_layout.specs.Floorplan.{Tracks}
 use Rattle.local_report.specs.Local.{KeepsRule}
 use Rattle.good_places.specs.Leaves.{HasLeavesAndWires, AllPassAtMost, PassesAtMost, ReachesNeighboursOnly}
-use Rattle.good_places.specs.Plain.{IsOfWires}
+use Rattle.leaf_shapes.specs.Outline.{IsWireLayer}
 use Rattle.good_places.specs.Windows.{IsWindowOf, IsWrittenPlan}
 use Rattle.cell_roles.specs.declared.role.Role.{Role}
 use Rattle.good_wires.specs.Drawn.{IsDrawnMemory, IsDrawnWire}
@@ -27,14 +27,14 @@ use Rattle.good_wires.specs.Tops.{HasTopWires}
 
 -- on layers of wires leaf cells draw inside their sides alone
 abbrev pub AllDrawInside : Wire → (List ℕ → Shape → Type 0) → Organization → LayoutKit → BitCells → Type 0
-AllDrawInside wire Flat plan kit bits = (leaf : LeafInstance) (s : Shape) → HasLeafInstance plan leaf → Flat (leaf_cell plan kit bits leaf) s → IsOfWires wire s.layer → PassesAtMost (pos 0) (kit.width (role plan leaf)) (kit.height (role plan leaf)) s.rect
+AllDrawInside wire Flat plan kit bits = (leaf : LeafInstance) (s : Shape) → HasLeafInstance plan leaf → Flat (leaf_cell plan kit bits leaf) s → IsWireLayer wire s.layer → PassesAtMost (pos 0) (kit.width (role plan leaf)) (kit.height (role plan leaf)) s.rect
 
 -- a memory with its flat shapes: on the layers of wires, its wires and the shapes of its leaf instances
 pub record HasDrawnShapes (Flat : List ℕ → Shape → Type 0) (plan : Organization) (kit : LayoutKit) (bits : BitCells) (wire : Wire) (tracks : Tracks) (f : Floorplan) (by : ℤ) (shapes : List Shape) : Type 0 where
   pub drawn : IsDrawnMemory plan kit wire tracks f
   pub passes : AllPassAtMost by Flat plan kit bits
   pub inside : AllDrawInside wire Flat plan kit bits
-  pub has : (layer : ℕ) → IsOfWires wire layer → HasLeavesAndWires layer Flat plan kit bits f (IsDrawnWire plan kit wire tracks f) shapes
+  pub has : (layer : ℕ) → IsWireLayer wire layer → HasLeavesAndWires layer Flat plan kit bits f (IsDrawnWire plan kit wire tracks f) shapes
 
 -- such a memory that breaks no rule
 pub record IsCleanDrawing (Flat : List ℕ → Shape → Type 0) (rules : List Rule) (plan : Organization) (kit : LayoutKit) (bits : BitCells) (wire : Wire) (by : ℤ) : Type 0 where

@@ -3,12 +3,13 @@
 
 ghost use Rattle.high_cells.specs.High.{CellsAreHigh, KitsHaveHighCells};
 
-/// Each leaf cell is more than two wires high, since its supply rails are on two nets.
+/// In a kit whose pins are right each leaf cell is more than two wires high, since its supply rails are on two nets.
 pub fn cells_are_high()
     ensures { CellsAreHigh }
 {}
 
-/// So are those of a memory.
+/// In a kit whose pins are right the leaf cells of a memory are more than two wires high, as the laws of nets on the first
+/// metal ask.
 pub fn kits_have_high_cells()
     ensures { KitsHaveHighCells }
 {}

@@ -22,7 +22,7 @@ use Rattle.kit_rules.specs.WireRules.{IsWireRule}
 use Rattle.kit_rules.specs.Reach.{minimum_of, reach_with}
 use Rattle.kit_check.specs.Good.{AreWiresGood}
 use Rattle.good_windows.specs.Short.{HasShortReach}
-use Rattle.good_places.specs.Plain.{IsOfWires}
+use Rattle.leaf_shapes.specs.Outline.{IsWireLayer}
 use Rattle.kept_rules.specs.Allowed.{IsWideEnough, IsAllowed, IsKeptRule}
 
 -- Tests
@@ -121,11 +121,11 @@ module _ (kit : Kit) (is : IsKit kit) (good : AreWiresGood kit) where
   no_cut : (layer : ℕ) → Contains is.wire.metals layer → Contains is.wire.cuts layer → ⊥
   no_cut layer metal cut = All-contains (λ (m : ℕ). layer ≢ m) is.wire.metals layer (All-contains (λ (c : ℕ). All (λ (m : ℕ). c ≢ m) is.wire.metals) is.wire.cuts layer wires.apart cut) metal refl
 
-  width_allowed : (layer : ℕ) (min : ℤ) → Contains kit.tech.rules (Width layer min) → IsOfWires is.wire layer → IsWideEnough is.wire layer min
+  width_allowed : (layer : ℕ) (min : ℤ) → Contains kit.tech.rules (Width layer min) → IsWireLayer is.wire layer → IsWideEnough is.wire layer min
   width_allowed layer min listed (inl metal) = inr (not_less is.wire.width min (past (layer == layer) (is_lt (int_cmp is.wire.width min)) (same_is layer) (on_metal layer (Width layer min) metal listed)), no_cut layer metal)
   width_allowed layer min listed (inr cut) = inl (not_less is.wire.cut min (past (layer == layer) (is_lt (int_cmp is.wire.cut min)) (same_is layer) (on_cut layer (Width layer min) cut listed).0))
 
-  own_space : (layer : ℕ) (min : ℤ) → Contains kit.tech.rules (Space layer layer min) → (Contains is.wire.cuts layer → min ≤ℤ is.wire.space) → IsOfWires is.wire layer → min ≤ℤ is.wire.space
+  own_space : (layer : ℕ) (min : ℤ) → Contains kit.tech.rules (Space layer layer min) → (Contains is.wire.cuts layer → min ≤ℤ is.wire.space) → IsWireLayer is.wire layer → min ≤ℤ is.wire.space
   own_space layer min listed cuts (inl metal) = not_less is.wire.space min (past ((layer == layer) && (layer == layer)) (is_lt (int_cmp is.wire.space min)) (twice (layer == layer) (same_is layer)) (on_metal layer (Space layer layer min) metal listed)) where
     twice : (b : Bool) → b ≡ true → (b && b) ≡ true
     twice true e = refl

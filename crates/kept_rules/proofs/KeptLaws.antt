@@ -20,7 +20,8 @@ use Rattle.macro_layout.specs.Floorplan.{Tracks}
 use Rattle.local_report.specs.Local.{KeepsRule, HasPositiveMinimum}
 use Rattle.local_report.proofs.LocalLaws.{report_is_local}
 use Rattle.good_places.specs.Leaves.{ReachesNeighboursOnly}
-use Rattle.good_places.specs.Plain.{IsOfWires, IsPlain, HasFlatShapes, IsCleanMemory}
+use Rattle.leaf_shapes.specs.Outline.{IsWireLayer}
+use Rattle.good_places.specs.Plain.{IsPlain, HasFlatShapes, IsCleanMemory}
 use Rattle.good_places.specs.Windows.{IsWindowOf, IsWrittenPlan}
 use Rattle.good_places.proofs.PlainLaws.{plain_rules_are_kept}
 use Rattle.good_wires.specs.Kept.{Ports, IsAmong, IsCleanDrawing, IsCleanBranched, IsCleanTopped}
@@ -35,7 +36,8 @@ use Rattle.leaf_margins.proofs.WidthLaws.{wire_layer_widths_are_kept}
 use Rattle.leaf_margins.proofs.CutEncloseLaws.{cut_enclosures_are_kept}
 use Rattle.leaf_margins.proofs.WireEncloseLaws.{enclosures_by_wires_are_kept}
 use Rattle.kept_rules.specs.Allowed.{IsWideEnough, IsAllowed, IsKeptRule}
-use Rattle.kept_rules.specs.Kept.{HasSevenLayers, DoRailsReach, ReportsAreEmpty}
+use Rattle.good_wires.specs.Held.{DoRailsReach}
+use Rattle.kept_rules.specs.Kept.{HasSevenLayers, ReportsAreEmpty}
 
 -- a list has a number, or it hasn't
 has_or_not : (xs : List ℕ) (x : ℕ) → Contains xs x ⊎ (Contains xs x → ⊥)
@@ -94,7 +96,7 @@ module _ (ports tops outs : Ports) (drop : Role → ℕ) (layers : List Layer) (
   cut_there : (k : ℕ) → k < 3 → Contains wire.cuts (slice_index wire.cuts k)
   cut_there k lt = has.flat.drawn.three k lt
 
-  of_wires : (layer : ℕ) → IsMetalOrCut wire layer → IsOfWires wire layer
+  of_wires : (layer : ℕ) → IsMetalOrCut wire layer → IsWireLayer wire layer
   of_wires layer (inl (k, lt, e)) = inl (subst (Contains wire.metals) (sym e) (metal_there k lt))
   of_wires layer (inr (k, lt, e)) = inr (subst (Contains wire.cuts) (sym e) (cut_there k lt))
 
@@ -119,7 +121,7 @@ module _ (ports tops outs : Ports) (drop : Role → ℕ) (layers : List Layer) (
     own_space layer (inl (k, lt, e)) small listed = subst (λ (l : ℕ). Kept (Space l l min)) (sym e) (metal_space k lt small (subst (λ (l : ℕ). Contains rules (Space l l min)) e listed))
     own_space layer (inr (k, lt, e)) small listed = subst (λ (l : ℕ). Kept (Space l l min)) (sym e) (cut_space k lt small (subst (λ (l : ℕ). Contains rules (Space l l min)) e listed))
 
-    width : (layer : ℕ) → (IsOfWires wire layer → IsWideEnough wire layer min) → Kept (Width layer min)
+    width : (layer : ℕ) → (IsWireLayer wire layer → IsWideEnough wire layer min) → Kept (Width layer min)
     width layer allowed = elim (layer_kind layer) [
       | inl plain ↦ plain_rules_are_kept layers structs rules plan kit bit wire f by reach to p short flat_shapes memory (Width layer min) (plain, some, near)
       | inr of ↦ wire_layer_widths_are_kept ports tops outs drop layers structs rules plan kit bit wire tracks f by reach to p short over has metal_there windows layer min of (allowed (of_wires layer of)) some near

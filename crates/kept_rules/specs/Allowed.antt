@@ -5,7 +5,8 @@ use Rattle.tech_rules.specs.declared.tech.Rule.TheVariants.{Width, Space, Enclos
 use Rattle.tech_rules.specs.declared.tech.Wire.{Wire}
 use Rattle.tech_rules.specs.WireRules.{margin}
 use Rattle.kit_rules.specs.Reach.{minimum_of}
-use Rattle.good_places.specs.Plain.{IsOfWires, IsPlain}
+use Rattle.leaf_shapes.specs.Outline.{IsWireLayer}
+use Rattle.good_places.specs.Plain.{IsPlain}
 
 -- no wire is less wide than the minimum, nor a cut on a layer that has cuts
 abbrev pub IsWideEnough : Wire → ℕ → ℤ → Type 0
@@ -21,8 +22,8 @@ pub record IsEnclosed (wire : Wire) (layer : ℕ) (listed : List ℕ) (min : ℤ
 
 -- The rule is about no layer of wires, or is a width rule, a space rule of a layer with itself, or an enclose rule of a cut, which wires keep.
 abbrev pub IsAllowed : Wire → Rule → Type 0
-IsAllowed wire (Width layer min) = IsOfWires wire layer → IsWideEnough wire layer min
-IsAllowed wire (Space layer other min) = (IsPlain wire layer × IsPlain wire other) ⊎ ((layer ≡ other) × (IsOfWires wire layer → min ≤ℤ wire.space))
+IsAllowed wire (Width layer min) = IsWireLayer wire layer → IsWideEnough wire layer min
+IsAllowed wire (Space layer other min) = (IsPlain wire layer × IsPlain wire other) ⊎ ((layer ≡ other) × (IsWireLayer wire layer → min ≤ℤ wire.space))
 IsAllowed wire (Enclose layer listed min) = IsPlain wire layer ⊎ IsEnclosed wire layer listed min
 
 -- such a rule, which is felt no further than the reach

@@ -22,7 +22,8 @@ use Rattle.joined_nets.specs.Joints.{JoinsWires}
 use Rattle.kit_nets.specs.StatedParts.{Source, stated_parts, IsStatedBy}
 use Rattle.kit_nets.specs.RolePins.{AreRolePins}
 use Rattle.kit_nets.specs.Hubs.{IsPortJoined, IsArrayNet, IsBehindMux}
-use Rattle.kit_nets.specs.DrawnChannels.{IsDrawnChannel, AreFirstLayers}
+use Rattle.kit_nets.specs.DrawnChannels.{IsDrawnChannel}
+use Rattle.leaf_shapes.specs.FirstLayers.{AreFirstLayers}
 use Rattle.kit_nets.proofs.ArrayNetLaws.{pin_at}
 use Rattle.kit_nets.proofs.PinJoinLaws.{standing, pin_joined_by}
 use Rattle.kit_nets.proofs.ArrayJoinLaws.{array_hub}

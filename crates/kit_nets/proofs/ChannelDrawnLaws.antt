@@ -27,7 +27,8 @@ use Rattle.joined_nets.specs.WireNets.{in_bank, IsWireOfNet}
 use Rattle.joined_nets.proofs.ChannelLaws.{channel_joined}
 use Rattle.joined_nets.proofs.WireNetLaws.{item_there, place_below}
 use Rattle.kit_nets.specs.StatedParts.{Source, stated_parts, IsStatedBy}
-use Rattle.kit_nets.specs.DrawnChannels.{IsDrawnChannel, IsFirstLayer, AreFirstLayers}
+use Rattle.kit_nets.specs.DrawnChannels.{IsDrawnChannel}
+use Rattle.leaf_shapes.specs.FirstLayers.{IsFirstLayer, AreFirstLayers}
 use Rattle.kit_nets.proofs.PartsLaws.{stated_are_parts}
 pub use Rattle.joined_nets.proofs.ChannelLaws.{on_wire_layer}
 
@@ -43,8 +44,8 @@ on_first_layer layers Drawn u index first on drawn = record {
 }
 
 pub drawn_as_is : (layers : List Layer) (wire : Wire) (Drawn : Shape → Type 0) (u : Shape) → AreFirstLayers layers wire → IsOnWireLayer wire u → Drawn u → IsOnFirstLayer layers Drawn u
-drawn_as_is layers wire Drawn u first (inl metal) drawn = on_first_layer layers Drawn u (slice_index wire.metals metal.place) (first.metals metal.place metal.below) metal.on drawn
-drawn_as_is layers wire Drawn u first (inr cut) drawn = on_first_layer layers Drawn u (slice_index wire.cuts cut.place) (first.cuts cut.place cut.below) cut.on drawn
+drawn_as_is layers wire Drawn u first (inl metal) drawn = on_first_layer layers Drawn u (slice_index wire.metals metal.place) (first.there (slice_index wire.metals metal.place) (inl (first.metals metal.place metal.below))) metal.on drawn
+drawn_as_is layers wire Drawn u first (inr cut) drawn = on_first_layer layers Drawn u (slice_index wire.cuts cut.place) (first.there (slice_index wire.cuts cut.place) (inr (first.cuts cut.place cut.below))) cut.on drawn
 
 -- a shape moved right and up
 pub moved_is_shifted : (dx dy : ℤ) (a b : Shape) → IsMoved (upright_place dx dy) a b → IsShifted dx dy a b

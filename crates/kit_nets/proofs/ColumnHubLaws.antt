@@ -37,7 +37,8 @@ use Rattle.joined_nets.proofs.FacingLaws.{wire_above, wire_below}
 use Rattle.joined_nets.proofs.WireNetLaws.{item_there, place_below}
 use Rattle.kit_nets.specs.StatedParts.{Source, IsStatedBy}
 use Rattle.kit_nets.specs.RolePins.{IsDrawnPin}
-use Rattle.kit_nets.specs.DrawnChannels.{IsDrawnChannel, AreFirstLayers}
+use Rattle.kit_nets.specs.DrawnChannels.{IsDrawnChannel}
+use Rattle.leaf_shapes.specs.FirstLayers.{AreFirstLayers}
 use Rattle.kit_nets.proofs.DemandLaws.{metal_conducts}
 use Rattle.kit_nets.proofs.ArrayNetLaws.{pin_of, pin_at, IsBoundPin, pin_listed}
 use Rattle.kit_nets.proofs.PinJoinLaws.{facing_joined}

@@ -31,7 +31,8 @@ use Rattle.joined_nets.specs.Facing.{FaceUp}
 use Rattle.joined_nets.proofs.FacingLaws.{write_joined}
 use Rattle.kit_nets.specs.StatedParts.{Source, IsStatedBy}
 use Rattle.kit_nets.specs.RolePins.{IsDemand, IsDrawnPin, AreRolePins}
-use Rattle.kit_nets.specs.DrawnChannels.{IsDrawnChannel, AreFirstLayers}
+use Rattle.kit_nets.specs.DrawnChannels.{IsDrawnChannel}
+use Rattle.leaf_shapes.specs.FirstLayers.{AreFirstLayers}
 use Rattle.kit_nets.proofs.DemandLaws.{metal_conducts}
 use Rattle.kit_nets.proofs.ArrayNetLaws.{pin_at, pin_listed}
 use Rattle.kit_nets.proofs.PinJoinLaws.{facing_joined, pins_joined}

@@ -31,7 +31,8 @@ use Rattle.joined_nets.proofs.WireNetLaws.{place_below}
 use Rattle.kit_nets.specs.StatedParts.{Source, IsStatedBy}
 use Rattle.kit_nets.specs.RolePins.{IsDemand, IsDrawnPin, AreRolePins}
 use Rattle.kit_nets.specs.Hubs.{IsPortJoined}
-use Rattle.kit_nets.specs.DrawnChannels.{IsDrawnChannel, AreFirstLayers}
+use Rattle.kit_nets.specs.DrawnChannels.{IsDrawnChannel}
+use Rattle.leaf_shapes.specs.FirstLayers.{AreFirstLayers}
 use Rattle.kit_nets.proofs.DemandLaws.{metal_conducts}
 use Rattle.kit_nets.proofs.ArrayNetLaws.{pin_of, pin_at, pin_listed}
 use Rattle.kit_nets.proofs.PinJoinLaws.{standing, pin_joined_by, facing_joined}

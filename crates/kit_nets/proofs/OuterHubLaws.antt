@@ -13,7 +13,8 @@ use Rattle.joined_nets.specs.Joints.{JoinsWires}
 use Rattle.kit_nets.specs.StatedParts.{Source, stated_parts, IsStatedBy}
 use Rattle.kit_nets.specs.Hubs.{IsArrayNet}
 use Rattle.kit_nets.specs.OuterHubs.{AreOuterHubs}
-use Rattle.kit_nets.specs.DrawnChannels.{IsDrawnChannel, AreFirstLayers}
+use Rattle.kit_nets.specs.DrawnChannels.{IsDrawnChannel}
+use Rattle.leaf_shapes.specs.FirstLayers.{AreFirstLayers}
 use Rattle.kit_nets.proofs.ArrayJoinLaws.{array_hub}
 use Rattle.kit_nets.proofs.DataHubLaws.{data_hub}
 use Rattle.kit_nets.proofs.ChannelDrawnLaws.{main_wire}

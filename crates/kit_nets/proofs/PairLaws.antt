@@ -11,7 +11,7 @@ use Rattle.sram_netlist.specs.Nets.{Net}
 use Rattle.sram_netlist.specs.Instances.{LogicCell, LogicAt}
 use Rattle.moved_nets.specs.Moved.{slice_net, slice_leaf, IsInSlices, Moves, logic_net, moved_cell, MovesAsMask}
 use Rattle.good_nets.specs.Ports.{upright_place}
-use Rattle.good_nets.specs.Parts.{IsShapeOf, Window, ArePairSeen, IsWireSeen}
+use Rattle.good_nets.specs.Parts.{IsShapeOf, SeenLayout, ArePairSeen, IsWireSeen}
 use Rattle.kit_nets.specs.StatedParts.{Source, Standing, stated_parts}
 use Rattle.kit_nets.specs.StatedWindow.{IsStatedWindow}
 use Rattle.kit_nets.specs.StandIns.{AreAkin, StandsMoved}
@@ -19,7 +19,7 @@ use Rattle.kit_nets.proofs.StatedWindowLaws.{stated_window_is_right}
 use Rattle.kit_nets.proofs.StandInLaws.{slice_stands_in, logic_stands_in}
 
 module _ (connections : List Connect) (s w : Source) (akin : AreAkin s w) (flat : FlatLists) (labels : List NetLabel) (rows : List RowPin) (is : IsStatedWindow connections w flat labels rows) where
-  abbrev window : Window Net connections
+  abbrev window : SeenLayout Net connections
   window = record { parts = stated_parts w; shapes = flat.shapes; plain = flat.labels; labels = labels; pins = rows; right = stated_window_is_right connections w flat labels rows is }
 
   -- Two instances of banks or data flip-flops, which stand k slices behind two of the window.

@@ -36,7 +36,8 @@ use Rattle.joined_nets.proofs.TapLaws.{tap_on_rail}
 use Rattle.kit_nets.specs.StatedParts.{Source, stated_parts, IsStatedBy}
 use Rattle.kit_nets.specs.RolePins.{IsDrawnPin, AreRolePins}
 use Rattle.kit_nets.specs.Hubs.{IsPortJoined}
-use Rattle.kit_nets.specs.DrawnChannels.{IsDrawnChannel, AreFirstLayers}
+use Rattle.kit_nets.specs.DrawnChannels.{IsDrawnChannel}
+use Rattle.leaf_shapes.specs.FirstLayers.{AreFirstLayers}
 use Rattle.kit_nets.proofs.DemandLaws.{metal_conducts}
 use Rattle.kit_nets.proofs.ArrayNetLaws.{pin_of, pin_at, pin_listed}
 use Rattle.kit_nets.proofs.PartsLaws.{stated_are_parts}

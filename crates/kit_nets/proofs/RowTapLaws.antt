@@ -22,7 +22,8 @@ use Rattle.good_nets.proofs.CellLaws.{has_image}
 use Rattle.joined_nets.specs.Joints.{JoinsWires}
 use Rattle.kit_nets.specs.StatedParts.{Source, IsStatedBy}
 use Rattle.kit_nets.specs.RolePins.{AreRolePins}
-use Rattle.kit_nets.specs.DrawnChannels.{IsDrawnChannel, AreFirstLayers}
+use Rattle.kit_nets.specs.DrawnChannels.{IsDrawnChannel}
+use Rattle.leaf_shapes.specs.FirstLayers.{AreFirstLayers}
 use Rattle.kit_nets.proofs.ArrayNetLaws.{pin_of, pin_at}
 use Rattle.kit_nets.proofs.ChannelDrawnLaws.{IsOfMain}
 use Rattle.kit_nets.proofs.ColumnHubLaws.{zero_times, pin_shifted}

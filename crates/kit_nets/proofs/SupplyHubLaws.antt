@@ -19,7 +19,7 @@ use Rattle.joined_nets.specs.Joints.{JoinsWires, IsOnWireLayer}
 use Rattle.joined_nets.specs.WireNets.{IsWireOfNet}
 use Rattle.joined_nets.proofs.SupplyLaws.{bar_on_trunk, shape_in_bar, shape_below_bar}
 use Rattle.kit_nets.specs.StatedParts.{Source, stated_parts, IsStatedBy}
-use Rattle.kit_nets.specs.DrawnChannels.{AreFirstLayers}
+use Rattle.leaf_shapes.specs.FirstLayers.{AreFirstLayers}
 use Rattle.kit_nets.proofs.DemandLaws.{metal_conducts}
 use Rattle.kit_nets.proofs.PartsLaws.{stated_are_parts}
 use Rattle.kit_nets.proofs.PinJoinLaws.{facing_joined}

@@ -5,12 +5,12 @@ use Rattle.tech_rules.specs.declared.route.RouteFault.{RouteFault}
 use Rattle.tech_rules.specs.declared.route.RouteFault.TheVariants as route_fault
 use Rattle.tech_rules.specs.declared.tech.Wire.{Wire}
 use Rattle.sram_netlist.specs.Organization.{Organization}
-use Rattle.sram_netlist.specs.Numbers.{ArePlanNumbers}
 use Rattle.sram_plan.specs.declared.config.Config.{Config}
 use Rattle.sram_plan.specs.declared.numbers.Plan.{Plan}
 use Rattle.sram_plan.specs.Config.{IsConfig}
 use Rattle.sram_plan.specs.Plan.{IsPlanOf, row_groups}
-use Rattle.sram_plan.specs.PlanNumbers.{numbers_of, organization}
+use Rattle.sram_plan.specs.PlanNumbers.{organization}
+use Rattle.sram_plan.proofs.PlanLaws.{plan_numbers}
 use Rattle.leaf_tables.specs.declared.kit.Kit.{Kit}
 use Rattle.leaf_tables.specs.declared.part.PartFault.TheVariants as part_fault
 use Rattle.leaf_tables.specs.Kits.{IsKit}
@@ -63,15 +63,15 @@ taps_free kit plan name is good planned a b (_, inr (free, parts)) =
       | inr narrow ↦ narrow (model_wide (organization plan) (layout_kit kit) planned.written c.wide)
     ]
 
-planned_of : (config : Config) (plan : Plan) → IsConfig config → IsPlanOf config plan → ArePlanNumbers (numbers_of plan) → IsPlanned plan
-planned_of config plan is of numbers =
+planned_of : (config : Config) (plan : Plan) → IsConfig config → IsPlanOf config plan → IsPlanned plan
+planned_of config plan is of =
     let some = is.some_written in
     let same = of.with.write_size in
-    record { numbers = numbers; groups = of.with.groups ∙ ap row_groups (sym of.with.rows); written = omega (arith, some, same) }
+    record { numbers = plan_numbers config plan is of; groups = of.with.groups ∙ ap row_groups (sym of.with.rows); written = omega (arith, some, same) }
 
 pub good_kits_route : GoodKitsRoute
-good_kits_route kit config plan name is good is_config of numbers =
-    let planned = planned_of config plan is_config of numbers in
+good_kits_route kit config plan name is good is_config of =
+    let planned = planned_of config plan is_config of in
     record {
       pins = pins_free kit plan name is good planned;
       taps = taps_free kit plan name is good planned;

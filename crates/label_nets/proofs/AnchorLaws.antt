@@ -25,7 +25,7 @@ use Rattle.cell_hierarchy.specs.FlatSet.{path_under}
 use Rattle.good_nets.specs.Drawn.{BindsFor}
 use Rattle.good_nets.proofs.NetLaws.{nets_on, net_back}
 use Rattle.joined_nets.proofs.WireNetLaws.{item_there, place_below}
-use Rattle.row_nets.specs.Rows.{IsOfNet}
+use Rattle.row_nets.specs.Rows.{IsRowOfNet}
 use Rattle.row_nets.proofs.RowLaws.{row_of_port, rows_tell}
 use Rattle.kit_nets.specs.StatedParts.{Source, Standing, leaf_lists, DoLabelsStay}
 use Rattle.kit_nets.proofs.LabelLaws.{label_at, label_listed, unmapped}
@@ -40,7 +40,7 @@ module _ (connections : List Connect) (s : Source) (flat : FlatLists) (labels : 
   OneNet a b = AreOnOneNet connections flat.shapes a b
 
   abbrev Of : RowPin → Net → Type 0
-  Of row net = IsOfNet s.plan s.kit.cell s.bits rows row net
+  Of row net = IsRowOfNet s.plan s.kit.cell s.bits rows row net
 
   -- a label that binds a shape has a number
   numbered : (e : NetLabel) (u : Shape) → Contains labels e → Binds flat.shapes (anchor_of e) u → (n : ℕ) × (e.net ≡ Some n)

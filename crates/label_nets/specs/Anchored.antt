@@ -18,7 +18,7 @@ use Rattle.sram_netlist.specs.Membership.{HasLeafInstance}
 use Rattle.sram_netlist.specs.Names.{leaf_path}
 use Rattle.sram_rows.specs.Rows.{netlist_pins, RowsEqual}
 use Rattle.good_nets.specs.Drawn.{BindsFor}
-use Rattle.row_nets.specs.Rows.{IsOfNet}
+use Rattle.row_nets.specs.Rows.{IsRowOfNet}
 use Rattle.kit_nets.specs.Bound.{BindsForPort}
 use Rattle.kit_nets.specs.StatedParts.{Source, Standing, leaf_lists, IsStatedBy, DoLabelsStay}
 
@@ -37,7 +37,7 @@ pub record IsMatchedMacro (connections : List Connect) (s : Source) (flat : Flat
 pub record HasLabelOn (connections : List Connect) (s : Source) (flat : FlatLists) (labels : List NetLabel) (rows : List RowPin) (net : Net) (shape : Shape) : Type 0 where
   pub row : RowPin
   pub listed : Contains rows row
-  pub of : IsOfNet s.plan s.kit.cell s.bits rows row net
+  pub of : IsRowOfNet s.plan s.kit.cell s.bits rows row net
   pub bound : Shape
   pub binds : BindsFor flat.shapes labels row bound
   pub joined : AreOnOneNet connections flat.shapes bound shape

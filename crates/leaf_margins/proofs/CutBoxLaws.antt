@@ -16,7 +16,7 @@ use Rattle.macro_layout.specs.LayoutKit.{LayoutKit}
 use Rattle.macro_layout.specs.Places.{Floorplan, bank_x, columns_x}
 use Rattle.macro_layout.specs.Floorplan.{Tracks, column_channel_y}
 use Rattle.good_places.specs.Leaves.{Zone}
-use Rattle.good_places.specs.Plain.{IsOfWires}
+use Rattle.leaf_shapes.specs.Outline.{IsWireLayer}
 use Rattle.good_wires.specs.Drawn.{IsDrawnMemory}
 use Rattle.good_wires.specs.Kept.{HasDrawnShapes}
 use Rattle.good_wires.proofs.LevelLaws.{Levels, levels, Sides, sides}
@@ -28,7 +28,7 @@ use Rattle.upright_covers.proofs.GapLaws.{IsGapColumn, no_bank, no_rail, box_lef
 use Rattle.upright_covers.proofs.ChannelRowLaws.{IsLogicTop, IsSliceFoot, IsSliceTop, IsColumnFoot, over_logic, under_slices, over_slices, under_columns, logic_top, slice_foot, slice_top, column_foot, zone_off_channels}
 
 module _ (Flat : List ℕ → Shape → Type 0) (other : Organization) (kit : LayoutKit) (bits : BitCells) (wire : Wire) (many : Tracks) (g : Floorplan) (by reach : ℤ) (from : List Shape) (h : HasDrawnShapes Flat other kit bits wire many g by from)
-    (k : ℕ) (few : k < 3) (some : 0 < k) (own : IsOfWires wire (slice_index wire.cuts k)) (z near : Zone) (kind : ZoneKind other kit wire many g h.drawn z) (d : ℤ) (box : Rect) (at : IsBoxAt wire reach z near d box) (covered : IsCoveredBy (slice_index wire.cuts k) from box) where
+    (k : ℕ) (few : k < 3) (some : 0 < k) (own : IsWireLayer wire (slice_index wire.cuts k)) (z near : Zone) (kind : ZoneKind other kit wire many g h.drawn z) (d : ℤ) (box : Rect) (at : IsBoxAt wire reach z near d box) (covered : IsCoveredBy (slice_index wire.cuts k) from box) where
   abbrev cut : ℕ
   cut = slice_index wire.cuts k
 

@@ -5,7 +5,7 @@ use Rattle.std.proofs.lemmas.Int.{ints}
 use Rattle.or_geom.specs.declared.shape.Rect.{Rect}
 use Rattle.or_geom.specs.declared.shape.Shape.{Shape}
 use Rattle.or_geom.proofs.ListLaws.{contains_none, contains_cases, contains_first}
-use Rattle.shape_bins.specs.Meets.{HoldsRect}
+use Rattle.or_geom.specs.Containing.{HoldsRect}
 use Rattle.cell_roles.specs.declared.role.Role.{Role}
 use Rattle.tech_rules.specs.declared.tech.Rule.{Rule}
 use Rattle.tech_rules.specs.declared.tech.Rule.TheVariants.{Enclose}
@@ -21,20 +21,20 @@ use Rattle.macro_layout.specs.LayoutKit.{LayoutKit}
 use Rattle.macro_layout.specs.Places.{Floorplan}
 use Rattle.macro_layout.specs.Floorplan.{Tracks}
 use Rattle.macro_layout.specs.Layout.{IsOfLeaf}
-use Rattle.macro_layout.specs.Wires.{IsTapAt}
-use Rattle.local_report.specs.Moved.{IsMoved, LiesAround}
+use Rattle.local_report.specs.Moved.{IsMovedBy, LiesAround}
 use Rattle.local_report.specs.Seen.{KeepsCover}
 use Rattle.local_report.specs.Alike.{LookAlike}
 use Rattle.local_report.specs.Local.{KeepsRule, IsEncloseSeen}
 use Rattle.local_report.proofs.AlikeLaws.{alike_keeps_enclose}
 use Rattle.local_report.proofs.SpaceLaws.{grown_rect}
 use Rattle.good_places.specs.Leaves.{Zone, zone_of, LiesNear, HasLeavesOn, ReachesNeighboursOnly}
-use Rattle.good_places.specs.Plain.{IsOfWires, IsPlain}
+use Rattle.leaf_shapes.specs.Outline.{IsWireLayer}
+use Rattle.good_places.specs.Plain.{IsPlain}
 use Rattle.good_places.specs.Seen.{AreCompared}
 use Rattle.good_places.specs.Windows.{with_bits, IsWindowOf, IsWrittenPlan}
 use Rattle.good_places.proofs.SeenLaws.{image, moved_back, lies, looks}
 use Rattle.good_wires.specs.Drawn.{IsDrawnWire}
-use Rattle.good_wires.specs.Held.{ReachesTap}
+use Rattle.good_wires.specs.Held.{DoRailsReach}
 use Rattle.good_wires.specs.Kept.{IsAmong}
 use Rattle.good_wires.proofs.HeldLaws.{wire_layer}
 use Rattle.good_wires.proofs.OwnLaws.{wire_cuts_are_enclosed}
@@ -51,7 +51,7 @@ grown_holds min r g some is = record { left = let e = is.left in omega (arith, i
 
 -- a layer on which only leaf cells draw covers the shape, grown, here where it covers it there
 pub plain_cover : (Flat : List ℕ → Shape → Type 0) (rules : List Rule) (plan other : Organization) (kit : LayoutKit) (bits : BitCells) (f g : Floorplan) (wire : Wire) (by reach : ℤ) (here there : Zone) (from to : List Shape) (c : AreCompared Flat rules plan other kit bits f g wire by reach here there from)
-    → (layer : ℕ) (min : ℤ) (a m grown : Rect) → pos 1 ≤ℤ min → (min +ℤ (by +ℤ by)) ≤ℤ reach → HasLeavesOn layer Flat other kit bits g from → HasLeavesOn layer Flat plan kit bits f to → LiesNear by here a → IsMoved c.alike.right c.alike.up m a → IsGrown min m grown
+    → (layer : ℕ) (min : ℤ) (a m grown : Rect) → pos 1 ≤ℤ min → (min +ℤ (by +ℤ by)) ≤ℤ reach → HasLeavesOn layer Flat other kit bits g from → HasLeavesOn layer Flat plan kit bits f to → LiesNear by here a → IsMovedBy c.alike.right c.alike.up m a → IsGrown min m grown
     → KeepsCover c.alike.right c.alike.up layer from to grown
 plain_cover Flat rules plan other kit bits f g wire by reach here there from to c layer min a m grown some near has_from has_to l at is =
     let frame = grown_rect min a some in
@@ -74,7 +74,7 @@ module _ (Met Top Out : Role → ℕ → Type 0) (drop : Role → ℕ) (Flat : L
   enclose_seen listed min a is kinds some few near o =
       let s = seen_in Met Top Out drop Flat rules plan kit bit wire tracks f by reach to p short low memory metals windows a o in
       let here = zone_of plan kit f o.leaf o.place in
-      let own : IsOfWires wire a.layer = own_of Met Top Out drop Flat rules plan kit bit wire tracks f by reach to p short low memory metals windows a.layer is in
+      let own : IsWireLayer wire a.layer = own_of Met Top Out drop Flat rules plan kit bit wire tracks f by reach to p short low memory metals windows a.layer is in
       let h = image Flat rules plan (with_bits plan s.word s.write s.masks) kit (Alike bit) f s.layout.floorplan wire by reach here s.there s.layout.shapes to s.compared a min some near (record { of = o; zone = refl }) in
       let at = moved_back Flat rules plan (with_bits plan s.word s.write s.masks) kit (Alike bit) f s.layout.floorplan wire by reach here s.there s.layout.shapes to s.compared a.rect h.moved.0.rect h.moved.2 in
       let outer = lies Flat rules plan (with_bits plan s.word s.write s.masks) kit (Alike bit) f s.layout.floorplan wire by reach here s.there s.layout.shapes to s.compared a (record { of = o; zone = refl }) in
@@ -93,7 +93,7 @@ module _ (Met Top Out : Role → ℕ → Type 0) (drop : Role → ℕ) (Flat : L
         ];
       }
 
-  pub kept : ((x y end : ℤ) → IsTapAt plan kit wire tracks.column f x y end → ReachesTap plan kit wire tracks.column f x) → (k : ℕ) (min : ℤ) (listed : List ℕ) → k < 3 → pos 1 ≤ℤ min → min ≤ℤ margin wire → (min +ℤ (by +ℤ by)) ≤ℤ reach
+  pub kept : DoRailsReach plan kit wire tracks.column f → (k : ℕ) (min : ℤ) (listed : List ℕ) → k < 3 → pos 1 ≤ℤ min → min ≤ℤ margin wire → (min +ℤ (by +ℤ by)) ≤ℤ reach
       → Contains listed (slice_index wire.metals k) ⊎ Contains listed (slice_index wire.metals (k + 1)) → ((layer : ℕ) → Contains listed layer → IsPlain wire layer ⊎ IsMetalOrCut wire layer) → KeepsRule rules to (Enclose (slice_index wire.cuts k) listed min)
   kept taps k min listed few some le near metal kinds a there on = elim ((memory.flat.has a.layer own a refl).0 there) [
     | inl wired ↦ inl (wire_cuts_are_enclosed plan kit wire tracks f to memory.flat.drawn p.words taps all_wires k min listed few some le metal a wired)
@@ -102,7 +102,7 @@ module _ (Met Top Out : Role → ℕ → Type 0) (drop : Role → ℕ) (Flat : L
     is : IsMetalOrCut wire a.layer
     is = inr (k, few, on)
 
-    own : IsOfWires wire a.layer
+    own : IsWireLayer wire a.layer
     own = own_of Met Top Out drop Flat rules plan kit bit wire tracks f by reach to p short low memory metals windows a.layer is
 
     all_wires : (s : Shape) → IsDrawnWire plan kit wire tracks f s → Contains to s

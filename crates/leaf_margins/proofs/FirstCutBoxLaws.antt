@@ -16,7 +16,7 @@ use Rattle.macro_layout.specs.Places.{Floorplan}
 use Rattle.macro_layout.specs.Floorplan.{Tracks}
 use Rattle.macro_layout.specs.Wires.{trunk_x}
 use Rattle.good_places.specs.Leaves.{Zone, zone_of}
-use Rattle.good_places.specs.Plain.{IsOfWires}
+use Rattle.leaf_shapes.specs.Outline.{IsWireLayer}
 use Rattle.good_wires.specs.Kept.{HasDrawnShapes}
 use Rattle.good_wires.proofs.ClearLaws.{ZoneKind}
 use Rattle.supply_bars.specs.Heights.{trunk_by, is_power}
@@ -25,7 +25,7 @@ use Rattle.supply_bars.proofs.PartLaws.{trunks}
 use Rattle.upright_covers.proofs.BoxLaws.{IsWireCell, cell_kind}
 use Rattle.upright_covers.proofs.AtLaws.{IsBoxAt, zone_before_trunk}
 
-module _ (Flat : List ℕ → Shape → Type 0) (other : Organization) (kit : LayoutKit) (bits : BitCells) (wire : Wire) (many : Tracks) (g : Floorplan) (by reach : ℤ) (from : List Shape) (h : HasDrawnShapes Flat other kit bits wire many g by from) (own : IsOfWires wire (slice_index wire.cuts 0))
+module _ (Flat : List ℕ → Shape → Type 0) (other : Organization) (kit : LayoutKit) (bits : BitCells) (wire : Wire) (many : Tracks) (g : Floorplan) (by reach : ℤ) (from : List Shape) (h : HasDrawnShapes Flat other kit bits wire many g by from) (own : IsWireLayer wire (slice_index wire.cuts 0))
     (z near : Zone) (kind : ZoneKind other kit wire many g h.drawn z) (d : ℤ) (box : Rect) (at : IsBoxAt wire reach z near d box) (covered : IsCoveredBy (slice_index wire.cuts 0) from box) where
   abbrev cut : ℕ
   cut = slice_index wire.cuts 0

@@ -16,12 +16,12 @@ use Rattle.macro_layout.specs.LayoutKit.{LayoutKit}
 use Rattle.macro_layout.specs.Places.{Floorplan}
 use Rattle.macro_layout.specs.Floorplan.{Tracks, column_channel_y}
 use Rattle.macro_layout.specs.Wires.{trunk_x}
-use Rattle.local_report.specs.Moved.{IsMoved}
+use Rattle.local_report.specs.Moved.{IsMovedBy}
 use Rattle.good_places.specs.Beside.{HaveOneLeftPart}
 use Rattle.good_places.specs.Leaves.{Zone, ReachesNeighboursOnly}
 use Rattle.good_places.specs.Kinds.{AreOfOneKind}
 use Rattle.good_places.specs.Seen.{AreCompared}
-use Rattle.good_places.specs.Plain.{IsOfWires}
+use Rattle.leaf_shapes.specs.Outline.{IsWireLayer}
 use Rattle.good_places.specs.Windows.{with_bits}
 use Rattle.good_wires.proofs.ClearLaws.{ZoneKind, IsBankZone, column_in, front_in, slice_in}
 use Rattle.supply_bars.proofs.PairedLaws.{ArePaired, paired_back, zone_back}
@@ -105,10 +105,10 @@ module _ (Met Top Out : Role → ℕ → Type 0) (drop : Role → ℕ) (Flat : L
   abbrev pub Kept : ℕ → Rect → Type 0
   Kept layer box = (x y : ℤ) → HasCell box x y → IsWireCell Flat other kit bits wire many g by from window.flat layer x y → IsWireCell Flat plan kit bits wire tracks f by to memory.flat layer (x +ℤ dx) (y +ℤ dy)
 
-  metal_own : (k : ℕ) → k < 4 → IsOfWires wire (slice_index wire.metals k)
+  metal_own : (k : ℕ) → k < 4 → IsWireLayer wire (slice_index wire.metals k)
   metal_own k few = inl (metals k few)
 
-  cut_own : (k : ℕ) → k < 3 → IsOfWires wire (slice_index wire.cuts k)
+  cut_own : (k : ℕ) → k < 3 → IsWireLayer wire (slice_index wire.cuts k)
   cut_own k few = inr (window.flat.drawn.three k few)
 
   past : (b z d : ℤ) → b ≤ℤ (z +ℤ d) → d ≤ℤ (wire.space +ℤ wire.width) → b ≤ℤ (z +ℤ (wire.space +ℤ wire.width))
@@ -132,7 +132,7 @@ module _ (Met Top Out : Role → ℕ → Type 0) (drop : Role → ℕ) (Flat : L
   cut_kept zero few d box b covered x y inside w = absurd (first_cut_out Flat other kit bits wire many g by reach from window.flat (cut_own 0 few) there there zone_is d box b covered x y inside w)
   cut_kept (suc k) few d box b covered x y inside w = absurd (cut_out Flat other kit bits wire many g by reach from window.flat (suc k) few (omega arith) (cut_own (suc k) few) there there zone_is d box b covered x y inside w)
 
-  pub layer_kept : (layer : ℕ) → IsMetalOrCut wire layer → (d : ℤ) (box : Rect) → IsCloseBox d box → (moved : Rect) → IsMoved dx dy box moved → IsCoveredBy layer from box → IsCoveredBy layer to moved
+  pub layer_kept : (layer : ℕ) → IsMetalOrCut wire layer → (d : ℤ) (box : Rect) → IsCloseBox d box → (moved : Rect) → IsMovedBy dx dy box moved → IsCoveredBy layer from box → IsCoveredBy layer to moved
   layer_kept layer (inl (k, few, e)) d box b moved at covered =
       subst (λ (n : ℕ). IsCoveredBy n to moved) (sym e)
       (box_kept Flat rules plan other kit bits f g wire tracks many by reach here there from to c memory.flat window.flat (slice_index wire.metals k) d box (metal_own k few) b.at.lies b.at.felt (metal_kept k few d box b (subst (λ (n : ℕ). IsCoveredBy n from box) e covered)) moved at (subst (λ (n : ℕ). IsCoveredBy n from box) e covered))

@@ -4,7 +4,7 @@ use Rattle.std.specs.Prelude.{Contains, slice_index}
 use Rattle.std.proofs.lemmas.Int.{ints}
 use Rattle.or_geom.specs.declared.shape.Rect.{Rect}
 use Rattle.or_geom.specs.declared.shape.Shape.{Shape}
-use Rattle.shape_bins.specs.Meets.{HoldsRect}
+use Rattle.or_geom.specs.Containing.{HoldsRect}
 use Rattle.shape_bins.specs.Layers.{IsCoveredBy}
 use Rattle.cell_roles.specs.declared.role.Role.{Role}
 use Rattle.tech_rules.specs.declared.tech.Rule.{Rule}
@@ -16,14 +16,14 @@ use Rattle.macro_layout.specs.LayoutKit.{LayoutKit}
 use Rattle.macro_layout.specs.Places.{Floorplan}
 use Rattle.macro_layout.specs.Floorplan.{Tracks}
 use Rattle.macro_layout.specs.Layout.{IsOfLeaf}
-use Rattle.local_report.specs.Moved.{IsMoved, LiesAround}
+use Rattle.local_report.specs.Moved.{IsMovedBy, LiesAround}
 use Rattle.local_report.specs.Local.{IsWidthSeen}
 use Rattle.good_places.specs.Leaves.{Zone, zone_of, LiesNear, ReachesNeighboursOnly}
 use Rattle.good_places.specs.Kinds.{AreOfOneKind}
 use Rattle.good_places.specs.Seen.{AreCompared, AreAlikeZones, IsMovedZone}
 use Rattle.good_places.specs.Zones.{IsLaid}
 use Rattle.good_places.specs.Windows.{with_bits, IsWindowOf, IsWrittenPlan}
-use Rattle.good_places.specs.Plain.{IsOfWires}
+use Rattle.leaf_shapes.specs.Outline.{IsWireLayer}
 use Rattle.good_places.proofs.WindowLaws.{leaves_have_windows}
 use Rattle.good_places.proofs.SeenLaws.{image, moved_back}
 use Rattle.leaf_margins.specs.Memories.{IsMetalOrCut, HasMemoryShapes, IsCleanLayout}
@@ -57,7 +57,7 @@ box_at wire reach q min z r box some space low few near l holds around =
       high = let e = holds.low in omega (arith, ints, tall, d, e, few);
     }
 
-pub lies_moved : (q dx dy : ℤ) (here there : Zone) (a r : Rect) → IsMovedZone dx dy there here → IsMoved dx dy r a → LiesNear q here a → LiesNear q there r
+pub lies_moved : (q dx dy : ℤ) (here there : Zone) (a r : Rect) → IsMovedZone dx dy there here → IsMovedBy dx dy r a → LiesNear q here a → LiesNear q there r
 lies_moved q dx dy here there a r s at i = record {
   left = let e = at.x1 in let p = i.left in let z = s.left in omega (arith, ints, e, p, z);
   right = let e = at.x2 in let p = i.right in let z = s.right in omega (arith, ints, e, p, z);
@@ -93,13 +93,13 @@ module _ (Met Top Out : Role → ℕ → Type 0) (drop : Role → ℕ) (Flat : L
   pub seen_in : (a : Shape) (o : IsOfLeaf plan kit (Alike bit) f IsShapeTaken Flat a) → IsSeenIn (zone_of plan kit f o.leaf o.place)
   seen_in a o = let w = leaves_have_windows plan kit bit wire f reach p memory.flat.drawn.laid short o.leaf o.place o.has o.stands in by_numbers (zone_of plan kit f o.leaf o.place) w.other w.is w.there
 
-  pub own_of : (layer : ℕ) → IsMetalOrCut wire layer → IsOfWires wire layer
+  pub own_of : (layer : ℕ) → IsMetalOrCut wire layer → IsWireLayer wire layer
   own_of layer (inl (k, few, e)) = inl (subst (Contains wire.metals) (sym e) (metals k few))
   own_of layer (inr (k, few, e)) = inr (subst (Contains wire.cuts) (sym e) (memory.flat.drawn.three k few))
 
   -- a box around a shape inside the zone that a layer of wires covers there is covered, moved, here
-  pub inner_box : (here : Zone) (s : IsSeenIn here) (min : ℤ) (a r box : Rect) → pos 1 ≤ℤ min → min ≤ℤ wire.width → (min +ℤ (by +ℤ by)) ≤ℤ reach → LiesNear (pos 0) here a → IsMoved s.compared.alike.right s.compared.alike.up r a → HoldsRect box r → LiesAround min r box
-      → (layer : ℕ) → IsMetalOrCut wire layer → (moved : Rect) → IsMoved s.compared.alike.right s.compared.alike.up box moved → IsCoveredBy layer s.layout.shapes box → IsCoveredBy layer to moved
+  pub inner_box : (here : Zone) (s : IsSeenIn here) (min : ℤ) (a r box : Rect) → pos 1 ≤ℤ min → min ≤ℤ wire.width → (min +ℤ (by +ℤ by)) ≤ℤ reach → LiesNear (pos 0) here a → IsMovedBy s.compared.alike.right s.compared.alike.up r a → HoldsRect box r → LiesAround min r box
+      → (layer : ℕ) → IsMetalOrCut wire layer → (moved : Rect) → IsMovedBy s.compared.alike.right s.compared.alike.up box moved → IsCoveredBy layer s.layout.shapes box → IsCoveredBy layer to moved
   inner_box here s min a r box some few near lies at holds around layer is moved moves covered =
       layer_kept Met Top Out drop Flat rules plan kit (Alike bit) wire s.word s.write s.masks tracks s.layout.tracks f s.layout.floorplan by reach s.layout.shapes to short memory s.layout.has metals here s.there s.compared s.kinds layer is (pos 0 +ℤ min) box
       (record {
@@ -112,7 +112,7 @@ module _ (Met Top Out : Role → ℕ → Type 0) (drop : Role → ℕ) (Flat : L
   pub width_seen : (layer : ℕ) (min : ℤ) (a : Shape) → IsMetalOrCut wire layer → pos 1 ≤ℤ min → min ≤ℤ wire.width → (min +ℤ (by +ℤ by)) ≤ℤ reach → a.layer ≡ layer → IsOfLeaf plan kit (Alike bit) f IsShapeTaken Flat a → IsWidthSeen rules layer min to a
   width_seen layer min a is some few near on o =
       let s = seen_in a o in
-      let own : IsOfWires wire a.layer = subst (IsOfWires wire) (sym on) (own_of layer is) in
+      let own : IsWireLayer wire a.layer = subst (IsWireLayer wire) (sym on) (own_of layer is) in
       let h = image Flat rules plan (with_bits plan s.word s.write s.masks) kit (Alike bit) f s.layout.floorplan wire by reach (zone_of plan kit f o.leaf o.place) s.there s.layout.shapes to s.compared a min some near (record { of = o; zone = refl }) in
       let at = moved_back Flat rules plan (with_bits plan s.word s.write s.masks) kit (Alike bit) f s.layout.floorplan wire by reach (zone_of plan kit f o.leaf o.place) s.there s.layout.shapes to s.compared a.rect h.moved.0.rect h.moved.2 in
       record {

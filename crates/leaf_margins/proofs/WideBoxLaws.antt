@@ -6,7 +6,7 @@ use Rattle.std.proofs.lemmas.Int.{ints, clamps, by_lt_z}
 use Rattle.or_geom.specs.declared.shape.Rect.{Rect}
 use Rattle.or_geom.specs.declared.shape.Shape.{Shape}
 use Rattle.or_geom.specs.Covered.{HasCell}
-use Rattle.shape_bins.specs.Meets.{HoldsRect}
+use Rattle.or_geom.specs.Containing.{HoldsRect}
 use Rattle.shape_bins.specs.Layers.{rects_on, IsCoveredBy}
 use Rattle.cell_roles.specs.declared.role.Role.{Role}
 use Rattle.tech_rules.specs.declared.tech.Rule.{Rule}
@@ -17,12 +17,12 @@ use Rattle.macro_layout.specs.LayoutKit.{LayoutKit}
 use Rattle.macro_layout.specs.Places.{Floorplan}
 use Rattle.macro_layout.specs.Floorplan.{Tracks}
 use Rattle.macro_layout.specs.Wires.{trunk_x}
-use Rattle.local_report.specs.Moved.{IsMoved}
+use Rattle.local_report.specs.Moved.{IsMovedBy}
 use Rattle.local_report.proofs.MovedLaws.{part_covered}
 use Rattle.good_places.specs.Leaves.{Zone, LiesNear, ReachesNeighboursOnly}
 use Rattle.good_places.specs.Kinds.{AreOfOneKind}
 use Rattle.good_places.specs.Seen.{AreCompared}
-use Rattle.good_places.specs.Plain.{IsOfWires}
+use Rattle.leaf_shapes.specs.Outline.{IsWireLayer}
 use Rattle.good_places.specs.Windows.{with_bits}
 use Rattle.good_wires.proofs.ClearLaws.{ZoneKind}
 use Rattle.supply_bars.proofs.PairedLaws.{ArePaired}
@@ -112,7 +112,7 @@ module _ (Met Top Out : Role → ℕ → Type 0) (drop : Role → ℕ) (Flat : L
   abbrev end : ℤ
   end = trunk_x plan kit wire f +ℤ wire.width
 
-  metal_own : (k : ℕ) → k < 4 → IsOfWires wire (slice_index wire.metals k)
+  metal_own : (k : ℕ) → k < 4 → IsWireLayer wire (slice_index wire.metals k)
   metal_own k few = inl (metals k few)
 
   first_wide : (d : ℤ) (box : Rect) → IsWideBox d box → IsCoveredBy (slice_index wire.metals 0) from box → Kept (slice_index wire.metals 0) box
@@ -144,7 +144,7 @@ module _ (Met Top Out : Role → ℕ → Type 0) (drop : Role → ℕ) (Flat : L
       ]
   metal_wide (suc (suc (suc (suc k)))) few d box b covered = absurd (omega (arith, few))
 
-  pub layer_wide : (layer : ℕ) → IsMetalOrCut wire layer → (d : ℤ) (box : Rect) → IsWideBox d box → (moved : Rect) → IsMoved dx dy box moved → IsCoveredBy layer from box → IsCoveredBy layer to moved
+  pub layer_wide : (layer : ℕ) → IsMetalOrCut wire layer → (d : ℤ) (box : Rect) → IsWideBox d box → (moved : Rect) → IsMovedBy dx dy box moved → IsCoveredBy layer from box → IsCoveredBy layer to moved
   layer_wide layer (inl (k, few, e)) d box b moved at covered =
       subst (λ (n : ℕ). IsCoveredBy n to moved) (sym e)
       (box_kept Flat rules plan other kit bits f g wire tracks many by reach here there from to c memory.flat window.flat (slice_index wire.metals k) d box (metal_own k few) b.at.lies b.at.felt (metal_wide k few d box b (subst (λ (n : ℕ). IsCoveredBy n from box) e covered)) moved at (subst (λ (n : ℕ). IsCoveredBy n from box) e covered))

@@ -14,12 +14,11 @@ use Rattle.sram_netlist.specs.BitCells.{Alike}
 use Rattle.macro_layout.specs.LayoutKit.{LayoutKit}
 use Rattle.macro_layout.specs.Places.{Floorplan}
 use Rattle.macro_layout.specs.Floorplan.{Tracks}
-use Rattle.macro_layout.specs.Wires.{IsTapAt}
 use Rattle.local_report.specs.Local.{KeepsRule}
 use Rattle.good_places.specs.Leaves.{ReachesNeighboursOnly}
 use Rattle.good_places.specs.Plain.{IsPlain}
 use Rattle.good_places.specs.Windows.{IsWindowOf, IsWrittenPlan}
-use Rattle.good_wires.specs.Held.{ReachesTap}
+use Rattle.good_wires.specs.Held.{DoRailsReach}
 use Rattle.good_wires.specs.Kept.{Ports, IsAmong}
 use Rattle.leaf_margins.specs.Memories.{IsMetalOrCut, HasMemoryShapes, IsCleanLayout}
 
@@ -29,7 +28,7 @@ CutEnclosuresAreKept = (ports tops outs : Ports) (drop : Role → ℕ) (layers :
     → IsWrittenPlan plan → ReachesNeighboursOnly kit wire reach → pos 0 ≤ℤ by → HasMemoryShapes (IsAmong ports) (IsAmong tops) (IsAmong outs) drop (IsFlatShape layers structs) plan kit (Alike bit) wire tracks f by to
     → ((k : ℕ) → k < 4 → Contains wire.metals (slice_index wire.metals k))
     → ((other : Organization) → IsWindowOf plan other → IsCleanLayout (IsAmong ports) (IsAmong tops) (IsAmong outs) drop (IsFlatShape layers structs) rules other kit (Alike bit) wire by)
-    → ((x y end : ℤ) → IsTapAt plan kit wire tracks.column f x y end → ReachesTap plan kit wire tracks.column f x)
+    → DoRailsReach plan kit wire tracks.column f
     → (k : ℕ) (min : ℤ) (listed : List ℕ) → k < 3 → pos 1 ≤ℤ min → min ≤ℤ margin wire → (min +ℤ (by +ℤ by)) ≤ℤ reach → Contains listed (slice_index wire.metals k) ⊎ Contains listed (slice_index wire.metals (k + 1))
     → ((layer : ℕ) → Contains listed layer → IsPlain wire layer ⊎ IsMetalOrCut wire layer) → KeepsRule rules to (Enclose (slice_index wire.cuts k) listed min)
 

@@ -4,17 +4,19 @@
 ghost use Rattle.leaf_margins.specs.Encloses.{CutEnclosuresAreKept, EnclosuresByWiresAreKept};
 ghost use Rattle.leaf_margins.specs.Widths.{WireLayerWidthsAreKept};
 
-/// A width rule of a layer of wires is kept where the small memories break none.
+/// A memory keeps a width rule of one of the wires' metals and cuts where the small memories break no rule.
 pub fn wire_layer_widths_are_kept()
     ensures { WireLayerWidthsAreKept }
 {}
 
-/// So is a rule that a cut between the wires' metals is enclosed.
+/// A memory keeps a rule that cuts between the wires' metals are enclosed where the small memories break no rule. The metal
+/// below or above the cut is one of the enclosing layers.
 pub fn cut_enclosures_are_kept()
     ensures { CutEnclosuresAreKept }
 {}
 
-/// So is a rule that shapes of a layer without wires are enclosed by layers of which some have wires.
+/// A memory keeps a rule that shapes of a layer without wires are enclosed by layers of which some have wires, where the
+/// small memories break no rule.
 pub fn enclosures_by_wires_are_kept()
     ensures { EnclosuresByWiresAreKept }
 {}

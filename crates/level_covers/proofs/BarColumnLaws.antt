@@ -17,7 +17,7 @@ use Rattle.macro_layout.specs.Floorplan.{Tracks}
 use Rattle.macro_layout.specs.Wires.{trunk_x, columns_end}
 use Rattle.good_places.specs.Leaves.{Zone, zone_of, ReachesNeighboursOnly}
 use Rattle.good_places.specs.Zones.{MovesNear}
-use Rattle.good_places.specs.Plain.{IsOfWires}
+use Rattle.leaf_shapes.specs.Outline.{IsWireLayer}
 use Rattle.good_places.proofs.LookLaws.{shape_moves}
 use Rattle.good_wires.specs.Drawn.{IsDrawnMemory}
 use Rattle.good_wires.specs.Kept.{HasDrawnShapes}
@@ -39,7 +39,7 @@ levels_at width low a b y1 y2 v1 v2 (inr (inl le)) p q r s = inr (inl (omega (ar
 levels_at width low a b y1 y2 v1 v2 (inr (inr le)) p q r s = inr (inr (omega (arith, ints, le, p, s)))
 
 module _ (Flat : List ℕ → Shape → Type 0) (plan other : Organization) (kit : LayoutKit) (bits : BitCells) (wire : Wire) (tracks many : Tracks) (f g : Floorplan) (by reach : ℤ) (from to : List Shape) (short : ReachesNeighboursOnly kit wire reach)
-    (flat : HasDrawnShapes Flat plan kit bits wire tracks f by to) (h : HasDrawnShapes Flat other kit bits wire many g by from) (own : IsOfWires wire (slice_index wire.metals 0)) (tall : (role : Role) → (wire.width +ℤ wire.width) <ℤ pos (kit.height role))
+    (flat : HasDrawnShapes Flat plan kit bits wire tracks f by to) (h : HasDrawnShapes Flat other kit bits wire many g by from) (own : IsWireLayer wire (slice_index wire.metals 0)) (tall : (role : Role) → (wire.width +ℤ wire.width) <ℤ pos (kit.height role))
     (dx dy : ℤ) (here there : Zone) (moves : MovesNear reach other g there plan f kit bits dx dy) (p : ArePaired other plan kit wire g f reach dx dy there here) (d : ℤ) (box : Rect) (at : IsBoxAt wire reach there there d box) (covered : IsCoveredBy (slice_index wire.metals 0) from box) where
   abbrev metal : ℕ
   metal = slice_index wire.metals 0
@@ -57,7 +57,7 @@ module _ (Flat : List ℕ → Shape → Type 0) (plan other : Organization) (kit
       let s = shape_moves Flat plan kit bits f dx dy (role other o.leaf) (leaf_cell other kit bits o.leaf) o.place o.taken.inner leaf.shape
       (moves o.leaf o.place o.has o.stands (cells_near d reach (zone_of other kit g o.leaf o.place) there box x y at.lies at.felt inside leaf.within)) o.taken.has o.taken.moved in
       let z = zone_of plan kit f s.of.leaf s.of.place in
-      let lies = leaf_lies Flat plan kit bits wire tracks f by to flat s.moved.0 (subst (IsOfWires wire) (sym (s.moved.1 ∙ leaf.on)) own) s.of in
+      let lies = leaf_lies Flat plan kit bits wire tracks f by to flat s.moved.0 (subst (IsWireLayer wire) (sym (s.moved.1 ∙ leaf.on)) own) s.of in
       go leaf.shape.rect s.moved.0.rect z.right (trunk_x plan kit wire f) s.moved.2.x2 leaf.holds.right lies.right (zone_before_trunk plan kit wire tracks f flat.drawn z (zone_kind plan kit wire tracks f flat.drawn s.of.leaf s.of.place s.of.has s.of.stands)) far m.laid.sizes.width.from m.laid.sizes.space.from
     where
       go : (r t : Rect) (zr u : ℤ) → t.x2 ≡ r.x2 +ℤ dx → x <ℤ r.x2 → t.x2 ≤ℤ (zr +ℤ pos 0) → (zr +ℤ wire.space) ≤ℤ u → (u +ℤ wire.width) ≤ℤ (x +ℤ dx) → pos 1 ≤ℤ wire.width → pos 1 ≤ℤ wire.space → ⊥

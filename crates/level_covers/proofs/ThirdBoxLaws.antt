@@ -17,7 +17,7 @@ use Rattle.macro_layout.specs.Floorplan.{Tracks, column_channel_y}
 use Rattle.macro_layout.specs.Wires.{IsTapAt}
 use Rattle.good_places.specs.Leaves.{Zone, ReachesNeighboursOnly}
 use Rattle.good_places.specs.Seen.{IsMovedZone}
-use Rattle.good_places.specs.Plain.{IsOfWires}
+use Rattle.leaf_shapes.specs.Outline.{IsWireLayer}
 use Rattle.good_places.specs.Windows.{with_bits}
 use Rattle.good_places.proofs.LaidLaws.{numbers}
 use Rattle.good_wires.specs.Drawn.{IsDrawnMemory}
@@ -35,7 +35,7 @@ use Rattle.upright_covers.proofs.AtLaws.{IsBoxAt, cell_over, cell_under}
 use Rattle.upright_covers.proofs.ChannelRowLaws.{IsLogicTop, IsSliceFoot, IsSliceTop, IsColumnFoot, over_logic, under_slices, over_slices, under_columns, logic_top, slice_foot, slice_top, column_foot, zone_off_channels}
 
 module _ (Flat : List ℕ → Shape → Type 0) (base : Organization) (kit : LayoutKit) (bits : BitCells) (wire : Wire) (w1 r1 m1 w2 r2 m2 : ℕ) (tracks many : Tracks) (f g : Floorplan) (by reach : ℤ) (from to : List Shape) (short : ReachesNeighboursOnly kit wire reach)
-    (flat : HasDrawnShapes Flat (with_bits base w2 r2 m2) kit bits wire tracks f by to) (h : HasDrawnShapes Flat (with_bits base w1 r1 m1) kit bits wire many g by from) (own : IsOfWires wire (slice_index wire.metals 2))
+    (flat : HasDrawnShapes Flat (with_bits base w2 r2 m2) kit bits wire tracks f by to) (h : HasDrawnShapes Flat (with_bits base w1 r1 m1) kit bits wire many g by from) (own : IsWireLayer wire (slice_index wire.metals 2))
     (dx dy : ℤ) (here there : Zone) (same : IsMovedZone dx dy there here) (zones : AreTapZones (with_bits base w1 r1 m1) (with_bits base w2 r2 m2) kit g f there here) (d : ℤ) (box : Rect) (at : IsBoxAt wire reach there there d box) (covered : IsCoveredBy (slice_index wire.metals 2) from box) where
   abbrev other : Organization
   other = with_bits base w1 r1 m1

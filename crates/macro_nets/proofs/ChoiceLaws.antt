@@ -42,7 +42,7 @@ use Rattle.kit_nets.proofs.RailHubLaws.{bank_wire_stands, tapped}
 use Rattle.supply_nets.specs.LaidMacro.{IsLaidMacro}
 use Rattle.supply_nets.proofs.LevelLaws.{write_under_sense}
 use Rattle.wire_nets.proofs.NamedLaws.{bank_rail}
-use Rattle.macro_nets.specs.Reaching.{DoRailsReach}
+use Rattle.good_wires.specs.Held.{DoRailsReach}
 use Rattle.macro_nets.proofs.RailNumberLaws.{choice_rail}
 use Rattle.macro_nets.proofs.TapLaws.{highest}
 use Rattle.macro_nets.proofs.TapPinLaws.{in_front_at}
@@ -63,7 +63,7 @@ tap_in_trunk left right x w d a1 a2 b1 b2 one two at_a1 at_a2 at_b1 at_b2 = (ome
 one_below : (a b : ℤ) → a ≡ b → a ≤ℤ b
 one_below a b e = omega (arith, ints, e)
 
-module _ (tech : Tech) (s : Source) (flat : FlatLists) (k : IsLaidMacro tech s flat) (reach : DoRailsReach s) where
+module _ (tech : Tech) (s : Source) (flat : FlatLists) (k : IsLaidMacro tech s flat) (reach : DoRailsReach s.plan s.kit s.wire s.tracks.column s.floorplan) where
   abbrev d_of : ℕ → ℤ
   d_of b = pos b *ℤ s.floorplan.bank_width
 

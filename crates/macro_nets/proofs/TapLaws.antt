@@ -35,7 +35,7 @@ use Rattle.supply_nets.proofs.LevelLaws.{write_under_row}
 use Rattle.supply_nets.proofs.RowBarLaws.{next_row}
 use Rattle.wire_nets.proofs.RailLaws.{one_rail}
 use Rattle.wire_nets.proofs.NamedLaws.{bank_rail}
-use Rattle.macro_nets.specs.Reaching.{DoRailsReach}
+use Rattle.good_wires.specs.Held.{DoRailsReach}
 use Rattle.macro_nets.proofs.RailNumberLaws.{HasRail, rail_before}
 
 -- a pin of a row's cell lies above the row's lower edge
@@ -55,7 +55,7 @@ over a b c one two = omega (arith, ints, one, two)
 upright_low : (a y in_low low : ℤ) → a ≤ℤ y → pos 0 ≤ℤ in_low → low ≡ in_low +ℤ y → a ≤ℤ low
 upright_low a y in_low low one two at = omega (arith, ints, one, two, at)
 
-module _ (tech : Tech) (s : Source) (flat : FlatLists) (k : IsLaidMacro tech s flat) (reach : DoRailsReach s) where
+module _ (tech : Tech) (s : Source) (flat : FlatLists) (k : IsLaidMacro tech s flat) (reach : DoRailsReach s.plan s.kit s.wire s.tracks.column s.floorplan) where
   abbrev Highest : ℤ → Net → Type 0
   Highest x net = HighestTap tech s flat k.by k.joins k.sizes k.first k.pins k.floor k.main x net
 

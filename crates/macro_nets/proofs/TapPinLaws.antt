@@ -27,7 +27,7 @@ use Rattle.kit_nets.proofs.PinJoinLaws.{standing}
 use Rattle.supply_nets.specs.LaidMacro.{IsLaidMacro}
 use Rattle.supply_nets.proofs.LevelLaws.{write_under_sense, write_under_precharge}
 use Rattle.wire_nets.proofs.NamedLaws.{wlen_in, sen_in}
-use Rattle.macro_nets.specs.Reaching.{DoRailsReach}
+use Rattle.good_wires.specs.Held.{DoRailsReach}
 use Rattle.macro_nets.proofs.RailNumberLaws.{row_line, line_rail, wlen_rail, sen_rail, clock_rail}
 use Rattle.macro_nets.proofs.TapLaws.{row_pin_joined, upright_pin_joined}
 
@@ -60,7 +60,7 @@ last_of : (n i : ℕ) → i < n → (j : ℕ) × (j + 1 ≡ n) × (i ≤ j)
 last_of zero i lt = absurd (omega (arith, lt))
 last_of (suc n) i lt = (n, omega arith, omega (arith, lt))
 
-module _ (tech : Tech) (s : Source) (flat : FlatLists) (k : IsLaidMacro tech s flat) (reach : DoRailsReach s) where
+module _ (tech : Tech) (s : Source) (flat : FlatLists) (k : IsLaidMacro tech s flat) (reach : DoRailsReach s.plan s.kit s.wire s.tracks.column s.floorplan) where
   abbrev IsMain : ℕ → Shape → Type 0
   IsMain number hub = IsOfMain tech s flat k.by k.joins k.sizes k.first k.main number hub
 

@@ -6,7 +6,7 @@ use Rattle.std.proofs.lemmas.List.{get_or_at, length-append}
 use Rattle.spice_netlist.specs.declared.resolved.ResolvedInstance.{ResolvedInstance}
 use Rattle.spice_netlist.specs.Names.{same_name}
 use Rattle.spice_netlist.specs.Walk.{FlatNet, local, node_or, net_above}
-use Rattle.spice_netlist.proofs.NameIndexLaws.{same_self}
+use Rattle.or_geom.proofs.NamePlaceLaws.{same_self}
 
 -- the node beside the first port of this name; `d` where there is none
 abbrev pub look : FlatNet → List (List ℕ) → List (List ℕ) → List ℕ → FlatNet

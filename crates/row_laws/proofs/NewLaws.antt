@@ -8,7 +8,7 @@ use Rattle.spice_text.specs.Words.{is_among}
 use Rattle.spice_text.specs.Writable.{lowered_subckt}
 use Rattle.spice_netlist.specs.Names.{same_name, index_of}
 use Rattle.spice_netlist.specs.Resolved.{names_of}
-use Rattle.spice_netlist.proofs.NameIndexLaws.{same_self}
+use Rattle.or_geom.proofs.NamePlaceLaws.{same_self}
 use Rattle.row_laws.specs.Laws.{NamesAreNew}
 
 not_among : (x : List ℕ) (i : ℕ) (ns : List (List ℕ)) → position_from (same_name x) i ns ≡ None → is_among x ns ≡ false

@@ -14,7 +14,7 @@ use Rattle.spice_netlist.specs.Resolved.{resolved_subckts}
 use Rattle.spice_netlist.proofs.LowLaws.{resolved_low, keys_tell}
 use Rattle.spice_netlist.proofs.RowLaws.{key_at}
 use Rattle.spice_netlist.proofs.NumberLaws.{get_or_push, numbers_none, numbers_more}
-use Rattle.spice_netlist.proofs.NameIndexLaws.{same_self}
+use Rattle.or_geom.proofs.NamePlaceLaws.{same_self}
 
 -- numbers of these nets, and the table of the distinct ones
 pub record Numbered (nets : List (List ℕ)) : Type 0 where

@@ -18,7 +18,7 @@ use Rattle.small_rows.specs.Row.{IsInPart, data_start, banks_start, pair_width, 
 use Rattle.small_rows.proofs.SteadyLaws.{one_unit}
 use Rattle.small_rows.proofs.RowPlaceLaws.{place_is, put_data, put_mask}
 use Rattle.small_rows.proofs.InputPairLaws as first
-use Rattle.small_rows.proofs.LogicPairLaws as second
+use Rattle.small_rows.proofs.EnablePairLaws as second
 use Rattle.row_runs.specs.Run.{IsNearBehind, IsForth, IsBack, IsCellRun}
 use Rattle.row_runs.proofs.BackLaws as back
 use Rattle.row_runs.proofs.DataRunLaws as data_runs

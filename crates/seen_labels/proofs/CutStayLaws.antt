@@ -25,7 +25,7 @@ use Rattle.local_report.specs.Moved as shifted
 use Rattle.sram_netlist.specs.Nets.{Net}
 use Rattle.sram_netlist.specs.Netlist.{role}
 use Rattle.good_places.specs.Leaves.{zone_of}
-use Rattle.good_places.specs.Plain.{IsOfWires}
+use Rattle.leaf_shapes.specs.Outline.{IsWireLayer}
 use Rattle.good_places.proofs.LaidLaws.{in_zone}
 use Rattle.good_places.proofs.MoveLaws.{moved_shape, moved_taken}
 use Rattle.good_nets.specs.Parts.{IsShapeOf, IsOnPortOf}
@@ -122,7 +122,7 @@ module _ (connections : List Connect) (s : Source) (by reach : ℤ) (is : IsSeen
       let drawn = stands_drawn s.layers s.wire is.first Of t (λ u d. wire_on s.plan s.kit s.wire s.tracks s.floorplan n u d) stands in
       let on = wire_on s.plan s.kit s.wire s.tracks s.floorplan n t drawn in
       let c = wire_cut t on same in
-      let lies = shape_inside connections s by reach is i inner shape own (subst (IsOfWires s.wire) same (of_wires s.layers s.wire is.first t on)) in
+      let lies = shape_inside connections s by reach is i inner shape own (subst (IsWireLayer s.wire) same (of_wires s.layers s.wire is.first t on)) in
       no_cut_there s.plan s.kit s.wire s.tracks s.floorplan is.source.drawn (zone_at connections s by reach is i) (zone_kind s.plan s.kit s.wire s.tracks s.floorplan is.source.drawn i.leaf i.place i.has i.stands) shape.rect p lies holds c.place c.below t c.on
       (net_of_wire s.plan s.kit s.wire s.tracks s.floorplan n t drawn) in_t
 
@@ -141,7 +141,7 @@ module _ (connections : List Connect) (s : Source) (by reach : ℤ) (is : IsSeen
     image_same : image.layer ≡ shape.layer
     image_same = (moved_shape w.dx w.dy shape).1
 
-    image_shift : shifted.IsMoved w.dx w.dy shape.rect image.rect
+    image_shift : shifted.IsMovedBy w.dx w.dy shape.rect image.rect
     image_shift = (moved_shape w.dx w.dy shape).2
 
     parts_there : (j : Standing sm) (y v : Shape) → IsShapeOf connections (stated_parts sm) j y v → Contains window.flat.shapes v
@@ -153,7 +153,7 @@ module _ (connections : List Connect) (s : Source) (by reach : ℤ) (is : IsSeen
         let drawn = stands_drawn s.layers s.wire is.first Of t (λ u d. wire_on sm.plan s.kit s.wire window.tracks window.floorplan n u d) stands in
         let on = wire_on sm.plan s.kit s.wire window.tracks window.floorplan n t drawn in
         let c = wire_cut t on same in
-        let wires = subst (IsOfWires s.wire) (same ∙ moved.layer) (of_wires s.layers s.wire is.first t on) in
+        let wires = subst (IsWireLayer s.wire) (same ∙ moved.layer) (of_wires s.layers s.wire is.first t on) in
         let lies = in_zone sm.plan s.kit s.wire window.floorplan (pos 0) window.source.drawn.laid w.one.leaf w.one.place inner image w.one.has w.one.stands (inside sm.plan w.one.leaf inner w.one.has image_of.listed wires) image_of.moved in
         no_cut_there sm.plan s.kit s.wire window.tracks window.floorplan window.source.drawn (zone_of sm.plan s.kit window.floorplan w.one.leaf w.one.place) (zone_kind sm.plan s.kit s.wire window.tracks window.floorplan window.source.drawn w.one.leaf w.one.place w.one.has w.one.stands)
         image.rect p2 lies (held_further w.dx w.dy shape.rect image.rect p image_shift holds) c.place c.below t c.on (net_of_wire sm.plan s.kit s.wire window.tracks window.floorplan n t drawn) in_t
@@ -162,7 +162,7 @@ module _ (connections : List Connect) (s : Source) (by reach : ℤ) (is : IsSeen
       same : u.layer ≡ shape.layer
       same = b.under.on ∙ sym (moved.layer ∙ binds.under.on)
 
-      m : (v : Shape) × (v.layer ≡ u.layer) × shifted.IsMoved w.dx w.dy u.rect v.rect
+      m : (v : Shape) × (v.layer ≡ u.layer) × shifted.IsMovedBy w.dx w.dy u.rect v.rect
       m = moved_shape w.dx w.dy u
 
       abbrev with_j : Standing sm
@@ -191,7 +191,7 @@ module _ (connections : List Connect) (s : Source) (by reach : ℤ) (is : IsSeen
           b.first t.0 ((stated_are_parts connections s flat memory.stated).stands h.here y2 t.0 here) (record { on = on_t; holds = back_in t.0.rect n.0.rect n.2 in_n })
           (sym (order_moved w.dx w.dy t.0 u n.0 m.0 n.1 m.1 n.2 m.2) ∙ subst (λ (x : Shape). shape_order x m.0 ≡ Less) is_n less)
         where
-          back_in : (r q : Rect) → shifted.IsMoved w.dx w.dy r q → IsIn q p2 → IsIn r p
+          back_in : (r q : Rect) → shifted.IsMovedBy w.dx w.dy r q → IsIn q p2 → IsIn r p
           back_in r q at in_q = record {
             left = let e = at.x1 in let l = in_q.left in omega (arith, ints, e, l);
             right = let e = at.x2 in let l = in_q.right in omega (arith, ints, e, l);

@@ -30,7 +30,7 @@ cmp_moved x y u v d p q =
     (λ ge. by_lt_z y x (λ gt. greater_is u v (int_cmp u v) refl (omega (arith, ints, p, q, gt)) ∙ sym (greater_is x y (int_cmp x y) refl gt))
     (λ le. equal_is u v (int_cmp u v) refl (omega (arith, ints, p, q, ge, le)) ∙ sym (equal_is x y (int_cmp x y) refl (omega (arith, ints, ge, le)))))
 
-pub order_moved : (dx dy : ℤ) (a b c d : Shape) → c.layer ≡ a.layer → d.layer ≡ b.layer → moved.IsMoved dx dy a.rect c.rect → moved.IsMoved dx dy b.rect d.rect → shape_order c d ≡ shape_order a b
+pub order_moved : (dx dy : ℤ) (a b c d : Shape) → c.layer ≡ a.layer → d.layer ≡ b.layer → moved.IsMovedBy dx dy a.rect c.rect → moved.IsMovedBy dx dy b.rect d.rect → shape_order c d ≡ shape_order a b
 order_moved dx dy a b c d one two m n =
     let x1 = cmp_moved a.rect.x1 b.rect.x1 c.rect.x1 d.rect.x1 dx m.x1 n.x1 in
     let y1 = cmp_moved a.rect.y1 b.rect.y1 c.rect.y1 d.rect.y1 dy m.y1 n.y1 in

@@ -34,7 +34,7 @@ use Rattle.seen_labels.proofs.PointLaws.{begins_first, touch_west, touch_east}
 abbrev pub further : ℤ → ℤ → Point → Point
 further dx dy p = record { x = p.x +ℤ dx; y = p.y +ℤ dy }
 
-pub held_further : (dx dy : ℤ) (r m : Rect) (p : Point) → moved.IsMoved dx dy r m → IsIn r p → IsIn m (further dx dy p)
+pub held_further : (dx dy : ℤ) (r m : Rect) (p : Point) → moved.IsMovedBy dx dy r m → IsIn r p → IsIn m (further dx dy p)
 held_further dx dy r m p at is = record {
   left = let x = at.x1 in let y = is.left in omega (arith, ints, x, y);
   right = let x = at.x2 in let y = is.right in omega (arith, ints, x, y);
@@ -44,7 +44,7 @@ held_further dx dy r m p at is = record {
 
 -- an instance's shape, moved, is one of its stand-in
 pub shape_there : (connections : List Connect) (s w : Source) (f : Net → Net) (dx dy : ℤ) (i : Standing s) (one : Standing w) → StandsIn (stated_parts s) (stated_parts w) f dx dy i one → one.place ≡ moved_place dx dy i.place
-    → (x a m : Shape) → IsShapeOf connections (stated_parts s) i x a → m.layer ≡ a.layer → moved.IsMoved dx dy a.rect m.rect → IsShapeOf connections (stated_parts w) one x m
+    → (x a m : Shape) → IsShapeOf connections (stated_parts s) i x a → m.layer ≡ a.layer → moved.IsMovedBy dx dy a.rect m.rect → IsShapeOf connections (stated_parts w) one x m
 shape_there connections s w f dx dy i one is at x a m of layer shifted = record {
   listed = subst (λ (xs : List Shape). Contains xs x) (sym is.cell) of.listed;
   moved = subst (λ (p : Place). IsMoved p x m) (sym at) (moved_taken dx dy i.place x a m of.moved layer shifted);

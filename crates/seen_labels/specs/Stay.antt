@@ -12,7 +12,7 @@ use Rattle.sram_netlist.specs.Membership.{HasLeafInstance}
 use Rattle.sram_netlist.specs.Nets.{Net}
 use Rattle.sram_netlist.specs.Netlist.{role, ports}
 use Rattle.good_places.specs.Leaves.{PassesAtMost}
-use Rattle.good_places.specs.Plain.{IsOfWires}
+use Rattle.leaf_shapes.specs.Outline.{IsWireLayer}
 use Rattle.kit_nets.specs.Bound.{BindsForPort}
 use Rattle.kit_nets.specs.StatedParts.{Source, Standing, leaf_lists, stated_parts, IsStatedBy, DoLabelsStay}
 use Rattle.seen_pairs.specs.Window.{IsSeenSource, HasSeenWindow}
@@ -22,7 +22,7 @@ abbrev pub DoShapesPassLittle : Source → ℤ → Type 0
 DoShapesPassLittle s by = (plan : Organization) (leaf : LeafInstance) (inner : Shape) → HasLeafInstance plan leaf → Contains (s.lists (role plan leaf)).shapes inner → PassesAtMost by (s.kit.width (role plan leaf)) (s.kit.height (role plan leaf)) inner.rect
 
 abbrev pub DoShapesStayInside : Source → Type 0
-DoShapesStayInside s = (plan : Organization) (leaf : LeafInstance) (inner : Shape) → HasLeafInstance plan leaf → Contains (s.lists (role plan leaf)).shapes inner → IsOfWires s.wire inner.layer → PassesAtMost (pos 0) (s.kit.width (role plan leaf)) (s.kit.height (role plan leaf)) inner.rect
+DoShapesStayInside s = (plan : Organization) (leaf : LeafInstance) (inner : Shape) → HasLeafInstance plan leaf → Contains (s.lists (role plan leaf)).shapes inner → IsWireLayer s.wire inner.layer → PassesAtMost (pos 0) (s.kit.width (role plan leaf)) (s.kit.height (role plan leaf)) inner.rect
 
 -- The memory is stated so; and what the labels of an instance's port bind in the cell by itself, and each wire, is joined with the hub of its net.
 pub record IsJoinedMemory (connections : List Connect) (s : Source) (flat : FlatLists) (hub : Net → Shape) : Type 0 where

@@ -23,7 +23,7 @@ use Rattle.good_places.specs.Leaves.{Zone, AreNearZones, zone_of}
 use Rattle.good_places.proofs.EdgeLaws.{place_at}
 use Rattle.good_places.proofs.LaidLaws.{Numbers, numbers}
 use Rattle.good_places.proofs.NearLaws.{logic_far, logic_far_slice}
-use Rattle.good_nets.specs.Parts.{ArePairSeen, IsShapeOf, StandsIn, Window}
+use Rattle.good_nets.specs.Parts.{ArePairSeen, IsShapeOf, StandsIn, SeenLayout}
 use Rattle.moved_nets.specs.Moved.{Moves, logic_net, moved_cell}
 use Rattle.kit_nets.specs.StatedParts.{Source, Standing, stated_parts}
 use Rattle.kit_nets.specs.StandIns.{StandsMoved}
@@ -233,7 +233,7 @@ module _ (connections : List Connect) (s : Source) (by reach : ℤ) (is : IsSeen
     near = holding_zones connections s by reach is i i x x a a corner of of held held
 
   -- the small memory, as a layout whose nets are right
-  abbrev pub right_window : Window Net connections
+  abbrev pub right_window : SeenLayout Net connections
   right_window = record {
     parts = stated_parts small;
     shapes = window.flat.shapes;

@@ -15,7 +15,7 @@ use Rattle.macro_layout.specs.LayoutKit.{LayoutKit}
 use Rattle.macro_layout.specs.Places.{Floorplan}
 use Rattle.good_places.specs.Beside.{IsNext, IsBeside, IsBesideSlice}
 use Rattle.good_places.specs.Leaves.{Zone, LiesNear, AreNearZones, zone_of, column_zone, front_zone, slice_zone}
-use Rattle.good_places.specs.Plain.{IsOfWires}
+use Rattle.leaf_shapes.specs.Outline.{IsWireLayer}
 use Rattle.good_places.proofs.LaidLaws.{in_zone, written_all}
 use Rattle.good_nets.specs.Parts.{IsShapeOf}
 use Rattle.kit_nets.specs.StatedParts.{Source, Standing, stated_parts}
@@ -152,9 +152,9 @@ module _ (connections : List Connect) (s : Source) (by reach : ℤ) (is : IsSeen
   pub shape_near : (i : Standing s) (inner shape : Shape) → IsShapeOf connections (stated_parts s) i inner shape → LiesNear by (zone_at i) shape.rect
   shape_near i inner shape of = in_zone s.plan s.kit s.wire s.floorplan by is.source.drawn.laid i.leaf i.place inner shape i.has i.stands (is.passes i.leaf inner i.has of.listed) of.moved
 
-  pub shape_inside : (i : Standing s) (inner shape : Shape) → IsShapeOf connections (stated_parts s) i inner shape → IsOfWires s.wire shape.layer → LiesNear (pos 0) (zone_at i) shape.rect
+  pub shape_inside : (i : Standing s) (inner shape : Shape) → IsShapeOf connections (stated_parts s) i inner shape → IsWireLayer s.wire shape.layer → LiesNear (pos 0) (zone_at i) shape.rect
   shape_inside i inner shape of wires =
-      in_zone s.plan s.kit s.wire s.floorplan (pos 0) is.source.drawn.laid i.leaf i.place inner shape i.has i.stands (is.inside i.leaf inner i.has of.listed (subst (IsOfWires s.wire) of.moved.layer wires)) of.moved
+      in_zone s.plan s.kit s.wire s.floorplan (pos 0) is.source.drawn.laid i.leaf i.place inner shape i.has i.stands (is.inside i.leaf inner i.has of.listed (subst (IsWireLayer s.wire) of.moved.layer wires)) of.moved
 
   pub near_zones : (i j : Standing s) (x y a b : Shape) → IsShapeOf connections (stated_parts s) i x a → IsShapeOf connections (stated_parts s) j y b → Touch connections a b → AreNearZones reach (zone_at j) (zone_at i)
   near_zones i j x y a b of_i of_j touch = touch_zones connections by reach (zone_at i) (zone_at j) a b is.felt (shape_near i x a of_i) (shape_near j y b of_j) touch

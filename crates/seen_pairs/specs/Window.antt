@@ -13,8 +13,8 @@ use Rattle.sram_netlist.specs.Netlist.{role}
 use Rattle.macro_layout.specs.Floorplan.{Tracks}
 use Rattle.macro_layout.specs.Places.{Floorplan}
 use Rattle.good_places.specs.Leaves.{PassesAtMost, ReachesNeighboursOnly}
-use Rattle.good_places.specs.Plain.{IsOfWires}
-use Rattle.good_places.specs.Stated.{AreFirstWires}
+use Rattle.leaf_shapes.specs.Outline.{IsWireLayer}
+use Rattle.leaf_shapes.specs.FirstLayers.{AreFirstLayers}
 use Rattle.good_wires.specs.Drawn.{IsDrawnMemory}
 use Rattle.joined_nets.specs.Joints.{JoinsOnlyWires}
 use Rattle.kit_nets.specs.StatedParts.{Source, leaf_lists}
@@ -33,14 +33,14 @@ pub record IsSeenSource (connections : List Connect) (s : Source) (by reach : �
   pub words : 0 < s.plan.word_size
   pub written : 0 < s.plan.write_size
   pub source : IsDrawnSource s
-  pub first : AreFirstWires s.layers s.wire
+  pub first : AreFirstLayers s.layers s.wire
   pub only : JoinsOnlyWires connections s.wire
   pub from : pos 0 ≤ℤ by
   pub space : by ≤ℤ s.wire.space
   pub short : ReachesNeighboursOnly s.kit s.wire reach
   pub felt : (pos 1 +ℤ (by +ℤ by)) ≤ℤ reach
   pub passes : (leaf : LeafInstance) (inner : Shape) → HasLeafInstance s.plan leaf → Contains (leaf_lists s leaf).shapes inner → PassesAtMost by (s.kit.width (role s.plan leaf)) (s.kit.height (role s.plan leaf)) inner.rect
-  pub inside : (leaf : LeafInstance) (inner : Shape) → HasLeafInstance s.plan leaf → Contains (leaf_lists s leaf).shapes inner → IsOfWires s.wire inner.layer → PassesAtMost (pos 0) (s.kit.width (role s.plan leaf)) (s.kit.height (role s.plan leaf)) inner.rect
+  pub inside : (leaf : LeafInstance) (inner : Shape) → HasLeafInstance s.plan leaf → Contains (leaf_lists s leaf).shapes inner → IsWireLayer s.wire inner.layer → PassesAtMost (pos 0) (s.kit.width (role s.plan leaf)) (s.kit.height (role s.plan leaf)) inner.rect
 
 -- the small memory, stated, with no difference of nets and no loose contact
 pub record HasSeenWindow (connections : List Connect) (s : Source) : Type 0 where

@@ -8,17 +8,16 @@ use Rattle.or_geom.specs.declared.shape.Shape.{Shape}
 use Rattle.tech_rules.specs.declared.tech.Connect.{Connect}
 use Rattle.tech_rules.specs.Drawing.{IsBox}
 use Rattle.sram_netlist.specs.Organization.{banks_of, columns_of, words_per_row}
-use Rattle.sram_netlist.specs.Nets.{Net, Gnd}
+use Rattle.sram_netlist.specs.Nets.{Net}
 use Rattle.sram_netlist.specs.Instances.{LeafInstance, PrechargeAt}
 use Rattle.macro_layout.specs.Places.{Floorplan, bank_x, columns_x, bit_width, drive_width}
 use Rattle.macro_layout.specs.Floorplan.{rail_x}
-use Rattle.macro_layout.specs.Pins.{IsPin, IsRailOf, column_nets}
-use Rattle.macro_layout.specs.Channels.{IsColumnChannel}
+use Rattle.macro_layout.specs.Pins.{IsPin, IsRailOf}
 use Rattle.macro_layout.specs.Stated.{IsShifted}
-use Rattle.macro_layout.specs.Wires.{IsTapOfNet, columns_end, trunk_x}
+use Rattle.macro_layout.specs.Wires.{IsTapOfNet}
 use Rattle.good_places.specs.Leaves.{Zone}
 use Rattle.good_wires.proofs.LevelLaws.{rail_at}
-use Rattle.joined_nets.specs.WireNets.{in_bank, IsChannelWireOf}
+use Rattle.joined_nets.specs.WireNets.{in_bank}
 use Rattle.kit_nets.specs.StatedParts.{Source, Standing}
 use Rattle.kit_nets.proofs.ChannelDrawnLaws.{box_there}
 use Rattle.kit_nets.proofs.ColumnHubLaws.{zero_times}
@@ -27,7 +26,6 @@ use Rattle.small_wires.specs.Seen.{IsNearZone}
 use Rattle.seen_pairs.specs.Window.{IsSeenSource, HasSeenWindow}
 use Rattle.small_wires.proofs.AnchorLaws.{end_right, rail_left, columns_same, width_here, width_there, rows_same}
 use Rattle.small_wires.proofs.BankWireLaws.{pin_there, IsPinThere, in_bank_seen}
-use Rattle.small_wires.proofs.BranchLaws.{IsTopBox}
 use Rattle.small_wires.proofs.ColumnNetLaws.{rail_still}
 use Rattle.seen_pairs.proofs.CounterLaws.{precharge_counter}
 use Rattle.small_wires.proofs.FarLaws.{sp, wide_wire, wide_space, same_bank}
@@ -84,36 +82,8 @@ module _ (connections : List Connect) (s : Source) (by reach : ℤ) (is : IsSeen
   abbrev dx0 : ℤ
   dx0 = right_by s.plan s.kit f g 0 m
 
-  abbrev below : (t : Shape) → IsNearZone S z t.rect → (t.rect.y2 +ℤ S) ≤ℤ f.column_y → ⊥
-  below = first.below connections s by reach is window i seat
-
-  abbrev behind : (t : Shape) → IsNearZone S z t.rect → trunk_x s.plan s.kit s.wire f ≤ℤ t.rect.x1 → ⊥
-  behind = first.behind connections s by reach is window i seat
-
-  abbrev below_bank : (k : ℕ) (t inner : Shape) → IsShifted (q k) (pos 0) inner t → IsNearZone S z t.rect → (inner.rect.y2 +ℤ S) ≤ℤ f.column_y → ⊥
-  below_bank = first.below_bank connections s by reach is window i seat
-
-  abbrev rail_far : (k : ℕ) (net : Net) (x : ℤ) (t inner : Shape) → IsRailOf s.plan s.wire f 0 net x → IsShifted (q k) (pos 0) inner t → x ≤ℤ inner.rect.x1 → inner.rect.x2 ≤ℤ (x +ℤ W) → IsNearZone S z t.rect → ⊥
-  rail_far = first.rail_far connections s by reach is window i seat
-
-  abbrev column_rises : f.column_y +ℤ dy ≡ g.column_y
-  column_rises = first.column_rises connections s by reach is window i seat
-
-  abbrev array_rises : f.array_y +ℤ dy ≡ g.array_y
-  array_rises = first.array_rises connections s by reach is window i seat
-
-  abbrev precharge_rises : f.precharge_y +ℤ dy ≡ g.precharge_y
-  precharge_rises = first.precharge_rises connections s by reach is window i seat
-
   abbrev pin_x : (k : ℕ) → k ≡ b → (x : ℤ) → ((x +ℤ dx0) +ℤ qg k) ≡ ((x +ℤ q k) +ℤ dx)
   pin_x = first.pin_x connections s by reach is window i seat
-
-  abbrev top_contact : (k : ℕ) → k < banks_of s.plan → (n net : Net) (t inner : Shape) → n ≡ in_bank k net → IsShifted (q k) (pos 0) inner t → (w : IsChannelWireOf (IsColumnChannel s.plan s.kit s.wire f) s.wire s.tracks.column (column_nets s.plan) net inner)
-      → IsTopBox (IsColumnChannel s.plan s.kit s.wire f) s.wire s.tracks.column (column_nets s.plan) net inner w → IsNearZone S z t.rect → IsNearZone reach z t.rect → SeenThere connections s by reach is window i n t
-  top_contact = first.top_contact connections s by reach is window i seat
-
-  abbrev joiner_contact : (k : ℕ) → k < banks_of s.plan → (n : Net) (t inner : Shape) → n ≡ in_bank k Gnd → IsShifted (q k) (pos 0) inner t → IsBox (slice_index s.wire.metals 0) f.row_x (f.array_y -ℤ W) (columns_end s.plan s.kit f) f.array_y inner → IsNearZone S z t.rect → SeenThere connections s by reach is window i n t
-  joiner_contact = first.joiner_contact connections s by reach is window i seat
 
   -- a tap of bank 0 that ends at a pin x2 behind the rails and before the bank's end, where it stands in bank k
   tap_bank : (k : ℕ) (net : Net) (x end : ℤ) (t inner : Shape) → IsRailOf s.plan s.wire f 0 net x → IsShifted (q k) (pos 0) inner t → inner.rect.x1 ≡ x → inner.rect.x2 ≡ end → end ≤ℤ f.bank_width → IsNearZone S z t.rect → k ≡ b

@@ -305,7 +305,7 @@ module _ (connections : List Connect) (s : Source) (by reach : ℤ) (is : IsSeen
     like_two : role s.plan (LogicAt d) ≡ role sm.plan (LogicAt two)
     like_two = ap (λ (l : LogicCell). role s.plan (LogicAt l)) r.two.is ∙ logic_same_role s.plan sm.plan r.moves two (akin connections s by reach is window).plans
 
-    moved_pin : (m : Rect) × moved.IsMoved dx (pos 0) rect m
+    moved_pin : (m : Rect) × moved.IsMovedBy dx (pos 0) rect m
     moved_pin = moved_rect dx (pos 0) rect
 
     net_there : (net2 : Net) × (slice_get (ports sm.plan (LogicAt two)) port ≡ Some net2) × (logic_net r.moves net2 ≡ meets.0)

@@ -10,15 +10,14 @@ use Rattle.tech_rules.specs.Drawing.{IsBox}
 use Rattle.sram_netlist.specs.Organization.{banks_of, columns_of, words_per_row}
 use Rattle.sram_netlist.specs.Nets.{Net, Gnd}
 use Rattle.sram_netlist.specs.Instances.{SenseAt}
-use Rattle.macro_layout.specs.Places.{Floorplan, bank_x, columns_x, column_x, bit_width, drive_width}
-use Rattle.macro_layout.specs.Floorplan.{column_channel_y, rail_x}
-use Rattle.macro_layout.specs.Pins.{IsPin, IsRailOf, column_nets}
-use Rattle.macro_layout.specs.Channels.{IsColumnChannel}
+use Rattle.macro_layout.specs.Places.{Floorplan, bank_x, columns_x, bit_width, drive_width}
+use Rattle.macro_layout.specs.Floorplan.{rail_x}
+use Rattle.macro_layout.specs.Pins.{IsPin, IsRailOf}
 use Rattle.macro_layout.specs.Stated.{IsShifted}
-use Rattle.macro_layout.specs.Wires.{columns_end, trunk_x}
+use Rattle.macro_layout.specs.Wires.{columns_end}
 use Rattle.good_places.specs.Leaves.{Zone}
 use Rattle.good_wires.proofs.LevelLaws.{rail_at}
-use Rattle.joined_nets.specs.WireNets.{in_bank, IsChannelWireOf, IsOutputWireOf}
+use Rattle.joined_nets.specs.WireNets.{in_bank}
 use Rattle.kit_nets.specs.StatedParts.{Source, Standing}
 use Rattle.kit_nets.proofs.ChannelDrawnLaws.{box_there}
 use Rattle.kit_nets.proofs.ColumnHubLaws.{zero_times}
@@ -30,7 +29,6 @@ use Rattle.seen_pairs.specs.Window.{IsSeenSource, HasSeenWindow}
 use Rattle.small_wires.proofs.AnchorLaws.{Anchored, joiner_left, end_right, rail_left, columns_same, width_here, width_there, columns_some, rows_same}
 use Rattle.seen_pairs.proofs.BankPairLaws.{Counter}
 use Rattle.small_wires.proofs.BankWireLaws.{pin_there, in_bank_seen}
-use Rattle.small_wires.proofs.BranchLaws.{IsBottomBox}
 use Rattle.small_wires.proofs.ColumnNetLaws.{rail_still}
 use Rattle.seen_pairs.proofs.CounterLaws.{sense_counter}
 use Rattle.small_wires.proofs.FarLaws.{sp, wide_wire, wide_space, same_bank}
@@ -86,54 +84,17 @@ module _ (connections : List Connect) (s : Source) (by reach : ℤ) (is : IsSeen
   abbrev anchor : Anchored connections s by reach is window b m unit z dx
   anchor = first.anchor connections s by reach is window i of
 
-  abbrev low_is : z.low ≡ f.write_y
-  low_is = first.low_is connections s by reach is window i of
-
   abbrev wide : reach ≤ℤ pos unit
   wide = first.wide connections s by reach is window i of
 
-  abbrev in_bank_i : b < banks_of s.plan
-  in_bank_i = first.in_bank_i connections s by reach is window i of
-
-  abbrev below : (t : Shape) → IsNearZone S z t.rect → (t.rect.y2 +ℤ S) ≤ℤ f.write_y → ⊥
-  below = first.below connections s by reach is window i of
-
-  abbrev above : (t : Shape) → IsNearZone S z t.rect → (column_channel_y s.kit f +ℤ S) ≤ℤ t.rect.y1 → ⊥
-  above = first.above connections s by reach is window i of
-
-  abbrev over : (t : Shape) → IsNearZone S z t.rect → f.column_y ≤ℤ t.rect.y1 → ⊥
-  over = first.over connections s by reach is window i of
-
-  abbrev behind : (t : Shape) → IsNearZone S z t.rect → trunk_x s.plan s.kit s.wire f ≤ℤ t.rect.x1 → ⊥
-  behind = first.behind connections s by reach is window i of
-
   abbrev sense_rises : f.sense_y +ℤ dy ≡ g.sense_y
   sense_rises = first.sense_rises connections s by reach is window i of
-
-  abbrev write_rises : f.write_y +ℤ dy ≡ g.write_y
-  write_rises = first.write_rises connections s by reach is window i of
-
-  abbrev next_to : (e : ℕ) (t : Rect) → IsNearZone reach z t → bank_x f b (column_x s.plan s.kit f (e * wpr)) ≤ℤ t.x1 → t.x2 ≤ℤ (bank_x f b (column_x s.plan s.kit f (e * wpr)) +ℤ pos unit) → e < s.plan.word_size → (j : ℕ) × (e ≡ j + m) × (j < window.word)
-  next_to = first.next_to connections s by reach is window i of
-
-  abbrev of_bank : (k e : ℕ) (t : Rect) → e < s.plan.word_size → bank_x f k (column_x s.plan s.kit f (e * wpr)) ≤ℤ t.x1 → t.x2 ≤ℤ (bank_x f k (column_x s.plan s.kit f (e * wpr)) +ℤ pos unit) → IsNearZone S z t → k ≡ b
-  of_bank = first.of_bank connections s by reach is window i of
 
   abbrev q : ℕ → ℤ
   q k = pos k *ℤ s.floorplan.bank_width
 
   abbrev qg : ℕ → ℤ
   qg k = pos k *ℤ window.floorplan.bank_width
-
-  abbrev IsPinSlice : (k e : ℕ) → Type 0
-  IsPinSlice = first.IsPinSlice connections s by reach is window i of
-
-  abbrev bottom_contact : (k : ℕ) → k < banks_of s.plan → (n net : Net) (t inner : Shape) → n ≡ in_bank k net → IsShifted (q k) (pos 0) inner t → (w : IsChannelWireOf (IsColumnChannel s.plan s.kit s.wire f) s.wire s.tracks.column (column_nets s.plan) net inner)
-      → IsBottomBox (IsColumnChannel s.plan s.kit s.wire f) s.wire s.tracks.column (column_nets s.plan) net inner w → IsNearZone S z t.rect → IsNearZone reach z t.rect → SeenThere connections s by reach is window i n t
-  bottom_contact = first.bottom_contact connections s by reach is window i of
-
-  abbrev output_contact : (k : ℕ) → k < banks_of s.plan → (n net : Net) (t inner : Shape) → n ≡ in_bank k net → IsShifted (q k) (pos 0) inner t → (o : IsOutputWireOf s.plan s.kit s.wire f net inner) → IsNearZone S z t.rect → IsNearZone reach z t.rect → SeenThere connections s by reach is window i n t
-  output_contact = first.output_contact connections s by reach is window i of
 
   -- Joiners along write cells
   pub joiner_contact : (k : ℕ) → k < banks_of s.plan → (n : Net) (t inner : Shape) → n ≡ in_bank k Gnd → IsShifted (q k) (pos 0) inner t → IsBox (slice_index s.wire.metals 0) (columns_x s.plan s.kit f) (f.sense_y -ℤ W) (columns_end s.plan s.kit f) f.sense_y inner → IsNearZone S z t.rect → SeenThere connections s by reach is window i n t

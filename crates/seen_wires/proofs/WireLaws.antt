@@ -8,7 +8,7 @@ use Rattle.tech_rules.specs.declared.tech.Connect.{Connect}
 use Rattle.tech_rules.specs.Touch.{Touch}
 use Rattle.sram_netlist.specs.Nets.{Net}
 use Rattle.good_places.specs.Leaves.{LiesNear}
-use Rattle.good_places.specs.Plain.{IsOfWires}
+use Rattle.leaf_shapes.specs.Outline.{IsWireLayer}
 use Rattle.good_nets.specs.Parts.{IsShapeOf, IsWireSeen}
 use Rattle.joined_nets.specs.Joints.{IsOnWireLayer}
 use Rattle.kit_nets.proofs.ChannelDrawnLaws.{moved_is_shifted}
@@ -57,7 +57,7 @@ module _ (connections : List Connect) (s : Source) (by reach : ℤ) (is : IsSeen
   pub holding_there : (i : Standing s) (x a t : Shape) (n : Net) (p : Point) → IsShapeOf connections (stated_parts s) i x a → (stated_parts s).Wire n t → t.layer ≡ a.layer → IsIn a.rect p → IsIn t.rect p → SeenThere connections s by reach is window i n t
   holding_there i x a t n p of stands same in_a in_t = near_wire i n t stands (near s.wire.space (wide_space connections s by reach is)) (near reach is.short.some) where
     inside : LiesNear (pos 0) (zone_at connections s by reach is i) a.rect
-    inside = shape_inside connections s by reach is i x a of (subst (IsOfWires s.wire) same (of_wires s.layers s.wire is.first t (wire_layer n t stands)))
+    inside = shape_inside connections s by reach is i x a of (subst (IsWireLayer s.wire) same (of_wires s.layers s.wire is.first t (wire_layer n t stands)))
 
     near : (m : ℤ) → pos 1 ≤ℤ m → IsNearZone m (zone_at connections s by reach is i) t.rect
     near m some = point_near m (zone_at connections s by reach is i) a.rect t.rect p some inside in_a in_t

@@ -55,7 +55,7 @@ module _ (connections : List Connect) (s : Source) (by reach : ℤ) (is : IsSeen
     pub net2 : Net
     pub named : slice_net s.plan m net2 ≡ net
     pub rect2 : Rect
-    pub moved_by : moved.IsMoved dx dy rect rect2
+    pub moved_by : moved.IsMovedBy dx dy rect rect2
     pub pin : IsPin there_plan s.kit g there port metal net2 rect2
 
   pub pin_there : (m : ℕ) (dx dy : ℤ) (leaf : LeafInstance) (port metal : ℕ) (net : Net) (rect : Rect) (p : IsPin s.plan s.kit f leaf port metal net rect) → (c : IsCounterpart s.plan s.kit g window.word window.write window.masks m dx dy leaf p.place) → IsPinThere m dx dy c.there port metal net rect

@@ -11,7 +11,7 @@ use Rattle.tech_rules.specs.declared.tech.Wire.{Wire}
 use Rattle.tech_rules.specs.Touch.{Touch, ShareArea, IsConductor, IsCutTo}
 use Rattle.macro_layout.specs.Stated.{IsShifted}
 use Rattle.good_places.specs.Leaves.{Zone, LiesNear}
-use Rattle.good_places.specs.Plain.{IsOfWires}
+use Rattle.leaf_shapes.specs.Outline.{IsWireLayer}
 use Rattle.joined_nets.specs.Joints.{JoinsOnlyWires, IsOnWireLayer}
 use Rattle.small_wires.specs.Seen.{IsNearZone, CoversThere}
 
@@ -41,7 +41,7 @@ turned_area a b s = record { x = s.x; y = s.y; in_a = s.in_b; in_b = s.in_a }
 
 module _ (connections : List Connect) (wire : Wire) (only : JoinsOnlyWires connections wire) (metals : (k : ℕ) → k < 4 → Contains wire.metals (slice_index wire.metals k)) (by m : ℤ) (some : pos 1 ≤ℤ m) (from : pos 0 ≤ℤ m) (le : by ≤ℤ m) where
   -- a cut of wires joins metals of wires alone
-  by_cut : (z : Zone) (a t : Shape) → (IsOfWires wire a.layer → LiesNear (pos 0) z a.rect) → IsOnWireLayer wire t → IsCutTo connections t.layer a.layer → ShareArea t.rect a.rect → IsNearZone m z t.rect
+  by_cut : (z : Zone) (a t : Shape) → (IsWireLayer wire a.layer → LiesNear (pos 0) z a.rect) → IsOnWireLayer wire t → IsCutTo connections t.layer a.layer → ShareArea t.rect a.rect → IsNearZone m z t.rect
   by_cut z a t inside (inl metal) to area = absurd (only.no_metal metal.place a.layer metal.below (subst (λ (l : ℕ). IsCutTo connections l a.layer) metal.on to))
   by_cut z a t inside (inr cut) to area = elim (only.beside cut.place a.layer cut.below (subst (λ (l : ℕ). IsCutTo connections l a.layer) cut.on to)) [
     | inl under ↦ area_near (pos 0) m z a.rect t.rect from (inside (inl (subst (Contains wire.metals) (sym under) (metals cut.place (let b = cut.below in omega (arith, b)))))) (turned_area t.rect a.rect area)
@@ -49,8 +49,8 @@ module _ (connections : List Connect) (wire : Wire) (only : JoinsOnlyWires conne
   ]
 
   -- What touches a wire: it is near the zone in which the shape lies.
-  pub touch_near : (z : Zone) (a t : Shape) → LiesNear by z a.rect → (IsOfWires wire a.layer → LiesNear (pos 0) z a.rect) → IsOnWireLayer wire t → IsOfWires wire t.layer → Touch connections a t → IsNearZone m z t.rect
-  touch_near z a t near inside on of (inl same) = let j = same.joined in point_near m z a.rect t.rect j.p some (inside (subst (IsOfWires wire) (sym same.one_layer) of)) j.p_in_a j.p_in_b
+  pub touch_near : (z : Zone) (a t : Shape) → LiesNear by z a.rect → (IsWireLayer wire a.layer → LiesNear (pos 0) z a.rect) → IsOnWireLayer wire t → IsWireLayer wire t.layer → Touch connections a t → IsNearZone m z t.rect
+  touch_near z a t near inside on of (inl same) = let j = same.joined in point_near m z a.rect t.rect j.p some (inside (subst (IsWireLayer wire) (sym same.one_layer) of)) j.p_in_a j.p_in_b
   touch_near z a t near inside on of (inr (inl cut)) = area_near by m z a.rect t.rect le near cut.area
   touch_near z a t near inside on of (inr (inr cut)) = by_cut z a t inside on cut.connects cut.area
 

@@ -11,8 +11,8 @@ use Rattle.macro_layout.specs.Places.{Floorplan}
 use Rattle.macro_layout.specs.Floorplan.{Tracks}
 use Rattle.macro_layout.specs.Wires.{IsBar, IsPowerWire, IsGroundWire}
 use Rattle.macro_layout.specs.Stated.{IsOnFirstLayer}
-use Rattle.good_places.specs.Plain.{IsOfWires}
-use Rattle.good_places.specs.Stated.{AreFirstWires}
+use Rattle.leaf_shapes.specs.Outline.{IsWireLayer}
+use Rattle.leaf_shapes.specs.FirstLayers.{AreFirstLayers}
 use Rattle.joined_nets.specs.Joints.{IsOnWireLayer}
 use Rattle.joined_nets.specs.WireNets.{IsBankWireOf, IsWireOfNet}
 use Rattle.kit_nets.proofs.ChannelDrawnLaws.{on_wire_layer, moved_layer}
@@ -51,14 +51,14 @@ module _ (plan : Organization) (kit : LayoutKit) (wire : Wire) (tracks : Tracks)
   wire_on n s (inl (inr (inr ground))) = ground_on s ground.1
   wire_on n s (inr bank) = moved_layer wire bank.inner s bank.shifted.layer (bank_on bank.net bank.inner bank.is)
 
-module _ (layers : List Layer) (wire : Wire) (first : AreFirstWires layers wire) where
-  pub of_wires : (s : Shape) → IsOnWireLayer wire s → IsOfWires wire s.layer
+module _ (layers : List Layer) (wire : Wire) (first : AreFirstLayers layers wire) where
+  pub of_wires : (s : Shape) → IsOnWireLayer wire s → IsWireLayer wire s.layer
   of_wires s (inl metal) = inl (subst (Contains wire.metals) (sym metal.on) (first.metals metal.place metal.below))
   of_wires s (inr cut) = inr (subst (Contains wire.cuts) (sym cut.on) (first.cuts cut.place cut.below))
 
   -- what is drawn stands
   pub drawn_stands : (Drawn : Shape → Type 0) (s : Shape) → IsOnWireLayer wire s → Drawn s → IsOnFirstLayer layers Drawn s
-  drawn_stands Drawn s on drawn = let t = first.there s.layer (of_wires s on) in record { wire = s; drawn = drawn; layer = t.0; on = t.1; first = t.2; rect = refl }
+  drawn_stands Drawn s on drawn = let t = first.there s.layer (of_wires s on) in record { wire = s; drawn = drawn; layer = t.layer; on = t.there; first = t.first; rect = refl }
 
   one_shape : (s t : Shape) → s.layer ≡ t.layer → s.rect ≡ t.rect → s ≡ t
   one_shape s t p q = λ i. record { layer = p i; rect = q i }

@@ -3,7 +3,7 @@ use Rattle.std.proofs.Common.{◌≡◌, ◌≢◌, ℕ, zero, suc, ◌+◌, ◌
 use Rattle.std.specs.List.{flat_map, AllByRecursion}
 use Rattle.std.specs.Cmp.Lexicographic.{same_text}
 use Rattle.spice_text.specs.Writable.{Differ}
-use Rattle.spice_netlist.proofs.NameIndexLaws.{same_self}
+use Rattle.or_geom.proofs.NamePlaceLaws.{same_self}
 use Rattle.row_laws.proofs.LookLaws.{all_append, all_map, all_flat, AreOther}
 use Rattle.sram_netlist.specs.InstanceList.{numbers_from, tabulate, tabulate_lists}
 use Rattle.sram_netlist.proofs.NamesTell.{letters, is_text}

@@ -9,7 +9,7 @@ use Rattle.spice_text.specs.Words.{lower}
 use Rattle.spice_text.specs.Writable.{Differ}
 use Rattle.spice_netlist.specs.Names.{same_name}
 use Rattle.spice_netlist.specs.Resolved.{names_of}
-use Rattle.spice_netlist.proofs.NameIndexLaws.{same_self}
+use Rattle.or_geom.proofs.NamePlaceLaws.{same_self}
 use Rattle.or_geom.proofs.NameLaws.{other_name}
 use Rattle.row_laws.proofs.LookLaws.{all_append, all_map}
 use Rattle.cell_roles.specs.declared.role.Role.{Role}

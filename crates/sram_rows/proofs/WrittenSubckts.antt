@@ -11,7 +11,7 @@ use Rattle.spice_netlist.specs.declared.resolved.ResolvedSubckt.{ResolvedSubckt}
 use Rattle.spice_text.specs.Words.{lower}
 use Rattle.spice_netlist.specs.Names.{same_name, index_of}
 use Rattle.spice_netlist.specs.Resolved.{names_of, resolved_instance, is_bare, is_leaf, resolved_subckt, resolved_subckts, ports_at, instances_at}
-use Rattle.spice_netlist.proofs.NameIndexLaws.{same_self}
+use Rattle.or_geom.proofs.NamePlaceLaws.{same_self}
 use Rattle.row_laws.proofs.LookLaws.{IsOneOf, all_map, one_map}
 use Rattle.sram_netlist.specs.Organization.{Organization, inputs_of, bank_rows, columns_of, IsBuildable}
 use Rattle.sram_netlist.specs.Instances.{LogicCell}

@@ -10,7 +10,8 @@ use Rattle.good_wires.specs.Drawn.{PinsFit}
 use Rattle.joined_nets.specs.Joints.{JoinsWires}
 use Rattle.kit_nets.specs.StatedParts.{Source, IsStatedBy}
 use Rattle.kit_nets.specs.RolePins.{AreRolePins}
-use Rattle.kit_nets.specs.DrawnChannels.{IsDrawnChannel, AreFirstLayers}
+use Rattle.kit_nets.specs.DrawnChannels.{IsDrawnChannel}
+use Rattle.leaf_shapes.specs.FirstLayers.{AreFirstLayers}
 
 pub record IsLaidMacro (tech : Tech) (s : Source) (flat : FlatLists) : Type 0 where
   -- the layout is stated so, on the layers of its wires

@@ -1,5 +1,5 @@
 -- Boxes that hold one point: they are joined, or lie opposite each other at it.
-use Rattle.std.proofs.Common.{◌≡◌, ◌⊎◌, inl, inr, ℕ, ℤ, ◌<ℤ◌, ◌+ℤ◌, ◌-ℤ◌, pos, refl, ap, sym, subst, arith}
+use Rattle.std.proofs.Common.{◌≡◌, ◌≢◌, ◌⊎◌, inl, inr, ℕ, ℤ, ◌<ℤ◌, ◌+ℤ◌, ◌-ℤ◌, pos, refl, ap, sym, subst, arith}
 use Rattle.std.specs.Ordering.{ordering_then, int_cmp, nat_cmp}
 use Rattle.std.specs.declared.cmp.Ordering.{Ordering}
 use Rattle.std.specs.declared.cmp.Ordering.TheVariants.{Less, Equal, Greater}
@@ -11,7 +11,10 @@ use Rattle.or_geom.specs.declared.shape.Shape.{Shape}
 use Rattle.or_geom.specs.Joined.{IsIn, AreJoined}
 use Rattle.or_geom.specs.ShapeOrder.{rect_order, shape_order}
 use Rattle.or_geom.proofs.PlaceLaws.{same_point}
-use Rattle.good_nets.proofs.StayLaws.{joined_by}
+
+-- boxes that have a point and the one beside it, or above it, are joined
+joined_by : (a b : Rect) (p q : Point) → p ≢ q → IsIn a p → IsIn b p → IsIn a q → IsIn b q → AreJoined a b
+joined_by a b p q differ p_in_a p_in_b q_in_a q_in_b = record { p = p; q = q; differ = differ; p_in_a = p_in_a; p_in_b = p_in_b; q_in_a = q_in_a; q_in_b = q_in_b }
 
 -- Order
 

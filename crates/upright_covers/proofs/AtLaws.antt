@@ -15,7 +15,7 @@ use Rattle.macro_layout.specs.LayoutKit.{LayoutKit}
 use Rattle.macro_layout.specs.Places.{Floorplan, leaf_cell}
 use Rattle.macro_layout.specs.Floorplan.{Tracks}
 use Rattle.macro_layout.specs.Wires.{trunk_x}
-use Rattle.local_report.specs.Moved.{IsMoved}
+use Rattle.local_report.specs.Moved.{IsMovedBy}
 use Rattle.good_places.specs.Leaves.{Zone, zone_of, LiesNear, AreNearZones}
 use Rattle.good_places.specs.Beside.{moved_place, StandsMoved}
 use Rattle.good_places.proofs.MoveLaws.{moved_image}
@@ -77,7 +77,7 @@ placed_lies Met metal plan kit wire tracks f m leaf rect p = in_zone plan kit wi
 
 -- a placed pin, where its instance stands in another memory
 pub placed_moves : (Met : Role → ℕ → Type 0) (metal : ℕ) (plan other : Organization) (kit : LayoutKit) (bits : BitCells) (f g : Floorplan) (dx dy : ℤ) (leaf : LeafInstance) (rect : Rect) (p : IsPlacedPin Met metal other kit g leaf rect)
-    → (s : StandsMoved plan kit bits f dx dy (role other leaf) (leaf_cell other kit bits leaf) p.place) (r : Rect) → IsMoved dx dy rect r → IsPlacedPin Met metal plan kit f s.leaf r
+    → (s : StandsMoved plan kit bits f dx dy (role other leaf) (leaf_cell other kit bits leaf) p.place) (r : Rect) → IsMovedBy dx dy rect r → IsPlacedPin Met metal plan kit f s.leaf r
 placed_moves Met metal plan other kit bits f g dx dy leaf rect p s r at = record {
   port = p.port;
   met = subst (λ (q : Role). Met q p.port) (sym s.same_role) p.met;

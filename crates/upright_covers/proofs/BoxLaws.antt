@@ -17,10 +17,10 @@ use Rattle.macro_layout.specs.LayoutKit.{LayoutKit}
 use Rattle.macro_layout.specs.Places.{Floorplan, leaf_cell}
 use Rattle.macro_layout.specs.Floorplan.{Tracks}
 use Rattle.macro_layout.specs.Layout.{IsOfLeaf}
-use Rattle.local_report.specs.Moved.{IsMoved}
+use Rattle.local_report.specs.Moved.{IsMovedBy}
 use Rattle.good_places.specs.Leaves.{Zone, zone_of, LiesNear, AreNearZones}
 use Rattle.good_places.specs.Seen.{AreCompared}
-use Rattle.good_places.specs.Plain.{IsOfWires}
+use Rattle.leaf_shapes.specs.Outline.{IsWireLayer}
 use Rattle.good_places.proofs.LaidLaws.{in_zone}
 use Rattle.good_places.proofs.LookLaws.{shape_moves}
 use Rattle.good_wires.specs.Drawn.{IsDrawnWire}
@@ -59,10 +59,10 @@ module _ (Flat : List ℕ → Shape → Type 0) (plan : Organization) (kit : Lay
     pub holds : HasCell shape.rect x y
     pub is : IsDrawnWire plan kit wire tracks f shape
 
-  pub leaf_lies : (a : Shape) → IsOfWires wire a.layer → (o : IsOfLeaf plan kit bits f IsShapeTaken Flat a) → LiesNear (pos 0) (zone_of plan kit f o.leaf o.place) a.rect
-  leaf_lies a own o = in_zone plan kit wire f (pos 0) h.drawn.laid o.leaf o.place o.taken.inner a o.has o.stands (h.inside o.leaf o.taken.inner o.has o.taken.has (subst (IsOfWires wire) o.taken.moved.layer own)) o.taken.moved
+  pub leaf_lies : (a : Shape) → IsWireLayer wire a.layer → (o : IsOfLeaf plan kit bits f IsShapeTaken Flat a) → LiesNear (pos 0) (zone_of plan kit f o.leaf o.place) a.rect
+  leaf_lies a own o = in_zone plan kit wire f (pos 0) h.drawn.laid o.leaf o.place o.taken.inner a o.has o.stands (h.inside o.leaf o.taken.inner o.has o.taken.has (subst (IsWireLayer wire) o.taken.moved.layer own)) o.taken.moved
 
-  pub cell_kind : (layer : ℕ) (x y : ℤ) → IsOfWires wire layer → HasCellInSome (rects_on layer shapes) x y → IsLeafCell layer x y ⊎ IsWireCell layer x y
+  pub cell_kind : (layer : ℕ) (x y : ℤ) → IsWireLayer wire layer → HasCellInSome (rects_on layer shapes) x y → IsLeafCell layer x y ⊎ IsWireCell layer x y
   cell_kind layer x y own has =
       let s = shape_over layer shapes x y has in
       elim ((h.has layer own s.shape s.on).0 s.there) [
@@ -72,12 +72,12 @@ module _ (Flat : List ℕ → Shape → Type 0) (plan : Organization) (kit : Lay
           on = s.on;
           holds = s.holds;
           of = o;
-          within = cell_in (zone_of plan kit f o.leaf o.place) s.shape.rect x y (leaf_lies s.shape (subst (IsOfWires wire) (sym s.on) own) o) s.holds;
+          within = cell_in (zone_of plan kit f o.leaf o.place) s.shape.rect x y (leaf_lies s.shape (subst (IsWireLayer wire) (sym s.on) own) o) s.holds;
           kind = zone_kind plan kit wire tracks f h.drawn o.leaf o.place o.has o.stands;
         })
       ]
 
-  pub wire_covers : (layer : ℕ) (x y : ℤ) → IsOfWires wire layer → IsWireCell layer x y → HasCellInSome (rects_on layer shapes) x y
+  pub wire_covers : (layer : ℕ) (x y : ℤ) → IsWireLayer wire layer → IsWireCell layer x y → HasCellInSome (rects_on layer shapes) x y
   wire_covers layer x y own w = cell_among (rects_on layer shapes) w.shape.rect x y (on_rects layer shapes w.shape ((h.has layer own w.shape w.on).1 (inl w.is)) w.on) w.holds
 
 -- a cell of a box that lies near a zone, in another zone
@@ -92,7 +92,7 @@ cells_near d reach z near box x y l le has inside = record {
 module _ (Flat : List ℕ → Shape → Type 0) (rules : List Rule) (plan other : Organization) (kit : LayoutKit) (bits : BitCells) (f g : Floorplan) (wire : Wire) (tracks many : Tracks) (by reach : ℤ) (here there : Zone) (from to : List Shape)
     (c : AreCompared Flat rules plan other kit bits f g wire by reach here there from) (flat : HasDrawnShapes Flat plan kit bits wire tracks f by to) (flat_there : HasDrawnShapes Flat other kit bits wire many g by from) where
   -- a shape of a leaf instance that may be felt covers, moved, what it covers there
-  leaf_kept : (layer : ℕ) (x y : ℤ) → IsOfWires wire layer → (l : IsLeafCell Flat other kit bits wire many g by from flat_there layer x y) → AreNearZones reach (zone_of other kit g l.of.leaf l.of.place) there → HasCellInSome (rects_on layer to) (x +ℤ c.alike.right) (y +ℤ c.alike.up)
+  leaf_kept : (layer : ℕ) (x y : ℤ) → IsWireLayer wire layer → (l : IsLeafCell Flat other kit bits wire many g by from flat_there layer x y) → AreNearZones reach (zone_of other kit g l.of.leaf l.of.place) there → HasCellInSome (rects_on layer to) (x +ℤ c.alike.right) (y +ℤ c.alike.up)
   leaf_kept layer x y own l near =
       let o = l.of in
       let m = shape_moves Flat plan kit bits f c.alike.right c.alike.up (role other o.leaf) (leaf_cell other kit bits o.leaf) o.place o.taken.inner l.shape (c.alike.to o.leaf o.place o.has o.stands near) o.taken.has o.taken.moved in
@@ -100,7 +100,7 @@ module _ (Flat : List ℕ → Shape → Type 0) (rules : List Rule) (plan other 
       let holds = l.holds in
       cell_among (rects_on layer to) m.moved.0.rect (x +ℤ c.alike.right) (y +ℤ c.alike.up) (on_rects layer to m.moved.0 ((flat.has layer own m.moved.0 (m.moved.1 ∙ l.on)).1 (inr m.of)) (m.moved.1 ∙ l.on)) (shift l.shape.rect m.moved.0.rect at holds)
     where
-      shift : (r m : Rect) → IsMoved c.alike.right c.alike.up r m → HasCell r x y → HasCell m (x +ℤ c.alike.right) (y +ℤ c.alike.up)
+      shift : (r m : Rect) → IsMovedBy c.alike.right c.alike.up r m → HasCell r x y → HasCell m (x +ℤ c.alike.right) (y +ℤ c.alike.up)
       shift r m at h = record {
         left = let p = at.x1 in let q = h.left in omega (arith, ints, p, q);
         right = let p = at.x2 in let q = h.right in omega (arith, ints, p, q);
@@ -109,9 +109,9 @@ module _ (Flat : List ℕ → Shape → Type 0) (rules : List Rule) (plan other 
       }
 
   -- so do the wires, where each that covers a cell of the box covers it, moved, here
-  pub box_kept : (layer : ℕ) (d : ℤ) (box : Rect) → IsOfWires wire layer → LiesNear d there box → d ≤ℤ reach
+  pub box_kept : (layer : ℕ) (d : ℤ) (box : Rect) → IsWireLayer wire layer → LiesNear d there box → d ≤ℤ reach
       → ((x y : ℤ) → HasCell box x y → IsWireCell Flat other kit bits wire many g by from flat_there layer x y → IsWireCell Flat plan kit bits wire tracks f by to flat layer (x +ℤ c.alike.right) (y +ℤ c.alike.up))
-      → (moved : Rect) → IsMoved c.alike.right c.alike.up box moved → IsCoveredBy layer from box → IsCoveredBy layer to moved
+      → (moved : Rect) → IsMovedBy c.alike.right c.alike.up box moved → IsCoveredBy layer from box → IsCoveredBy layer to moved
   box_kept layer d box own lies le wires moved at covered x y has =
       let there_x = x -ℤ c.alike.right in
       let there_y = y -ℤ c.alike.up in

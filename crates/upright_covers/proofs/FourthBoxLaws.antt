@@ -15,11 +15,11 @@ use Rattle.sram_netlist.specs.BitCells.{BitCells}
 use Rattle.macro_layout.specs.LayoutKit.{LayoutKit}
 use Rattle.macro_layout.specs.Places.{Floorplan, bank_x}
 use Rattle.macro_layout.specs.Floorplan.{Tracks, column_channel_y}
-use Rattle.local_report.specs.Moved.{IsMoved}
+use Rattle.local_report.specs.Moved.{IsMovedBy}
 use Rattle.local_report.proofs.MovedLaws.{moved_rect}
 use Rattle.good_places.specs.Leaves.{Zone, zone_of, LiesNear, AreNearZones, ReachesNeighboursOnly}
 use Rattle.good_places.specs.Zones.{MovesNear}
-use Rattle.good_places.specs.Plain.{IsOfWires}
+use Rattle.leaf_shapes.specs.Outline.{IsWireLayer}
 use Rattle.good_places.proofs.LaidLaws.{Numbers, numbers}
 use Rattle.good_wires.specs.Drawn.{IsDrawnMemory}
 use Rattle.good_wires.specs.Kept.{HasDrawnShapes}
@@ -51,7 +51,7 @@ edge_moved : (rect r edge other dy : ℤ) (n k : ℕ) → rect ≡ edge +ℤ pos
 edge_moved rect r edge other dy n k a b e m = omega (arith, ints, a, b, e, m)
 
 -- the other memory's branch covers it, moved
-branch_holds : (wire : Wire) (z : Zone) (dx dy edge : ℤ) (box rect b r t : Rect) (x y low : ℤ) → z.low ≤ℤ (box.y1 +ℤ (wire.space +ℤ wire.width)) → edge ≤ℤ z.low → b.x1 ≡ rect.x1 → b.x2 ≡ rect.x1 +ℤ wire.width → b.y2 ≡ edge → IsMoved dx dy rect r
+branch_holds : (wire : Wire) (z : Zone) (dx dy edge : ℤ) (box rect b r t : Rect) (x y low : ℤ) → z.low ≤ℤ (box.y1 +ℤ (wire.space +ℤ wire.width)) → edge ≤ℤ z.low → b.x1 ≡ rect.x1 → b.x2 ≡ rect.x1 +ℤ wire.width → b.y2 ≡ edge → IsMovedBy dx dy rect r
     → t.x1 ≡ r.x1 → t.x2 ≡ r.x1 +ℤ wire.width → t.y1 ≡ low → t.y2 ≡ edge +ℤ dy → (low +ℤ (wire.space +ℤ wire.width)) ≤ℤ (edge +ℤ dy) → HasCell box x y → HasCell b x y → HasCell t (x +ℤ dx) (y +ℤ dy)
 branch_holds wire z dx dy edge box rect b r t x y low down under dl dr dh moved tl tr tb th long inside has = record {
   left = let p = has.left in let q = moved.x1 in omega (arith, ints, p, q, tl, dl);
@@ -60,7 +60,7 @@ branch_holds wire z dx dy edge box rect b r t x y low down under dl dr dh moved 
   high = let p = has.high in omega (arith, ints, p, th, dh);
 }
 
-output_holds : (wire : Wire) (dx dy edge other : ℤ) (rect b r t : Rect) (x y : ℤ) → b.x1 ≡ rect.x1 → b.x2 ≡ rect.x1 +ℤ wire.width → b.y1 ≡ edge → b.y2 ≡ rect.y1 → IsMoved dx dy rect r
+output_holds : (wire : Wire) (dx dy edge other : ℤ) (rect b r t : Rect) (x y : ℤ) → b.x1 ≡ rect.x1 → b.x2 ≡ rect.x1 +ℤ wire.width → b.y1 ≡ edge → b.y2 ≡ rect.y1 → IsMovedBy dx dy rect r
     → t.x1 ≡ r.x1 → t.x2 ≡ r.x1 +ℤ wire.width → t.y1 ≡ other → t.y2 ≡ r.y1 → other ≡ edge +ℤ dy → HasCell b x y → HasCell t (x +ℤ dx) (y +ℤ dy)
 output_holds wire dx dy edge other rect b r t x y dl dr db dh moved tl tr tb th e has = record {
   left = let p = has.left in let q = moved.x1 in omega (arith, ints, p, q, tl, dl);
@@ -70,7 +70,7 @@ output_holds wire dx dy edge other rect b r t x y dl dr db dh moved tl tr tb th 
 }
 
 module _ (Met Out : Role → ℕ → Type 0) (drop : Role → ℕ) (Flat : List ℕ → Shape → Type 0) (plan other : Organization) (kit : LayoutKit) (bits : BitCells) (wire : Wire) (tracks many : Tracks) (f g : Floorplan) (by reach : ℤ) (from to : List Shape) (short : ReachesNeighboursOnly kit wire reach)
-    (flat : HasDrawnShapes Flat plan kit bits wire tracks f by to) (h : HasDrawnShapes Flat other kit bits wire many g by from) (here : HasTopWires Met Out drop plan kit wire tracks f) (there : HasTopWires Met Out drop other kit wire many g) (own : IsOfWires wire (slice_index wire.metals 3))
+    (flat : HasDrawnShapes Flat plan kit bits wire tracks f by to) (h : HasDrawnShapes Flat other kit bits wire many g by from) (here : HasTopWires Met Out drop plan kit wire tracks f) (there : HasTopWires Met Out drop other kit wire many g) (own : IsWireLayer wire (slice_index wire.metals 3))
     (dx dy : ℤ) (z near : Zone) (moves : MovesNear reach other g near plan f kit bits dx dy) (kind : ZoneKind other kit wire many g h.drawn z) (d : ℤ) (box : Rect) (at : IsBoxAt wire reach z near d box) (covered : IsCoveredBy (slice_index wire.metals 3) from box) where
   abbrev metal : ℕ
   metal = slice_index wire.metals 3

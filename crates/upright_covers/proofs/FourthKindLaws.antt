@@ -16,7 +16,7 @@ use Rattle.macro_layout.specs.LayoutKit.{LayoutKit}
 use Rattle.macro_layout.specs.Places.{Floorplan, bank_x}
 use Rattle.macro_layout.specs.Floorplan.{Tracks}
 use Rattle.good_places.specs.Leaves.{Zone, zone_of, LiesNear}
-use Rattle.good_places.specs.Plain.{IsOfWires}
+use Rattle.leaf_shapes.specs.Outline.{IsWireLayer}
 use Rattle.good_wires.specs.Drawn.{IsDrawnMemory, IsDrawnWire}
 use Rattle.good_wires.specs.Kept.{HasDrawnShapes}
 use Rattle.good_wires.specs.Tops.{IsRailWireAt, IsTopBranch, IsOutputAt, HasTopWires}
@@ -42,7 +42,7 @@ pub under_pin : (y e : ℤ) (n : ℕ) → y ≡ e +ℤ pos n → e ≤ℤ y
 under_pin y e n is = omega (arith, ints, is)
 
 module _ (Met Out : Role → ℕ → Type 0) (drop : Role → ℕ) (Flat : List ℕ → Shape → Type 0) (other : Organization) (kit : LayoutKit) (bits : BitCells) (wire : Wire) (many : Tracks) (g : Floorplan) (by : ℤ) (from : List Shape) (h : HasDrawnShapes Flat other kit bits wire many g by from)
-    (there : HasTopWires Met Out drop other kit wire many g) (own : IsOfWires wire (slice_index wire.metals 3)) where
+    (there : HasTopWires Met Out drop other kit wire many g) (own : IsWireLayer wire (slice_index wire.metals 3)) where
   abbrev metal : ℕ
   metal = slice_index wire.metals 3
 

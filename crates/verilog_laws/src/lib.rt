@@ -4,6 +4,6 @@
 mod laws;
 
 pub use laws::{
-    commands_step, memories_agree, memories_answer, memories_are_legal, power_up_keeps,
-    texts_are_memories, texts_spell,
+    commands_step, memories_agree, memories_answer, memories_are_legal, memories_run,
+    power_up_keeps, texts_are_memories, texts_spell,
 };

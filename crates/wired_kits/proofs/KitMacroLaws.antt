@@ -1,6 +1,6 @@
 -- A drawn macro of a kit whose pins are right is stated by its leaf cells, and wired.
-use Rattle.std.proofs.Common.{◌≡◌, inl, inr, ℕ, ◌<◌, ℤ, List, None, length, refl, sym, subst, arith}
-use Rattle.std.specs.Prelude.{slice_index, IfSome, Option}
+use Rattle.std.proofs.Common.{◌≡◌, ℕ, ◌<◌, ℤ, List, None, length, refl, sym, subst, arith}
+use Rattle.std.specs.Prelude.{IfSome, Option}
 use Rattle.cell_roles.specs.declared.role.Role.{Role}
 use Rattle.cell_roles.specs.declared.role.Role.TheVariants.{Bitcell}
 use Rattle.cell_roles.specs.declared.leaf_role.LeafRole.TheVariants.{Common}
@@ -24,14 +24,12 @@ use Rattle.macro_cells.proofs.DemandLaws.{wire_there}
 use Rattle.macro_layout.specs.LayoutKit.{LayoutKit}
 use Rattle.macro_layout.specs.Pins.{main_nets, column_nets}
 use Rattle.macro_layout.specs.Channels.{Numbered, ArePins, MeetsMainTopOfBanks, MeetsMainBottom, MeetsColumnTop, MeetsColumnBottom, IsMainChannel, IsColumnChannel}
-use Rattle.good_places.specs.Plain.{IsOfWires}
-use Rattle.good_places.specs.Stated.{AreFirstWires}
 use Rattle.good_windows.proofs.PassLaws.{leaves_draw_inside}
 use Rattle.drawn_memories.specs.Drawn.{IsDrawnMacro}
-use Rattle.drawn_memories.proofs.LayerLaws.{are_first_wires}
+use Rattle.drawn_memories.proofs.LayerLaws.{are_first_layers}
 use Rattle.joined_nets.specs.Joints.{JoinsWires}
 use Rattle.joined_nets.proofs.WireNetLaws.{place_below}
-use Rattle.kit_nets.specs.DrawnChannels.{IsDrawnChannel, IsFirstLayer, AreFirstLayers}
+use Rattle.kit_nets.specs.DrawnChannels.{IsDrawnChannel}
 use Rattle.kit_nets.specs.KitLeaf.{KnownLeaf}
 use Rattle.kit_nets.specs.StatedParts.{Source, IsStatedBy}
 use Rattle.kit_nets.proofs.KitFacingLaws.{kit_role_pins}
@@ -47,14 +45,6 @@ use Rattle.wired_macros.proofs.CellNameLaws.{cells_differ}
 use Rattle.wired_kits.specs.KitMacros.{source_of_kit}
 use Rattle.wired_kits.proofs.DrawnChannelLaws.{route_drawn}
 use Rattle.wired_kits.proofs.LaidKitLaws.{laid_by_kit}
-
-pub first_layers : (kit : Kit) (is : IsKit kit) → AreFirstLayers kit.tech.layers is.wire
-first_layers kit is = record { metals = λ i lt. at (slice_index is.wire.metals i) (inl (first.metals i lt)); cuts = λ i lt. at (slice_index is.wire.cuts i) (inr (first.cuts i lt)) } where
-  first : AreFirstWires kit.tech.layers is.wire
-  first = are_first_wires kit is
-
-  at : (index : ℕ) → IsOfWires is.wire index → IsFirstLayer kit.tech.layers index
-  at index of = let there = first.there index of in record { layer = there.0; there = there.1; first = there.2 }
 
 -- a channel's pins are of its nets
 numbered_below : (nets : List Net) (Meets : Net → ℤ → Type 0) (pins : List ChannelPin) (count number : ℕ) (x : ℤ) → count ≡ length nets → ArePins pins (Numbered nets Meets) → IsPinOf pins number x → number < count
@@ -116,7 +106,7 @@ module _ (kit : Kit) (is : IsKit kit) (rights : HaveRightPins kit) where
         by = kit_stated;
         joins = kit_joins;
         sizes = m.drawn.laid.sizes;
-        first = first_layers kit is;
+        first = are_first_layers kit is;
         pins = kit_role_pins kit is kit_leaf plan lk (Alike (cell_in kit.tech.roles Bitcell)) m.tracks m.floorplan (laid_by_kit kit is);
         inside = m.drawn.pins;
         fits = m.drawn.laid.fits;
@@ -129,7 +119,6 @@ module _ (kit : Kit) (is : IsKit kit) (rights : HaveRightPins kit) where
       reach = m.reaches;
       memory = m.drawn;
       named = named_nets plan lk is.wire m.tracks m.floorplan m.drawn m.main_lowest m.column_lowest;
-      first = are_first_wires kit is;
     }
 
     -- and its leaf cells draw inside of their sides on layers of wires.

@@ -80,7 +80,7 @@ module _ (tech : Tech) (s : Source) (flat : FlatLists) (d : IsWiredMacro tech s 
   -- which is joined with the net's hub.
   pub anchored_joined : (net : Net) (anchor : Anchor) (u : Shape) → IsAnchored net anchor → Binds flat.shapes anchor u → AreOnOneNet tech.connects flat.shapes u (array_hub s (data_hub s outer) net)
   anchored_joined net anchor u a binds = elim ((stated_are_parts tech.connects s flat k.by).all u binds.listed) [
-    | inl leaf ↦ let clear = leaf_clear tech s flat d inside leaf.0 leaf.1 u leaf.2 (inl (subst (Contains s.wire.metals) (sym on) (d.first.metals a.metal a.few))) in beyond u.rect anchor.at binds.under.holds a.far clear.left clear.right
+    | inl leaf ↦ let clear = leaf_clear tech s flat d inside leaf.0 leaf.1 u leaf.2 (inl (subst (Contains s.wire.metals) (sym on) (d.laid.first.metals a.metal a.few))) in beyond u.rect anchor.at binds.under.holds a.far clear.left clear.right
     | inr wire ↦ elim (a.told wire.0 net u a.wire (as_drawn tech s flat d outer are wire.0 u wire.1) a.is on a.on) [
       | inl same ↦ subst (λ (n : Net). AreOnOneNet tech.connects flat.shapes u (array_hub s (data_hub s outer) n)) same (wire_joined tech s flat d outer are wire.0 u wire.1)
       | inr apart ↦ absurd (not_apart s.wire.space u.rect a.wire.rect anchor.at k.sizes.space.from binds.under.holds a.holds apart)

@@ -17,7 +17,7 @@ use Rattle.macro_layout.specs.Places.{IsPlaceOf, bank_x, columns_x, column_x, dr
 use Rattle.macro_layout.specs.Wires.{trunk_x}
 use Rattle.good_nets.specs.Parts.{IsShapeOf}
 use Rattle.good_places.specs.Leaves.{zone_of}
-use Rattle.good_places.specs.Plain.{IsOfWires}
+use Rattle.leaf_shapes.specs.Outline.{IsWireLayer}
 use Rattle.good_places.proofs.LaidLaws.{in_zone}
 use Rattle.good_places.proofs.NumberLaws.{banks_before, times_low}
 use Rattle.good_wires.proofs.ClearLaws.{zone_kind}
@@ -87,9 +87,9 @@ module _ (tech : Tech) (s : Source) (flat : FlatLists) (d : IsWiredMacro tech s 
     pub right : (u.rect.x2 +ℤ s.wire.space) ≤ℤ trunk_x s.plan s.kit s.wire s.floorplan
 
   -- A shape of a leaf instance.
-  pub leaf_clear : (i : Standing s) (inner u : Shape) → IsShapeOf tech.connects (stated_parts s) i inner u → IsOfWires s.wire u.layer → IsClear u
+  pub leaf_clear : (i : Standing s) (inner u : Shape) → IsShapeOf tech.connects (stated_parts s) i inner u → IsWireLayer s.wire u.layer → IsClear u
   leaf_clear i inner u is on =
-      let near = in_zone s.plan s.kit s.wire s.floorplan (pos 0) d.memory.laid i.leaf i.place inner u i.has i.stands (inside i.leaf inner i.has is.listed (subst (IsOfWires s.wire) is.moved.layer on)) is.moved in
+      let near = in_zone s.plan s.kit s.wire s.floorplan (pos 0) d.memory.laid i.leaf i.place inner u i.has i.stands (inside i.leaf inner i.has is.listed (subst (IsWireLayer s.wire) is.moved.layer on)) is.moved in
       let zone = zone_of s.plan s.kit s.floorplan i.leaf i.place in
       record { left = begins (pitch s.wire) zone.left u.rect.x1 (zone_left i.leaf i.place i.has i.stands) near.left; right = ends u.rect.x2 zone.right s.wire.space (trunk_x s.plan s.kit s.wire s.floorplan) (zone_right i.leaf i.place i.has i.stands) near.right }
     where

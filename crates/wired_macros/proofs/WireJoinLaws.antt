@@ -17,7 +17,7 @@ use Rattle.sram_netlist.specs.Nets.{Net}
 use Rattle.macro_layout.specs.Stated.{IsShifted}
 use Rattle.macro_layout.specs.Wires.{IsBar, trunk_x, ground_x}
 use Rattle.good_nets.proofs.NetLaws.{nets_on}
-use Rattle.good_places.specs.Plain.{IsOfWires}
+use Rattle.leaf_shapes.specs.Outline.{IsWireLayer}
 use Rattle.good_wires.specs.Held.{IsCutHeld}
 use Rattle.good_wires.proofs.LayerLaws.{cut_no_metal}
 use Rattle.joined_nets.specs.WireNets.{in_bank, IsBankWireOf, IsWireOfNet}
@@ -110,10 +110,10 @@ module _ (tech : Tech) (s : Source) (flat : FlatLists) (d : IsWiredMacro tech s 
 
   -- A wire of the stated layout is drawn so,
   pub as_drawn : (n : Net) (u : Shape) → (stated_parts s).Wire n u → IsWireOfNet s.plan s.kit s.wire s.tracks s.floorplan n u
-  as_drawn n u h = subst (IsWire n) (sym (one_shape u h.wire (d.first.first h.wire.layer u.layer h.layer (of_wires (held n h.wire h.drawn)) h.on h.first) h.rect)) h.drawn where
-    of_wires : ((j : ℕ) × (j < 3) × (h.wire.layer ≡ slice_index s.wire.cuts j) × IsCutHeld (IsWire n) s.wire j h.wire × IsCutHeld (IsWire n) s.wire (j + 1) h.wire) ⊎ ((i : ℕ) × (i < 4) × (h.wire.layer ≡ slice_index s.wire.metals i)) → IsOfWires s.wire h.wire.layer
-    of_wires (inl (j, lt, on, under, over)) = inr (subst (λ (l : ℕ). Contains s.wire.cuts l) (sym on) (d.first.cuts j lt))
-    of_wires (inr (i, lt, on)) = inl (subst (λ (l : ℕ). Contains s.wire.metals l) (sym on) (d.first.metals i lt))
+  as_drawn n u h = subst (IsWire n) (sym (one_shape u h.wire (d.laid.first.first h.wire.layer u.layer h.layer (of_wires (held n h.wire h.drawn)) h.on h.first) h.rect)) h.drawn where
+    of_wires : ((j : ℕ) × (j < 3) × (h.wire.layer ≡ slice_index s.wire.cuts j) × IsCutHeld (IsWire n) s.wire j h.wire × IsCutHeld (IsWire n) s.wire (j + 1) h.wire) ⊎ ((i : ℕ) × (i < 4) × (h.wire.layer ≡ slice_index s.wire.metals i)) → IsWireLayer s.wire h.wire.layer
+    of_wires (inl (j, lt, on, under, over)) = inr (subst (λ (l : ℕ). Contains s.wire.cuts l) (sym on) (d.laid.first.cuts j lt))
+    of_wires (inr (i, lt, on)) = inl (subst (λ (l : ℕ). Contains s.wire.metals l) (sym on) (d.laid.first.metals i lt))
 
   -- and joined with the hub of its net.
   pub wire_joined : (n : Net) (u : Shape) → (stated_parts s).Wire n u → AreOnOneNet tech.connects flat.shapes u (array_hub s (data_hub s outer) n)
