@@ -1,11 +1,20 @@
 """A folder in which a build is disturbed, and what the build may leave there. For the tools of this folder."""
 import subprocess
+import sys
 from pathlib import Path
 
 INPUTS = ["demo.toml", "demo_tech.toml", "demo_tech.gds", "demo_tech.sp"]
 VIEWS = ["demo.sp", "demo.gds", "demo.lef", "demo.v"]
 WORDS = ["build", "demo.toml", "1"]
 OLD = b"what was there before\n"
+
+
+def refuse_words(fits, words, usage):
+    """Ends with a line where the words of a call don't fit: how many they are, the program, or the numbers behind it."""
+    if not fits or not all(word.isdecimal() and int(word) > 0 for word in words[1:]):
+        sys.exit(f"usage: {usage}")
+    if not Path(words[0]).is_file():
+        sys.exit(f"{usage.split()[0]}: there is no program {words[0]}")
 
 
 def demonstration(program, folder):

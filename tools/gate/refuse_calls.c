@@ -52,12 +52,6 @@ int rename(const char *from, const char *to)
     return is_refused("rename") ? -1 : real(from, to);
 }
 
-int ftruncate(int fd, off_t size)
-{
-    int (*real)(int, off_t) = dlsym(RTLD_NEXT, "ftruncate");
-    return is_refused("ftruncate") ? -1 : real(fd, size);
-}
-
 ssize_t write(int fd, const void *bytes, size_t count)
 {
     ssize_t (*real)(int, const void *, size_t) = dlsym(RTLD_NEXT, "write");

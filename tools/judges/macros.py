@@ -5,7 +5,7 @@ import tomllib
 from dataclasses import dataclass
 from pathlib import Path
 
-from gdsii import BGNSTR, BOUNDARY, ENDEL, PROPATTR, record, records
+from gdsii import BGNSTR, BOUNDARY, ENDEL, PROPATTR, XY, record, records
 from programs import Differs, last_line, run
 
 # Beside the demonstration of 16 words of 2 bits: masks, and banks with masks and a column choice.
@@ -96,16 +96,31 @@ def build_config(program, folder, kit, name, config, spice=None):
 # ---------------------------------------------------------------------------------------------------------------------
 # GDSII by records.
 
+NARROW = ((-5001, 0), (-5001, 1000), (-5000, 1000), (-5000, 0), (-5001, 0))
 
-def without_shape(data):
-    """The layout without the first wire of its last structure, which is the macro."""
-    found = list(records(data))
+
+def first_wire(found):
+    """Where the first wire of the last structure, which is the macro, begins and ends among the records."""
     last = max(at for at, it in enumerate(found) if it.code == BGNSTR)
     begin = next((at for at in range(last, len(found)) if found[at].code == BOUNDARY), None)
     if begin is None:
         raise Differs("the last structure has no boundary")
-    end = next(at for at in range(begin, len(found)) if found[at].code == ENDEL)
+    return begin, next(at for at in range(begin, len(found)) if found[at].code == ENDEL)
+
+
+def without_shape(data):
+    """The layout without the macro's first wire."""
+    found = list(records(data))
+    begin, end = first_wire(found)
     return b"".join(it.spelled() for it in found[:begin] + found[end + 1 :])
+
+
+def narrow_shape(data):
+    """The layout with a box a nanometre wide, left of all that is drawn, in place of the macro's first wire."""
+    found = list(records(data))
+    begin, end = first_wire(found)
+    box = record(XY, struct.pack(">10i", *(number for point in NARROW for number in point)))
+    return b"".join(box if it.code == XY and begin < at < end else it.spelled() for at, it in enumerate(found))
 
 
 def with_property(data, number):
