@@ -95,36 +95,36 @@ M0 gnd a z gnd nfet W=1.6u L=0.4u
 M1 vdd a z vdd pfet W=3.2u L=0.4u
 .ENDS inv
 .SUBCKT dff d clk q vdd gnd
-M0 d ckb m1 gnd nfet W=1.2u L=0.4u
-M1 m1 ck2 m1n gnd nfet W=1.2u L=0.4u
-M2 m1n m2 gnd gnd nfet W=1.2u L=0.4u
-M3 gnd m1 m2 gnd nfet W=1.2u L=0.4u
-M4 m2 ck2 s1 gnd nfet W=1.2u L=0.4u
-M5 s1 ckb s1n gnd nfet W=1.2u L=0.4u
-M6 s1n q gnd gnd nfet W=1.2u L=0.4u
-M7 gnd s1 q gnd nfet W=1.2u L=0.4u
-M8 ckb clk gnd gnd nfet W=1.2u L=0.4u
-M9 gnd ckb ck2 gnd nfet W=1.2u L=0.4u
-M10 d clk m1 vdd pfet W=1.6u L=0.4u
-M11 m1 ckb m1p vdd pfet W=1.6u L=0.4u
-M12 m1p m2 vdd vdd pfet W=1.6u L=0.4u
-M13 vdd m1 m2 vdd pfet W=1.6u L=0.4u
-M14 m2 ckb s1 vdd pfet W=1.6u L=0.4u
-M15 s1 clk s1p vdd pfet W=1.6u L=0.4u
-M16 s1p q vdd vdd pfet W=1.6u L=0.4u
-M17 vdd s1 q vdd pfet W=1.6u L=0.4u
-M18 ckb clk vdd vdd pfet W=1.6u L=0.4u
+M0 ckb clk gnd gnd nfet W=1.2u L=0.4u
+M1 d ckb m1 gnd nfet W=1.2u L=0.4u
+M2 m1 ck2 m1n gnd nfet W=1.2u L=0.4u
+M3 m1n m2 gnd gnd nfet W=1.2u L=0.4u
+M4 gnd m1 m2 gnd nfet W=1.2u L=0.4u
+M5 ckb clk vdd vdd pfet W=1.6u L=0.4u
+M6 vdd m2 m1p vdd pfet W=1.6u L=0.4u
+M7 m1p ckb m1 vdd pfet W=1.6u L=0.4u
+M8 m1 ck2 d vdd pfet W=1.6u L=0.4u
+M9 vdd m1 m2 vdd pfet W=1.6u L=0.4u
+M10 q s1 gnd gnd nfet W=1.2u L=0.4u
+M11 gnd q s1n gnd nfet W=1.2u L=0.4u
+M12 s1n ckb s1 gnd nfet W=1.2u L=0.4u
+M13 s1 ck2 m2 gnd nfet W=1.2u L=0.4u
+M14 gnd ckb ck2 gnd nfet W=1.2u L=0.4u
+M15 q s1 vdd vdd pfet W=1.6u L=0.4u
+M16 m2 ckb s1 vdd pfet W=1.6u L=0.4u
+M17 s1 ck2 s1p vdd pfet W=1.6u L=0.4u
+M18 s1p q vdd vdd pfet W=1.6u L=0.4u
 M19 vdd ckb ck2 vdd pfet W=1.6u L=0.4u
 .ENDS dff
 .SUBCKT delay a z vdd gnd
 M0 i1 a gnd gnd nfet W=0.8u L=4.0u
 M1 gnd i1 i2 gnd nfet W=0.8u L=4.0u
-M2 i3 i2 gnd gnd nfet W=0.8u L=4.0u
-M3 gnd i3 z gnd nfet W=1.2u L=0.4u
-M4 i1 a vdd vdd pfet W=0.8u L=4.0u
-M5 vdd i1 i2 vdd pfet W=0.8u L=4.0u
-M6 i3 i2 vdd vdd pfet W=0.8u L=4.0u
-M7 vdd i3 z vdd pfet W=1.6u L=0.4u
+M2 i1 a vdd vdd pfet W=0.8u L=4.0u
+M3 vdd i1 i2 vdd pfet W=0.8u L=4.0u
+M4 z i3 gnd gnd nfet W=1.2u L=0.4u
+M5 gnd i2 i3 gnd nfet W=0.8u L=4.0u
+M6 z i3 vdd vdd pfet W=1.6u L=0.4u
+M7 vdd i2 i3 vdd pfet W=0.8u L=4.0u
 .ENDS delay
 .SUBCKT rom0 bl br wl vdd gnd
 M0 bl wl gnd gnd nfet W=1.6u L=0.4u

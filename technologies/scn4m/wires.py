@@ -113,6 +113,24 @@ def shortest(grid, starts, goals):
     return None
 
 
+def nodes_of(words):
+    """The nodes of a way that is told by its first layer and place, and then by how it goes on: up to an x or y, or on another layer, as in
+    `m1 3 38 x21 poly x25`."""
+    layers = {"poly": POLY, "m1": METAL1, "m2": METAL2, "m3": METAL3}
+    first, x, y, *rest = words.split()
+    nodes = [(layers[first], int(x), int(y))]
+    for word in rest:
+        if word in layers:
+            nodes.append((layers[word], *nodes[-1][1:]))
+            continue
+        axis, end = "xy".index(word[0]) + 1, int(word[1:])
+        while nodes[-1][axis] != end:
+            node = list(nodes[-1])
+            node[axis] += 1 if node[axis] < end else -1
+            nodes.append(tuple(node))
+    return nodes
+
+
 def shapes_of(way):
     """The boxes of a way by layer: one for each straight run, and those of the contacts."""
     shapes, start = {}, 0
