@@ -7,9 +7,11 @@ use std::alloc::Global;
 /// How many digits the name of the windows has.
 const DIGITS: usize = 23;
 
-/// The number that the digit writes after those of which the number is known. None where it is 2^64 or more, or the byte is no digit.
+/// The number that the digit writes after those of which the number is known. None where it is 2^64 or more, or the
+/// byte is no digit.
 fn number_with(before: u64, digit: u8) -> Option<u64>
-    ensures { MatchOption result ((n : ℕ) → n < 2 ^ 64 → AreDigitsAfter before (digit ∷ []) n → ⊥) (AreDigitsAfter before (digit ∷ [])) }
+    ensures { MatchOption result ((n : ℕ) → n < 2 ^ 64 → AreDigitsAfter before (digit ∷ []) n
+        → ⊥) (AreDigitsAfter before (digit ∷ [])) }
 {
     if digit < b'0' || b'9' < digit {
         return None;
@@ -17,9 +19,11 @@ fn number_with(before: u64, digit: u8) -> Option<u64>
     before.checked_mul(10)?.checked_add(u64::from(digit - b'0'))
 }
 
-/// The number that digits write after those of which the number is known. None where it is 2^64 or more, or one is no digit.
+/// The number that digits write after those of which the number is known. None where it is 2^64 or more, or one is no
+/// digit.
 fn number_after(before: u64, digits: &[u8]) -> Option<u64>
-    ensures is { MatchOption result ((n : ℕ) → n < 2 ^ 64 → AreDigitsAfter before digits.now n → ⊥) (AreDigitsAfter before digits.now) }
+    ensures is { MatchOption result ((n : ℕ) → n < 2 ^ 64 → AreDigitsAfter before digits.now n
+        → ⊥) (AreDigitsAfter before digits.now) }
     ensures small { IfSome result (λ n. n < 2 ^ 64) }
 {
     match digits.split_first() {

@@ -44,7 +44,8 @@ fn weak_wires(alloc: Global, kit: &Kit) -> Result<Option<Weak>, Memory>
 /// The role's pin of this index, whose labels don't name it rightly.
 fn weak_pin(alloc: Global, role: Role, pin: usize) -> Result<Weak, Memory>
     requires { pin < length (role_ports role) }
-    ensures { IfOk result (λ it. (name : List ℕ) → slice_get (role_ports role) pin ≡ Some name → it ≡ weak.Pin (role_name role) name) }
+    ensures { IfOk result (λ it. (name : List ℕ) → slice_get (role_ports role) pin ≡ Some name
+        → it ≡ weak.Pin (role_name role) name) }
 {
     Ok(Weak::Pin {
         role: Name::from_bytes(alloc, role.name().as_bytes())?,
@@ -65,7 +66,8 @@ fn weak_window<R: Threads + Sync, M: Maker + Sync>(
     requires leaves { AreLooseLeaves kit.now leaves.now }
     requires maker { IsGoodMaker (M.answers maker.now) kit.now }
     requires some { 0 < workers }
-    ensures { IfOk result (λ found. MatchOption found (AreWindowsGood (M.answers maker.now) kit.now) (IsWindowWeakness (M.answers maker.now) kit.now)) }
+    ensures { IfOk result (λ found. MatchOption found (AreWindowsGood (M.answers maker.now) kit.now)
+        (IsWindowWeakness (M.answers maker.now) kit.now)) }
 {
     let name = window_name(alloc, kit)?;
     let windows = windows(alloc)?;
@@ -89,9 +91,9 @@ fn weak_window<R: Threads + Sync, M: Maker + Sync>(
     }))
 }
 
-/// The first weakness of a kit, by 1 to 64 workers, on whose number the answer doesn't depend; None exactly where the kit is good.
-/// First come rules, then connections, the reach of leaf cells and the labels of their pins,
-/// and then 540 small macros, which the maker makes.
+/// The first weakness of a kit, by 1 to 64 workers, on whose number the answer doesn't depend; None exactly where the
+/// kit is good. First come rules, then connections, the reach of leaf cells and the labels of their pins, and then 540
+/// small macros, which the maker makes.
 ///
 /// `Memory`: an answer or a list could not be made.
 pub fn weakness<R: Threads + Sync, M: Maker + Sync>(

@@ -71,8 +71,8 @@ fn least_free(numbers: &[u64]) -> u64
     least
 }
 
-/// The name of the windows: `w` and 23 digits, the least such name with which no structure's and no subcircuit's name of the leaf
-/// cells begins, without regard to case.
+/// The name of the windows: `w` and 23 digits, the least such name with which no structure's and no subcircuit's name
+/// of the leaf cells begins, without regard to case.
 pub fn window_name(alloc: Global, kit: &Kit) -> Result<Name, Memory>
     ensures { IfOk result (IsWindowName kit.now) }
 {

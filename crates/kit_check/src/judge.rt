@@ -1,4 +1,5 @@
-ghost use Rattle.std.specs.Prelude.{◌≡◌, ◌↔◌, ◌≤◌, ◌<◌, ◌^◌, IfErr, IfOk, IsTrue, MatchBool, MatchOption, Contains, [], length};
+ghost use Rattle.std.specs.Prelude.{◌≡◌, ◌↔◌, ◌≤◌, ◌<◌, ◌^◌, IfErr, IfOk, IsTrue, MatchBool, MatchOption, Contains, []};
+ghost use Rattle.std.specs.Prelude.{length};
 ghost use Rattle.std.specs.List.Sorted.{IsStrictlySortedBy};
 ghost use Rattle.or_geom.specs.Reachable.{AreReachable};
 ghost use Rattle.or_geom.specs.ShapeOrder.{shape_order};
@@ -9,7 +10,8 @@ ghost use Rattle.leaf_tables.specs.Kits.{IsKit};
 ghost use Rattle.leaf_nets.specs.Leaves.{AreLooseLeaves};
 ghost use Rattle.tile_checker.specs.RuleReport.{IsReport};
 ghost use Rattle.kit_check.specs.Good.{HasWindowFault, IsWindowGood};
-ghost use Rattle.kit_check.specs.Judged.{DifferIn, HasViolations, IsFaultlessMacro, IsMacroFaultNumber, MatchIn, TouchesOutside};
+ghost use Rattle.kit_check.specs.Judged.{DifferIn, HasViolations, IsFaultlessMacro, IsMacroFaultNumber, MatchIn};
+ghost use Rattle.kit_check.specs.Judged.{TouchesOutside};
 ghost use Rattle.kit_check.specs.Makers.{HasFlatRows, IsGoodMacro};
 ghost use Rattle.kit_check.specs.Shares.{IsTrial};
 ghost use Rattle.kit_check.specs.Windows.{all_windows};
@@ -72,7 +74,8 @@ fn breaks_rule<'b, R: Threads + Sync>(
     requires rises { IsStrictlySortedBy shape_order flat.now.shapes.now }
     requires bins { bins.now ≡ flat.now.shapes.now }
     requires reach { AreReachable flat.now.shapes.now }
-    ensures { IfOk result (λ broken. MatchBool broken (HasViolations kit.now.tech.rules flat.now.shapes.now) (IsReport kit.now.tech.rules flat.now.shapes.now [])) }
+    ensures { IfOk result (λ broken. MatchBool broken (HasViolations kit.now.tech.rules flat.now.shapes.now)
+        (IsReport kit.now.tech.rules flat.now.shapes.now [])) }
 {
     let first = first_violation(rt, alloc, &OpenGate, &kit.tech, flat, bins, 1)?;
     Ok(first.is_some())
@@ -92,7 +95,8 @@ fn differs<'b, R: Threads + Sync>(
     requires bins { bins.now ≡ flat.now.shapes.now }
     requires few { length flat.now.labels.now ≤ 2 ^ 22 }
     requires rows { HasFlatRows kit.now name.now made.now }
-    ensures { IfOk result (λ found. MatchBool found (DifferIn kit.now name.now made.now (lists_of flat.now)) (MatchIn kit.now name.now made.now (lists_of flat.now))) }
+    ensures { IfOk result (λ found. MatchBool found (DifferIn kit.now name.now made.now (lists_of flat.now))
+        (MatchIn kit.now name.now made.now (lists_of flat.now))) }
 {
     let nets = extract(rt, alloc, &kit.tech, flat, bins)?;
     let rows = rows_of(alloc, kit, name, made)?;
@@ -140,7 +144,8 @@ fn flat_fault<'b, R: Threads + Sync>(
     requires reach { AreReachable flat.now.shapes.now }
     requires few { length flat.now.shapes.now ≤ 16777216 }
     requires few_labels { length flat.now.labels.now ≤ 2 ^ 22 }
-    ensures { IfOk result (λ found. MatchOption found (IsFaultlessMacro kit.now name.now lib.now deck.now) (IsMacroFaultNumber kit.now name.now lib.now deck.now)) }
+    ensures { IfOk result (λ found. MatchOption found (IsFaultlessMacro kit.now name.now lib.now deck.now)
+        (IsMacroFaultNumber kit.now name.now lib.now deck.now)) }
 {
     let bins = index(alloc, bump, flat)?;
     if breaks_rule(rt, alloc, kit, flat, &bins)? {
@@ -168,7 +173,8 @@ fn macro_fault<R: Threads + Sync>(
     requires kit { IsKit kit.now }
     requires made { IsGoodMacro kit.now name.now lib.now deck.now }
     requires leaves { AreLooseLeaves kit.now leaves.now }
-    ensures { IfOk result (λ found. MatchOption found (IsFaultlessMacro kit.now name.now lib.now deck.now) (IsMacroFaultNumber kit.now name.now lib.now deck.now)) }
+    ensures { IfOk result (λ found. MatchOption found (IsFaultlessMacro kit.now name.now lib.now deck.now)
+        (IsMacroFaultNumber kit.now name.now lib.now deck.now)) }
 {
     let bump = Bump::new(alloc);
     match flat_of(alloc, &bump, kit, name, lib) {
@@ -191,7 +197,9 @@ pub fn window_fault<R: Threads + Sync, M: Maker>(
 ) -> Result<Option<u32>, Memory>
     requires trial { IsTrial (M.answers trial.now.maker.now) trial.now.kit.now trial.now.leaves.now trial.now.name.now }
     requires window { Contains all_windows window.now }
-    ensures { IfOk result (λ found. MatchOption found (IsWindowGood (M.answers trial.now.maker.now) trial.now.kit.now trial.now.name.now window.now) (HasWindowFault (M.answers trial.now.maker.now) trial.now.kit.now trial.now.name.now window.now)) }
+    ensures { IfOk result (λ found. MatchOption found
+        (IsWindowGood (M.answers trial.now.maker.now) trial.now.kit.now trial.now.name.now window.now)
+        (HasWindowFault (M.answers trial.now.maker.now) trial.now.kit.now trial.now.name.now window.now)) }
 {
     let plan = plan_of(window);
     match trial.maker.make(alloc, trial.kit, &plan, trial.name) {

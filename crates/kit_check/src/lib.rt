@@ -1,7 +1,6 @@
 //! Whether a kit is good: its rules, connections and leaf cells, and 540 small macros of it.
 #![tactic(auto)]
 
-mod copies;
 mod digits;
 mod first;
 mod free_name;

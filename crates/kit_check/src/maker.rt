@@ -5,9 +5,9 @@ use or_geom::Name;
 use sram_plan::Plan;
 use std::alloc::Global;
 
-/// Makes the macro of a plan from the leaf cells of a kit: its library, whose structure of this name is the macro, and the
-/// subcircuits behind those of the leaf cells; or tells why a part can't be built. Contracts see what it answers, want of memory
-/// aside, as a relation, under which there is one answer.
+/// Makes the macro of a plan from the leaf cells of a kit: its library, whose structure of this name is the macro, and
+/// the subcircuits behind those of the leaf cells; or tells why a part can't be built. Contracts see what it answers,
+/// want of memory aside, as a relation, under which there is one answer.
 pub trait Maker {
     ghost use Rattle.std.specs.Prelude.{◌≡◌, ◌≢◌, ℕ, List, Result, Ok, Err, IfOk, IfErr, IsTrue};
     ghost use Rattle.gds_library.specs.declared.library.Library.{Library};
@@ -34,7 +34,9 @@ pub trait Maker {
         requires plan { ArePlanNumbers (numbers_of plan.now) }
         requires name { IsTrue (is_output_name name.now) }
         ensures made { IfOk result (λ made. answers self.now kit.now plan.now name.now (Ok made)) }
-        ensures fault { IfErr result (λ fault. fault ≢ part_fault.Memory → answers self.now kit.now plan.now name.now (Err fault)) };
+        ensures fault { IfErr result (λ fault. fault ≢ part_fault.Memory
+            → answers self.now kit.now plan.now name.now (Err fault)) };
 
-    ghost one: { (maker : Self) (kit : Kit) (plan : Plan) (name : List ℕ) (a b : Result (Library × Deck) PartFault) → IsKit kit → answers maker kit plan name a → answers maker kit plan name b → a ≡ b };
+    ghost one: { (maker : Self) (kit : Kit) (plan : Plan) (name : List ℕ) (a b : Result (Library × Deck) PartFault)
+        → IsKit kit → answers maker kit plan name a → answers maker kit plan name b → a ≡ b };
 }

@@ -30,7 +30,8 @@ fn dealt_fault<R: Threads + Sync, M: Maker>(
     requires windows { windows.now ≡ all_windows }
     requires inside { index < length windows.now }
     requires some { 0 < workers }
-    ensures { IfOk result (IsDealtFault workers worker (M.answers trial.now.maker.now) trial.now.kit.now trial.now.name.now index) }
+    ensures { IfOk result (IsDealtFault workers worker (M.answers trial.now.maker.now) trial.now.kit.now
+        trial.now.name.now index) }
 {
     if index % workers != worker {
         return Ok(None);
@@ -50,7 +51,8 @@ fn first_of_worker<R: Threads + Sync, M: Maker>(
     requires trial { IsTrial (M.answers trial.now.maker.now) trial.now.kit.now trial.now.leaves.now trial.now.name.now }
     requires windows { windows.now ≡ all_windows }
     requires some { 0 < workers }
-    ensures { IfOk result (FindsAmong (IsDealtTo workers worker) (M.answers trial.now.maker.now) trial.now.kit.now trial.now.name.now) }
+    ensures { IfOk result (FindsAmong (IsDealtTo workers worker) (M.answers trial.now.maker.now) trial.now.kit.now
+        trial.now.name.now) }
 {
     for index in 0..windows.len() {
         if let Some(fault) = dealt_fault(rt, alloc, trial, windows, index, worker, workers)? {
@@ -108,8 +110,10 @@ pub fn first_weak<R: Threads + Sync, M: Maker + Sync>(
         alloc,
         workers,
         &|worker: usize| -> Result<Option<Found>, Memory>
-            requires { (0 < workers) × (windows.now ≡ all_windows) × IsTrial (M.answers trial.now.maker.now) trial.now.kit.now trial.now.leaves.now trial.now.name.now }
-            ensures { IfOk result (FindsAmong (IsDealtTo workers worker) (M.answers trial.entry.now.maker.now) trial.entry.now.kit.now trial.entry.now.name.now) }
+            requires { (0 < workers) × (windows.now ≡ all_windows)
+                × IsTrial (M.answers trial.now.maker.now) trial.now.kit.now trial.now.leaves.now trial.now.name.now }
+            ensures { IfOk result (FindsAmong (IsDealtTo workers worker)
+                (M.answers trial.entry.now.maker.now) trial.entry.now.kit.now trial.entry.now.name.now) }
         { first_of_worker(rt, alloc, trial, windows, worker, workers) },
     )?;
     first_of_all(&found)

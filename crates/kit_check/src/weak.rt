@@ -11,8 +11,8 @@ pub enum Weak {
     Joint {
         connect: u32,
     },
-    /// A shape of a leaf cell passes its outline too far, or the reach, in nanometres, is more than the widths of cells and the
-    /// pitch of wires allow.
+    /// A shape of a leaf cell passes its outline too far, or the reach, in nanometres, is more than the widths of cells
+    /// and the pitch of wires allow.
     Reach {
         reach: i64,
     },

@@ -1,5 +1,6 @@
 ghost use Rattle.std.specs.Prelude.{◌≡◌, ◌++◌, ◌<◌, IfOk, OnOk, Contains, Some, length, slice_get};
-ghost use Rattle.kit_check.specs.Windows.{all_windows, bits_of_count, bits_of_rows, plan_of, windows_of_rows, windows_of_size, windows_of_words};
+ghost use Rattle.kit_check.specs.Windows.{all_windows, bits_of_count, bits_of_rows, plan_of, windows_of_rows};
+ghost use Rattle.kit_check.specs.Windows.{windows_of_size, windows_of_words};
 ghost use Rattle.sram_plan.specs.Plan.{row_groups};
 
 use or_geom::Memory;

@@ -1,6 +1,6 @@
 mod NearLaws
-mod NetlistLaws
-mod LayoutLaws
-mod AnswerLaws
-mod CountLaws
+pub mod NetlistLaws
+pub mod LayoutLaws
+pub mod AnswerLaws
+pub mod CountLaws
 mod CheckLaws

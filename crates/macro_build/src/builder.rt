@@ -20,12 +20,12 @@ use std::alloc::Global;
 use std::thread::Threads;
 use tile_checker::Gate;
 
-/// Builds the macro of this name from leaf cells, checks it by as many workers, and writes its views. Its bits are stored, or
-/// those of fixed words. What is refused is refused in this order: a part that can't be built; a macro without flat layout; a
-/// broken rule; labels that are joined otherwise than the netlist says. `Memory` may come in place of each. What the views say to
-/// whoever reads them is part of `IsBuilt`: the netlist has the rows of the reference netlist, which answers as an array of words
-/// or with the fixed ones, as the Verilog does, and the layout is, flat, the stated one, breaks no rule and is joined as that netlist
-/// says.
+/// Builds the macro of this name from leaf cells, checks it by as many workers, and writes its views. Its bits are
+/// stored, or those of fixed words. What is refused is refused in this order: a part that can't be built; a macro
+/// without flat layout; a broken rule; labels that are joined otherwise than the netlist says. `Memory` may come in
+/// place of each. What the views say to whoever reads them is part of `IsBuilt`: the netlist has the rows of the
+/// reference netlist, which answers as an array of words or with the fixed ones, as the Verilog does, and the layout
+/// is, flat, the stated one, breaks no rule and is joined as that netlist says.
 pub fn build<R: Threads + Sync, G: Gate + Sync>(
     rt: &R,
     alloc: Global,

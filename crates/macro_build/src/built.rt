@@ -4,8 +4,8 @@ use net_extractor::NetDiff;
 use or_geom::Memory;
 use tile_checker::Violation;
 
-/// The four views of a macro, and what is told of it: the tracks of its main channel, its leaf instances, and its sides in
-/// nanometres.
+/// The four views of a macro, and what is told of it: the tracks of its main channel, its leaf instances, and its sides
+/// in nanometres.
 #[derive(Drop)]
 pub struct Built {
     pub spice: Vec<u8>,

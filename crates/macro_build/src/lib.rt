@@ -1,9 +1,9 @@
-//! Builds a macro: assembles it, checks its layout against the rules and its nets against the netlist, and makes its views.
+//! Builds a macro: assembles it, checks its layout against the rules and its nets against the netlist, and makes its
+//! views.
 #![tactic(auto)]
 
 mod builder;
 mod built;
-mod copies;
 mod counts;
 mod rows;
 mod sound;

@@ -39,7 +39,8 @@ fn flat_of<'b>(
 ) -> Result<Flat<'b>, BuildFault>
     requires kit { IsKit kit.now }
     requires made { IsMacro kit.now _plan.now (held_of _contents) name.now made.now }
-    ensures flat { IfOk result (λ flat. AreFlatLists kit.now.tech.layers made.now.lib.structs name.now (lists_of flat)) }
+    ensures flat { IfOk result (λ flat. AreFlatLists kit.now.tech.layers made.now.lib.structs name.now
+        (lists_of flat)) }
     ensures rises { IfOk result (λ flat. IsStrictlySortedBy shape_order flat.shapes.now) }
     ensures reach { IfOk result (λ flat. AreReachable flat.shapes.now) }
     ensures few { IfOk result (λ flat. length flat.shapes.now ≤ 16777216) }

@@ -11,7 +11,8 @@ ghost use Rattle.sram_macro.specs.Macro.{IsMacro};
 ghost use Rattle.macro_build.specs.Built.{IsBuilt, IsSoundMacro};
 ghost use Rattle.macro_build.specs.Memory.{AnswersFrom, FitsPlan};
 ghost use Rattle.macro_build.specs.Verilog.{SpellsHeld, verilog_of};
-ghost use Rattle.macro_build.specs.Written.{IsReadInLowerCase, IsReferenceNetlist, SpellCoveredLayout, SpellSoundLayout};
+ghost use Rattle.macro_build.specs.Written.{IsReadInLowerCase, IsReferenceNetlist, SpellCoveredLayout};
+ghost use Rattle.macro_build.specs.Written.{SpellSoundLayout};
 
 use crate::built::Built;
 use crate::counts::leaf_count;
@@ -105,8 +106,10 @@ fn spice_text(
     requires name { IsTrue (is_output_name name.now) }
     requires made { IsMacro kit.now plan.now (held_of contents) name.now made.now }
     ensures text { IfOk result (λ text. text.items ≡ appended kit.now.deck kit.now.text made.now.deck.subckts) }
-    ensures read { IfOk result (λ text. IsReadInLowerCase kit.now plan.now (held_of contents.entry) name.now text.items) }
-    ensures netlist { IfOk result (λ text. IsReferenceNetlist kit.now plan.now (held_of contents.entry) name.now text.items) }
+    ensures read { IfOk result (λ text. IsReadInLowerCase kit.now plan.now
+        (held_of contents.entry) name.now text.items) }
+    ensures netlist { IfOk result (λ text. IsReferenceNetlist kit.now plan.now
+        (held_of contents.entry) name.now text.items) }
 {
     // So do these: that the subcircuits are read back, and that they are the reference netlist.
     cells_are_names();
@@ -129,12 +132,13 @@ fn gds_bytes(
     requires held { IsHeld _kit.now _plan.now (held_of _contents) }
     requires sound { IsSoundMacro _kit.now _plan.now (held_of _contents) _name.now made.now }
     ensures bytes { IfOk result (λ bytes. bytes.items ≡ canonical made.now.lib) }
-    ensures layout { IfOk result (λ bytes. SpellSoundLayout _kit.now _plan.now (held_of _contents.entry) _name.now bytes.items) }
+    ensures layout { IfOk result (λ bytes. SpellSoundLayout _kit.now _plan.now
+        (held_of _contents.entry) _name.now bytes.items) }
     ensures covered { IfOk result (λ bytes. SpellCoveredLayout _kit.now _name.now made.now.view bytes.items) }
 {
-    // These calls do nothing when the program runs: their contracts are the laws that what is written is flat as what was
-    // checked, that this is the stated layout, which the boxes of the LEF cover, and that its rows are those of the reference
-    // netlist.
+    // These calls do nothing when the program runs: their contracts are the laws that what is written is flat as what
+    // was checked, that this is the stated layout, which the boxes of the LEF cover, and that its rows are those of the
+    // reference netlist.
     writing_keeps_flat();
     macros_are_stated();
     lef_covers_layout();

@@ -39,6 +39,17 @@ pub fn fixed_cell_of(roles: &[RoleName], bit: bool) -> &[u8]
     named_cell(roles, LeafRole::Fixed(bit).name().as_bytes())
 }
 
+/// The names of the cells of these roles.
+pub fn cell_names(alloc: Global, names: &[RoleName], roles: &[Role]) -> Result<Vec<Name>, Memory>
+    ensures { IfOk result (λ cells. cells.items ≡ map (cell_in names.now) roles.now) }
+{
+    let mut cells = Vec::new(alloc);
+    for role in roles {
+        cells.push(Name::from_bytes(alloc, cell_of(names, *role))?)?;
+    }
+    Ok(cells)
+}
+
 /// An instance of a role's cell: its nodes, and behind them the supplies.
 pub fn leaf_instance(
     alloc: Global,
@@ -47,7 +58,8 @@ pub fn leaf_instance(
     name: Spelling,
     nodes: &[Spelling],
 ) -> Result<Instance, Memory>
-    ensures { IfOk result (λ i. i ≡ subckt_instance (spelled name) (map spelled nodes.now ++ supplies) (cell_in roles.now role)) }
+    ensures { IfOk result (λ i. i ≡ subckt_instance (spelled name) (map spelled nodes.now ++ supplies)
+        (cell_in roles.now role)) }
 {
     cell_instance(alloc, cell_of(roles, role), name, nodes)
 }

@@ -26,7 +26,8 @@ pub enum Contents<'a> {
 /// How many of a bank's rows are told apart.
 pub fn row_kinds(plan: &Plan, contents: Contents<'_>) -> u32
     requires { ArePlanNumbers (numbers_of plan.now) }
-    ensures { (roles : List RoleName) → result ≡ row_kinds (bit_cells roles (organization plan.now) contents.entry) (bank_rows (organization plan.now)) }
+    ensures { (roles : List RoleName) → result ≡ row_kinds (bit_cells roles (organization plan.now) contents.entry)
+        (bank_rows (organization plan.now)) }
 {
     match contents {
         Contents::Stored => 1,
@@ -42,7 +43,8 @@ pub fn row_name(
     name: &Name,
     row: u32,
 ) -> Result<Name, Memory>
-    ensures { IfOk result (λ made. (roles : List RoleName) → made ≡ row_name (bit_cells roles (organization plan.now) contents.entry) name.now row) }
+    ensures { IfOk result (λ made. (roles : List RoleName)
+        → made ≡ row_name (bit_cells roles (organization plan.now) contents.entry) name.now row) }
 {
     match contents {
         Contents::Stored => part_name(alloc, name, b"_row"),

@@ -7,7 +7,9 @@ mod names;
 mod numbers;
 mod ports;
 
-pub use cell::{cell_instance, cell_of, fixed_cell_of, leaf_instance, part_name, subckt_of};
+pub use cell::{
+    cell_instance, cell_names, cell_of, fixed_cell_of, leaf_instance, part_name, subckt_of,
+};
 pub use contents::{Contents, bit_cell, row_kinds, row_name};
 pub use names::{NameList, Spelling, spell};
 pub use numbers::{enables_of, groups_of, lines_of};

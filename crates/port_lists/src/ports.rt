@@ -5,7 +5,9 @@ ghost use Rattle.sram_netlist.specs.InstanceList.{tabulate, tabulate_lists};
 ghost use Rattle.sram_netlist.specs.Numbers.{ArePlanNumbers};
 ghost use Rattle.port_lists.specs.Spelled.{spelled};
 ghost use Rattle.sram_plan.specs.PlanNumbers.{numbers_of, organization};
-ghost use Rattle.sram_deck.specs.Deck.{row_inputs, predecode_lines_from, row_lines_from, column_bit_lines, all_bit_lines, column_choices, write_enables, macro_inputs, bank_enables, bank_control_names, wlen_name, sen_name};
+ghost use Rattle.sram_deck.specs.Deck.{row_inputs, predecode_lines_from, row_lines_from, column_bit_lines};
+ghost use Rattle.sram_deck.specs.Deck.{all_bit_lines, column_choices, write_enables, macro_inputs, bank_enables};
+ghost use Rattle.sram_deck.specs.Deck.{bank_control_names, wlen_name, sen_name};
 
 use crate::names::{NameList, Spelling};
 use crate::numbers::{enables_of, lines_of};
@@ -105,7 +107,8 @@ impl NameList {
 
     /// A name where something is written.
     fn add_where_written(&mut self, plan: &Plan, word: &'static [u8]) -> Result<(), Memory>
-        ensures { OnOk result (self.new ≡ self.old ++ tabulate (written_bits plan.now.write_size 1) (λ number. word.now)) }
+        ensures { OnOk result (self.new ≡ self.old ++ tabulate (written_bits plan.now.write_size 1)
+            (λ number. word.now)) }
     {
         if plan.write_size == 0 {
             return Ok(());
@@ -116,7 +119,8 @@ impl NameList {
     /// The signals that go into the macro: clock, select, write, the mask bits, the address and the data.
     pub fn add_macro_inputs(&mut self, plan: &Plan) -> Result<(), Memory>
         requires { ArePlanNumbers (numbers_of plan.now) }
-        ensures { OnOk result ((more : List (List ℕ)) → self.new ++ more ≡ self.old ++ macro_inputs (organization plan.now) more) }
+        ensures { OnOk result ((more : List (List ℕ))
+            → self.new ++ more ≡ self.old ++ macro_inputs (organization plan.now) more) }
     {
         self.add_all(&[Spelling::Word(b"clk0"), Spelling::Word(b"csb0")])?;
         self.add_where_written(plan, b"web0")?;
@@ -150,7 +154,8 @@ impl NameList {
     /// Those of all banks.
     pub fn add_all_bank_controls(&mut self, plan: &Plan) -> Result<(), Memory>
         requires { ArePlanNumbers (numbers_of plan.now) }
-        ensures { OnOk result (self.new ≡ self.old ++ tabulate_lists (banks_of (organization plan.now)) (bank_control_names (organization plan.now))) }
+        ensures { OnOk result (self.new ≡ self.old ++ tabulate_lists (banks_of (organization plan.now))
+            (bank_control_names (organization plan.now))) }
     {
         for bank in 0..plan.banks {
             self.add_bank_controls(plan, bank)?;

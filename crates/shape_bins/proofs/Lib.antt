@@ -7,3 +7,4 @@ pub mod CoverLaws
 pub mod NumberLaws
 pub mod FullLaws
 pub mod FilledLaws
+pub mod RunLaws

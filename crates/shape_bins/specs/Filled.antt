@@ -38,6 +38,10 @@ pub record IsJoint (a b joint : Filled) : Type 0 where
 abbrev pub IsFilledBy : List Shape → Filled → Type 0
 IsFilledBy shapes f = IsFilledBox shapes f.shape
 
+-- boxes were added that the shapes fill, if they fill all of these
+abbrev pub AddsBoxes : List Filled → List Shape → List Shape → Type 0
+AddsBoxes filled old new = (shapes : List Shape) → All (IsFilledBy shapes) filled → AreFilledBoxes shapes old → AreFilledBoxes shapes new
+
 -- a box was added, perhaps joined with another: what the shapes fill stays filled
 pub record AddsFilled (filled : Filled) (old new : List Filled) : Type 0 where
   pub few : length new ≤ length old + 1

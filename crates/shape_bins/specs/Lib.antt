@@ -11,3 +11,4 @@ pub mod Over
 pub mod Numbers
 pub mod Full
 pub mod Filled
+pub mod Runs

@@ -61,7 +61,8 @@ impl<'b> Bins<'b> {
 
     /// The least place, at least `from`, of a shape of the layer whose closed box meets the area.
     pub fn near(&self, layer: u16, area: Rect, from: usize) -> Option<usize>
-        ensures { MatchOption result (NoHitFrom self.now layer (Meets area) from) (IsFirstHit self.now layer (Meets area) from) }
+        ensures { MatchOption result (NoHitFrom self.now layer (Meets area) from)
+            (IsFirstHit self.now layer (Meets area) from) }
     {
         least_near(self.nodes, layer, Query::Meets(area), from)
     }
@@ -75,20 +76,22 @@ impl<'b> Bins<'b> {
 
     /// The place of one of the layer's shapes that share area with the area.
     pub fn some_over(&self, layer: u16, area: Rect) -> Option<usize>
-        ensures { MatchOption result (NoHitFrom self.now layer (Overlaps area) 0) (IsHit self.now layer (Overlaps area)) }
+        ensures { MatchOption result (NoHitFrom self.now layer (Overlaps area) 0)
+            (IsHit self.now layer (Overlaps area)) }
     {
         some_near(self.nodes, layer, Query::Overlaps(area))
     }
 
     /// One of the layer's rectangles that hold the unit cell with this lower left corner.
     pub fn rect_at(&self, layer: u16, cell: Point) -> Option<Rect>
-        ensures { MatchOption result (HasCellInSome (rects_on layer self.now) cell.x cell.y → ⊥) (IsFound (rects_on layer self.now) cell) }
+        ensures { MatchOption result (HasCellInSome (rects_on layer self.now) cell.x cell.y
+            → ⊥) (IsFound (rects_on layer self.now) cell) }
     {
         rect_at(self.shapes, self.nodes, layer, cell)
     }
 
-    /// A box that the layer covers and that holds the unit cell with this lower left corner. None says nothing: only boxes
-    /// are known that many shapes fill together.
+    /// A box that the layer covers and that holds the unit cell with this lower left corner. None says nothing: only
+    /// boxes are known that many shapes fill together.
     pub fn filled_at(&self, layer: u16, cell: Point) -> Option<Rect>
         ensures { IfSome result (IsFound (rects_on layer self.now) cell) }
     {

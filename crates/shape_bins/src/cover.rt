@@ -38,7 +38,8 @@ fn is_over(node: Node, layer: u16, cell: Point) -> bool
 /// One of the layer's shapes that hold the cell.
 pub fn rect_at(_shapes: &[Shape], nodes: &[Node], layer: u16, cell: Point) -> Option<Rect>
     requires { IsForest _shapes.now nodes.now }
-    ensures { MatchOption result (HasCellInSome (rects_on layer _shapes.now) cell.x cell.y → ⊥) (IsFound (rects_on layer _shapes.now) cell) }
+    ensures { MatchOption result (HasCellInSome (rects_on layer _shapes.now) cell.x cell.y
+        → ⊥) (IsFound (rects_on layer _shapes.now) cell) }
 {
     let mut rest = nodes;
     while let Some((node, below)) = rest.split_first() {
@@ -56,7 +57,8 @@ pub fn rect_at(_shapes: &[Shape], nodes: &[Node], layer: u16, cell: Point) -> Op
 
 /// A rectangle that the layer covers and that holds the cell: a filled box where one is known, which reaches far.
 fn covered_at(bins: &Bins, layer: u16, cell: Point) -> Option<Rect>
-    ensures { MatchOption result (HasCellInSome (rects_on layer bins.now) cell.x cell.y → ⊥) (IsFound (rects_on layer bins.now) cell) }
+    ensures { MatchOption result (HasCellInSome (rects_on layer bins.now) cell.x cell.y
+        → ⊥) (IsFound (rects_on layer bins.now) cell) }
 {
     if let Some(rect) = bins.filled_at(layer, cell) {
         return Some(rect);
@@ -67,7 +69,8 @@ fn covered_at(bins: &Bins, layer: u16, cell: Point) -> Option<Rect>
 /// Whether the area's row of cells at `row` is covered, and then up to which row all above it are too.
 fn covered_rows(bins: &Bins, layer: u16, area: Rect, row: Point) -> Option<Point>
     requires { IsRowOf area row }
-    ensures { MatchOption result (IsCovered area (rects_on layer bins.now) → ⊥) (AreRowsTo (rects_on layer bins.now) area row) }
+    ensures { MatchOption result (IsCovered area (rects_on layer bins.now)
+        → ⊥) (AreRowsTo (rects_on layer bins.now) area row) }
 {
     // The upper right corner of what is known to be covered, whose lower left corner is `row`.
     let mut corner = Point {

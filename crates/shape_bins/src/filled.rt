@@ -1,7 +1,9 @@
 ghost use Rattle.std.specs.Prelude.{◌↔◌, ◌≤◌, [], ◌∷◌, length, IsTrue, IfOk, IfSome, OnOk};
 ghost use Rattle.or_geom.specs.Covered.{IsCovered};
-ghost use Rattle.shape_bins.specs.Filled.{AreFilledBoxes, AreStacked, AreBeside, IsJoint, AddsFilled, AreJoinedFrom, AreJoinedOf};
+ghost use Rattle.shape_bins.specs.Filled.{AreFilledBoxes, AreStacked, AreBeside, IsJoint, AddsFilled, AddsBoxes};
+ghost use Rattle.shape_bins.specs.Filled.{AreJoinedFrom, AreJoinedOf};
 
+use crate::runs::runs_of;
 use bumpalo::Bump;
 use or_geom::{Memory, Rect, Shape, around};
 use std::alloc::Global;
@@ -68,7 +70,7 @@ fn joint(a: Rect, b: Rect) -> Option<Rect>
 }
 
 /// The box that two boxes of one layer fill together.
-fn both(a: Filled, b: Filled) -> Option<Filled>
+pub fn both(a: Filled, b: Filled) -> Option<Filled>
     ensures { IfSome result (IsJoint a b) }
 {
     if a.shape.layer != b.shape.layer {
@@ -128,8 +130,9 @@ fn joined(alloc: Global, boxes: &[Filled]) -> Result<Vec<Filled>, Memory>
     Ok(out)
 }
 
-/// Boxes that the shapes fill: columns of shapes, rows of these, and columns of rows. The shapes come in order. Not all such
-/// boxes are found: only neighbours in these two orders are joined, and most shapes that are joined with none are dropped.
+/// Boxes that the shapes fill: columns of shapes, rows of these, and columns of rows. The shapes come in order. Not all
+/// such boxes are found: only neighbours in these two orders are joined, and most shapes that are joined with none are
+/// dropped.
 fn all_filled(alloc: Global, shapes: &[Shape]) -> Result<Vec<Filled>, Memory>
     ensures { IfOk result (λ out. AreJoinedFrom shapes.now out.items) }
 {
@@ -150,6 +153,24 @@ fn all_filled(alloc: Global, shapes: &[Shape]) -> Result<Vec<Filled>, Memory>
     joined(alloc, &rows)
 }
 
+/// Adds the boxes that many shapes fill, at most so many in all.
+fn add_many(filled: &[Filled], most: usize, boxes: &mut Vec<Shape, &Bump>) -> Result<(), Memory>
+    requires { length boxes.old.items ≤ most }
+    ensures few { OnOk result (length boxes.new.items ≤ most) }
+    ensures filled { OnOk result (AddsBoxes filled.now boxes.old.items boxes.new.items) }
+{
+    for one in filled {
+        if one.count < MANY {
+            continue;
+        }
+        if boxes.len() == most {
+            break;
+        }
+        boxes.push(one.shape)?;
+    }
+    Ok(())
+}
+
 /// Boxes that many shapes fill together, layer by layer, in the arena.
 pub fn filled_boxes<'b>(
     alloc: Global,
@@ -159,13 +180,10 @@ pub fn filled_boxes<'b>(
     ensures few { IfOk result (λ boxes. length boxes.items ≤ length shapes.now) }
     ensures filled { IfOk result (λ boxes. AreFilledBoxes shapes.now boxes.items) }
 {
-    let all = all_filled(alloc, shapes)?;
+    let blocks = all_filled(alloc, shapes)?;
+    let runs = runs_of(alloc, shapes)?;
     let mut boxes = Vec::new(bump);
-    for filled in &all {
-        if filled.count < MANY {
-            continue;
-        }
-        boxes.push(filled.shape)?;
-    }
+    add_many(&blocks, shapes.len(), &mut boxes)?;
+    add_many(&runs, shapes.len(), &mut boxes)?;
     Ok(boxes)
 }

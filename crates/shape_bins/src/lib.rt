@@ -10,6 +10,7 @@ mod numbering;
 mod numbers;
 mod order;
 mod query;
+mod runs;
 mod tree;
 mod walk;
 

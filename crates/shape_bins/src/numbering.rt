@@ -51,8 +51,8 @@ fn is_full(_given: &[Option<u32>], nodes: &[Node], full: &[bool], at: usize) -> 
     true
 }
 
-/// Looks at a node, and gives the number to its shape if it is a leaf that is looked for. Answers the next node to look at:
-/// that behind all below this one, where none of them can be looked for or all have numbers.
+/// Looks at a node, and gives the number to its shape if it is a leaf that is looked for. Answers the next node to look
+/// at: that behind all below this one, where none of them can be looked for or all have numbers.
 fn step(
     nodes: &[Node],
     at: usize,
@@ -69,7 +69,8 @@ fn step(
     requires leaves { AreLeavesWithin nodes.now (length given.old) }
     requires full { AreFull nodes.now given.old full.old }
     ensures full { AreFull nodes.now given.new full.new }
-    ensures gives { IfOk result (λ next. IsStep nodes.now layer query number at next given.old given.new out.old.items out.new.items) }
+    ensures gives { IfOk result (λ next. IsStep nodes.now layer query number at next given.old given.new out.old.items
+        out.new.items) }
 {
     let node = nodes[at];
     let behind = at + node.size;
@@ -102,7 +103,8 @@ pub fn give_all(
     requires leaves { AreLeavesWithin nodes.now (length given.old) }
     requires full { AreFull nodes.now given.old full.old }
     ensures full { AreFull nodes.now given.new full.new }
-    ensures gives { OnOk result (GivesAll (SomeGives (IsLeafNear layer query) nodes.now) number given.old given.new out.old.items out.new.items) }
+    ensures gives { OnOk result (GivesAll (SomeGives (IsLeafNear layer query) nodes.now) number given.old given.new
+        out.old.items out.new.items) }
 {
     let mut at = 0;
     let end = nodes.len();

@@ -10,8 +10,8 @@ use or_geom::{Memory, Shape};
 use std::alloc::Global;
 use std::marker::Model;
 
-/// Numbers for the shapes of bins, as of the nets that they are on. Which parts of the trees have no shape without a number
-/// is remembered, so that a shape with a number is hardly looked at again.
+/// Numbers for the shapes of bins, as of the nets that they are on. Which parts of the trees have no shape without a
+/// number is remembered, so that a shape with a number is hardly looked at again.
 #[derive(Drop)]
 pub struct ShapeNumbers<'b> {
     shapes: &'b [Shape],
@@ -63,7 +63,8 @@ impl<'b> ShapeNumbers<'b> {
         self.given[place] = Some(number);
     }
 
-    /// Gives the number to all shapes of the layer that are looked for and have none, and adds their places to the list.
+    /// Gives the number to all shapes of the layer that are looked for and have none, and adds their places to the
+    /// list.
     pub fn give(
         &mut self,
         layer: u16,
@@ -72,7 +73,8 @@ impl<'b> ShapeNumbers<'b> {
         out: &mut Vec<usize>,
     ) -> Result<(), Memory>
         ensures shapes { self.new.shapes ≡ self.old.shapes }
-        ensures gives { OnOk result (GivesAll (IsHit self.old.shapes layer query) number self.old.given self.new.given out.old.items out.new.items) }
+        ensures gives { OnOk result (GivesAll (IsHit self.old.shapes layer query) number self.old.given self.new.given
+            out.old.items out.new.items) }
     {
         give_all(
             self.nodes,

@@ -36,8 +36,8 @@ fn powers(more: u64, less: u64, count: u64) -> u32
     31
 }
 
-/// A scale by which most of the shapes are about as wide as tall, so that many long wires come one after another as they
-/// lie beside each other.
+/// A scale by which most of the shapes are about as wide as tall, so that many long wires come one after another as
+/// they lie beside each other.
 fn scale_of(shapes: &[Shape]) -> Scale {
     let mut across: u64 = 0;
     let mut upward: u64 = 0;
@@ -58,8 +58,8 @@ fn from_zero(low: i64, high: i64) -> u64 {
     (twice >> 1) & 0xffff_ffff
 }
 
-/// A step along Hilbert's curve: in which quarter of a square the point lies, by the order in which the curve goes through
-/// them, and the point as the curve within that quarter sees it.
+/// A step along Hilbert's curve: in which quarter of a square the point lies, by the order in which the curve goes
+/// through them, and the point as the curve within that quarter sees it.
 fn quarter_of(x: u64, y: u64, bit: u32) -> (u64, u64, u64)
     requires { bit < 32 }
 {
@@ -73,7 +73,8 @@ fn quarter_of(x: u64, y: u64, bit: u32) -> (u64, u64, u64)
     }
 }
 
-/// Where the middle of the rectangle stands on Hilbert's curve, which fills the plane: what stands near on the curve lies near.
+/// Where the middle of the rectangle stands on Hilbert's curve, which fills the plane: what stands near on the curve
+/// lies near.
 fn curve_of(rect: Rect, scale: Scale) -> u64 {
     let mut x = from_zero(rect.x1, rect.x2) >> scale.across;
     let mut y = from_zero(rect.y1, rect.y2) >> scale.upward;
@@ -127,7 +128,8 @@ pub fn order_of(
     requires order { begin ≤ end }
     requires within { end ≤ length shapes.now }
     ensures len { IfOk result (λ places. length places.items ≡ end - begin) }
-    ensures each { IfOk result (λ places. (place : ℕ) → Contains places.items place ↔ ((begin ≤ place) × (place < end))) }
+    ensures each { IfOk result (λ places. (place : ℕ) → Contains places.items place
+        ↔ ((begin ≤ place) × (place < end))) }
 {
     let scale = scale_of(&shapes[begin..end]);
     let mut keys = keys_of(alloc, shapes, begin, end, scale)?;
