@@ -32,7 +32,7 @@ shape_on leaf name layer = option_and_then (λ (l : Leaf). option_map (λ (pin :
 abbrev pub pin_shape : Kit → Role → ℕ → ℕ → Option Rect
 pin_shape kit role port metal = option_and_then (λ (name : List ℕ). option_and_then (shape_on (leaf_in kit.leaves role) name) (layer_of_metal kit.tech.wire metal)) (port_name role port)
 
--- what stands for a pin that the kit hasn't; that no layout asks for one is not proved
+-- what stands for a pin that the kit hasn't; it is in no layout (asked_pins)
 abbrev pub unit_square : Rect
 unit_square = record { x1 = pos 0; y1 = pos 0; x2 = pos 1; y2 = pos 1; wide = record { lt = tt }; tall = record { lt = tt } }
 

@@ -31,7 +31,8 @@ pub fn array_cell(
 ) -> Result<DrawnCell, Memory>
     requires kit { IsKit kit.now }
     requires plan { ArePlanNumbers (numbers_of plan.now) }
-    ensures { IfOk result (λ cell. cell ≡ array_cell (organization plan.now) (layout_kit kit.now) (bit_cells kit.now.tech.roles (organization plan.now) contents.entry) name.now) }
+    ensures { IfOk result (λ cell. cell ≡ array_cell (organization plan.now) (layout_kit kit.now)
+        (bit_cells kit.now.tech.roles (organization plan.now) contents.entry) name.now) }
 {
     let mut instances = Vec::new(alloc);
     add_rows(alloc, kit, plan, name, contents, &mut instances)?;
@@ -49,7 +50,8 @@ fn add_rows(
 ) -> Result<(), Memory>
     requires kit { IsKit kit.now }
     requires plan { ArePlanNumbers (numbers_of plan.now) }
-    ensures { OnOk result (instances.new.items ≡ instances.old.items ++ tabulate (bank_rows (organization plan.now)) (row_at (layout_kit kit.now) (bit_cells kit.now.tech.roles (organization plan.now) contents.entry) name.now)) }
+    ensures { OnOk result (instances.new.items ≡ instances.old.items ++ tabulate (bank_rows (organization plan.now))
+        (row_at (layout_kit kit.now) (bit_cells kit.now.tech.roles (organization plan.now) contents.entry) name.now)) }
 {
     let height = leaf_height(kit, Role::Bitcell);
     for row in 0..plan.rows {
@@ -69,7 +71,8 @@ fn row_instance(
 ) -> Result<PlacedInstance, Memory>
     requires row { row ≤ 256 }
     requires height { height ≤ 65536 }
-    ensures { IfOk result (λ i. (kit : LayoutKit) (roles : List RoleName) → height ≡ bit_height kit → i ≡ row_at kit (bit_cells roles (organization plan.now) contents.entry) name.now row) }
+    ensures { IfOk result (λ i. (kit : LayoutKit) (roles : List RoleName) → height ≡ bit_height kit
+        → i ≡ row_at kit (bit_cells roles (organization plan.now) contents.entry) name.now row) }
 {
     Ok(PlacedInstance {
         name: spell(alloc, Spelling::Numbered(b"xr", row))?,
@@ -98,7 +101,8 @@ fn add_precharges(
 ) -> Result<(), Memory>
     requires kit { IsKit kit.now }
     requires plan { ArePlanNumbers (numbers_of plan.now) }
-    ensures { OnOk result (instances.new.items ≡ instances.old.items ++ tabulate (columns_of (organization plan.now)) (precharge_at (organization plan.now) (layout_kit kit.now))) }
+    ensures { OnOk result (instances.new.items ≡ instances.old.items ++ tabulate (columns_of (organization plan.now))
+        (precharge_at (organization plan.now) (layout_kit kit.now))) }
 {
     let width = leaf_width(kit, Role::Bitcell);
     for column in 0..plan.columns {

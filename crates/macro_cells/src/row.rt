@@ -33,7 +33,8 @@ pub fn row_cell(
     requires plan { ArePlanNumbers (numbers_of plan.now) }
     requires contents { IsContents (organization plan.now) contents }
     requires row { row < bank_rows (organization plan.now) }
-    ensures { IfOk result (λ cell. cell ≡ row_cell (organization plan.now) (layout_kit kit.now) (bit_cells kit.now.tech.roles (organization plan.now) contents.entry) name.now row) }
+    ensures { IfOk result (λ cell. cell ≡ row_cell (organization plan.now) (layout_kit kit.now)
+        (bit_cells kit.now.tech.roles (organization plan.now) contents.entry) name.now row) }
 {
     let groups = groups_of(alloc, plan)?;
     let gate = gate_of_row(&groups);
@@ -79,7 +80,9 @@ fn add_bits(
     requires row { row < bank_rows (organization plan.now) }
     requires from { from ≡ drive_width (organization plan.now) (layout_kit kit.now) }
     requires few { from ≤ 131072 }
-    ensures { OnOk result (instances.new.items ≡ instances.old.items ++ tabulate (columns_of (organization plan.now)) (row_bit_at (organization plan.now) (layout_kit kit.now) (bit_cells kit.now.tech.roles (organization plan.now) contents.entry) row)) }
+    ensures { OnOk result (instances.new.items ≡ instances.old.items ++ tabulate (columns_of (organization plan.now))
+        (row_bit_at (organization plan.now) (layout_kit kit.now)
+        (bit_cells kit.now.tech.roles (organization plan.now) contents.entry) row)) }
 {
     let width = leaf_width(kit, Role::Bitcell);
     for column in 0..plan.columns {

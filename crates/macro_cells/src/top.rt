@@ -27,7 +27,8 @@ pub fn macro_cell(
 ) -> Result<DrawnCell, Memory>
     requires plan { ArePlanNumbers (numbers_of plan.now) }
     requires near { IsNearFloorplan floorplan.now }
-    ensures { IfOk result (λ cell. cell ≡ macro_cell (organization plan.now) (floorplan_of floorplan.now) name.now wires.items labels.items) }
+    ensures { IfOk result (λ cell. cell ≡ macro_cell (organization plan.now)
+        (floorplan_of floorplan.now) name.now wires.items labels.items) }
 {
     let mut instances = Vec::new(alloc);
     instances.push(logic_instance(alloc, name, floorplan)?)?;
@@ -115,7 +116,8 @@ fn add_banks(
 ) -> Result<(), Memory>
     requires plan { ArePlanNumbers (numbers_of plan.now) }
     requires near { IsNearFloorplan floorplan.now }
-    ensures { OnOk result (instances.new.items ≡ instances.old.items ++ tabulate (banks_of (organization plan.now)) (bank_at (organization plan.now) (floorplan_of floorplan.now) name.now)) }
+    ensures { OnOk result (instances.new.items ≡ instances.old.items ++ tabulate (banks_of (organization plan.now))
+        (bank_at (organization plan.now) (floorplan_of floorplan.now) name.now)) }
 {
     for bank in 0..plan.banks {
         instances.push(bank_instance(alloc, plan, name, floorplan, bank)?)?;

@@ -4,3 +4,5 @@ mod WorkLaws
 mod OneAnswer
 mod OneRunLaws
 mod GoodKitLaws
+mod LayoutOutcomeLaws
+mod OutcomeLaws

@@ -5,3 +5,4 @@ pub mod Answer
 pub mod OneAnswer
 pub mod Run
 pub mod GoodKits
+pub mod Outcomes

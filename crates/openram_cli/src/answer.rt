@@ -5,7 +5,8 @@ ghost use Rattle.or_geom.specs.ShapeOrder.{shape_order};
 ghost use Rattle.cell_hierarchy.specs.Plain.{lists_of};
 ghost use Rattle.tech_rules.specs.Facts.{IsTech};
 ghost use Rattle.tile_checker.specs.RuleReport.{IsReport};
-ghost use Rattle.openram_cli.specs.Answer.{AreFlatListsIn, AreFlatShapesIn, AreLeafRows, AreNetsOf, IsCheckAnswer, IsNetsAnswer, IsCompareAnswer, IsReplyTo};
+ghost use Rattle.openram_cli.specs.Answer.{AreFlatListsIn, AreFlatShapesIn, AreLeafRows, AreNetsOf, IsCheckAnswer};
+ghost use Rattle.openram_cli.specs.Answer.{IsNetsAnswer, IsCompareAnswer, IsReplyTo};
 ghost use Rattle.openram_cli.specs.Inputs.{AreSound, IsSoundLayout};
 ghost use Rattle.command_steps.specs.Outcome.{UnlessMemory, is_read_failed, is_usage_outcome};
 
@@ -169,7 +170,8 @@ fn answer_compare<R: Threads + Sync>(
     Ok(comparison_reply(alloc, &difference)?)
 }
 
-/// What the inputs of a command lead to. It looks at nothing else, and the answer is the same for each number of workers.
+/// What the inputs of a command lead to. It looks at nothing else, and the answer is the same for each number of
+/// workers.
 pub fn answer<R: Threads + Sync, G: Gate + Sync>(
     rt: &R,
     alloc: Global,

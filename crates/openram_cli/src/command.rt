@@ -8,7 +8,8 @@ ghost use Rattle.sram_plan.specs.Config.{is_file_text, is_printable_byte};
 
 use command_steps::workers_in;
 
-/// The words that name a structure of a layout: the files of the technology and of the layout, and the structure's name.
+/// The words that name a structure of a layout: the files of the technology and of the layout, and the structure's
+/// name.
 #[derive(Clone, Copy)]
 pub struct LayoutWords<'a> {
     pub tech: &'a str,

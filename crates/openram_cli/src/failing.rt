@@ -36,8 +36,8 @@ const ROM_FILES: [&str; 9] = [
     "demo.v",
 ];
 
-/// The first of `files` are read, so many, and then the others are written: one call of the store for each. The line is the one
-/// that is printed where no call fails.
+/// The first of `files` are read, so many, and then the others are written: one call of the store for each. The line is
+/// the one that is printed where no call fails.
 #[derive(Clone, Copy)]
 struct Command {
     words: &'static [&'static str],
@@ -110,7 +110,8 @@ fn line_of(alloc: Global, command: Command, failing: u64) -> Result<String, Fail
     Ok(String::from_str(alloc, command.line)?)
 }
 
-/// What the file of a call holds after the call with the number `failing`, from what it held before and when all is done.
+/// What the file of a call holds after the call with the number `failing`, from what it held before and when all is
+/// done.
 fn state_after<'a>(number: u64, failing: u64, before: &'a [u8], done: &'a [u8]) -> &'a [u8] {
     if number < failing {
         return done;
@@ -163,7 +164,8 @@ fn expect_failing<R: Threads + Sync + Abort>(
     expect_files(rt, command, failing.store, before, done, &ended.store)
 }
 
-/// The calls of the store from the first to the last, and one that is never made; each with and without the put of the line.
+/// The calls of the store from the first to the last, and one that is never made; each with and without the put of the
+/// line.
 #[test]
 fn each_call_fails(rt: HostRuntime) -> Result<(), Fail> {
     let alloc = rt.alloc();

@@ -2,7 +2,8 @@ ghost use Rattle.std.specs.Prelude.{◌≡◌, ◌++◌, codes, false, IfOk};
 ghost use Rattle.gds_library.specs.Writable.{IsWritable};
 ghost use Rattle.tech_rules.specs.Facts.{IsTech};
 ghost use Rattle.openram_cli.specs.CommandWords.{told_asked, told_layout};
-ghost use Rattle.openram_cli.specs.Inputs.{IsLibraryFile, IsDeckFile, IsLayout, HasDevices, IsDeviceTechnology, AreLeafCells, AreInputs, AreSound};
+ghost use Rattle.openram_cli.specs.Inputs.{IsLibraryFile, IsDeckFile, IsLayout, HasDevices, IsDeviceTechnology};
+ghost use Rattle.openram_cli.specs.Inputs.{AreLeafCells, AreInputs, AreSound};
 ghost use Rattle.command_steps.specs.Outcome.{UnlessMemory, is_read_failed, is_usage_outcome};
 ghost use Rattle.command_steps.specs.Reading.{HasRead};
 
@@ -67,7 +68,8 @@ fn read_layout<S: Store>(
     words: LayoutWords<'_>,
     store: &mut S,
 ) -> Result<Layout, Refusal>
-    ensures read { HasRead (λ files. IsLayout files (told_layout words.entry)) result (S.state store.old) (S.state store.new) }
+    ensures read { HasRead (λ files. IsLayout files (told_layout words.entry)) result (S.state store.old)
+        (S.state store.new) }
     ensures tech { IfOk result (λ layout. IsTech layout.tech) }
     ensures writable { IfOk result (λ layout. IsWritable layout.lib) }
     ensures words { is_usage_outcome result ≡ false }
@@ -111,7 +113,8 @@ fn read_library_under<S: Store>(
     name: &str,
     store: &mut S,
 ) -> Result<Library, Refusal>
-    ensures read { HasRead (λ files. IsLibraryFile files (name.now ++ codes ".gds")) result (S.state store.old) (S.state store.new) }
+    ensures read { HasRead (λ files. IsLibraryFile files (name.now ++ codes ".gds")) result (S.state store.old)
+        (S.state store.new) }
     ensures good { IfOk result IsWritable }
     ensures words { is_usage_outcome result ≡ false }
 {
@@ -121,7 +124,8 @@ fn read_library_under<S: Store>(
 
 /// The deck in the file of this name and `.sp`.
 fn read_deck_under<S: Store>(alloc: Global, name: &str, store: &mut S) -> Result<Deck, Refusal>
-    ensures read { HasRead (λ files. IsDeckFile files (name.now ++ codes ".sp")) result (S.state store.old) (S.state store.new) }
+    ensures read { HasRead (λ files. IsDeckFile files (name.now ++ codes ".sp")) result (S.state store.old)
+        (S.state store.new) }
     ensures words { is_usage_outcome result ≡ false }
 {
     let file = with_ending(alloc, name, ".sp")?;
@@ -141,14 +145,15 @@ fn read_leaf_cells<S: Store>(alloc: Global, name: &str, store: &mut S) -> Result
     Ok(LeafCells { tech, lib, deck })
 }
 
-/// Reads the files that the words name, in the order of its words, and decodes each before the next is read. Nothing else
-/// reads the store.
+/// Reads the files that the words name, in the order of its words, and decodes each before the next is read. Nothing
+/// else reads the store.
 pub fn read_inputs<S: Store>(
     alloc: Global,
     asked: Asked<'_>,
     store: &mut S,
 ) -> Result<Inputs, Refusal>
-    ensures read { HasRead (λ files. AreInputs files (told_asked asked.entry)) result (S.state store.old) (S.state store.new) }
+    ensures read { HasRead (λ files. AreInputs files (told_asked asked.entry)) result (S.state store.old)
+        (S.state store.new) }
     ensures sound { IfOk result AreSound }
     ensures words { is_usage_outcome result ≡ false }
 {

@@ -8,6 +8,7 @@ mod failing;
 mod inputs;
 #[cfg(test)]
 mod large;
+mod laws;
 #[cfg(test)]
 mod meeting;
 mod run;

@@ -48,8 +48,10 @@ fn answer_words<R: Threads + Sync, G: Gate + Sync, S: Store, K: Sink>(
     store: &mut S,
     out: &mut K,
 ) -> u8
-    ensures run { IsAnswerRun (map string_bytes words.now) result (outside_at (S.state store.old) (K.state out.old)) (outside_at (S.state store.new) (K.state out.new)) }
-    ensures one { EndsAsAnswer (map string_bytes words.now) result (outside_at (S.state store.old) (K.state out.old)) (outside_at (S.state store.new) (K.state out.new)) }
+    ensures run { IsAnswerRun (map string_bytes words.now) result (outside_at (S.state store.old) (K.state out.old))
+        (outside_at (S.state store.new) (K.state out.new)) }
+    ensures one { EndsAsAnswer (map string_bytes words.now) result (outside_at (S.state store.old) (K.state out.old))
+        (outside_at (S.state store.new) (K.state out.new)) }
 {
     match reply_to(rt, alloc, gate, words, store) {
         Ok(reply) => finish(alloc, &reply, out),
@@ -66,15 +68,19 @@ pub fn run_gated<R: Threads + Sync, G: Gate + Sync, S: Store, K: Sink>(
     store: &mut S,
     out: &mut K,
 ) -> u8
-    ensures run { IsProgramRun (map string_bytes words.now) result (outside_at (S.state store.old) (K.state out.old)) (outside_at (S.state store.new) (K.state out.new)) }
-    // Over files of bytes words that build no memory have one answer at most, and the run ends as it says: status and text are a
-    // function of words and files.
-    ensures one { EndsAsAnswer (map string_bytes words.now) result (outside_at (S.state store.old) (K.state out.old)) (outside_at (S.state store.new) (K.state out.new)) }
+    ensures run { IsProgramRun (map string_bytes words.now) result (outside_at (S.state store.old) (K.state out.old))
+        (outside_at (S.state store.new) (K.state out.new)) }
+    // Over files of bytes words that build no memory have one answer at most, and the run ends as it says: status and
+    // text are a function of words and files.
+    ensures one { EndsAsAnswer (map string_bytes words.now) result (outside_at (S.state store.old) (K.state out.old))
+        (outside_at (S.state store.new) (K.state out.new)) }
     // So they are of words that build one, with the files at the end.
-    ensures work { EndAsAsked (map string_bytes words.now) result (outside_at (S.state store.old) (K.state out.old)) (outside_at (S.state store.new) (K.state out.new)) }
-    // A build whose kit `kit` finds no weakness in is refused with none of what such a kit rules out: no pins or taps that are too close, no broken
-    // rule, no nets that differ.
-    ensures good { EndsWithinGoodKit (map string_bytes words.now) result (outside_at (S.state store.old) (K.state out.old)) (outside_at (S.state store.new) (K.state out.new)) }
+    ensures work { EndAsAsked (map string_bytes words.now) result (outside_at (S.state store.old) (K.state out.old))
+        (outside_at (S.state store.new) (K.state out.new)) }
+    // A build whose kit `kit` finds no weakness in is refused with none of what such a kit rules out: no pins or taps
+    // that are too close, no broken rule, no nets that differ.
+    ensures good { EndsWithinGoodKit (map string_bytes words.now) result
+        (outside_at (S.state store.old) (K.state out.old)) (outside_at (S.state store.new) (K.state out.new)) }
 {
     match making_in(words) {
         Some(making) => make(rt, alloc, gate, making, store, out),
@@ -82,10 +88,11 @@ pub fn run_gated<R: Threads + Sync, G: Gate + Sync, S: Store, K: Sink>(
     }
 }
 
-/// All that the program does: it reads the files that the words name, writes the views of a build, prints each line by one call
-/// of `put`, and answers the exit status. 0: done. 1: a check found violations, a comparison a difference, a kit is weak, or leaf
-/// cells differ from their subcircuits in a transistor. 2: the words are no form. 3: an input is refused, or the memory that it
-/// asks for can't be built soundly. 4: the store or the sink failed, and its count of faults rose. 5: out of memory.
+/// All that the program does: it reads the files that the words name, writes the views of a build, prints each line by
+/// one call of `put`, and answers the exit status. 0: done. 1: a check found violations, a comparison a difference, a
+/// kit is weak, or leaf cells differ from their subcircuits in a transistor. 2: the words are no form. 3: an input is
+/// refused, or the memory that it asks for can't be built soundly. 4: the store or the sink failed, and its count of
+/// faults rose. 5: out of memory.
 pub fn run<R: Threads + Sync, S: Store, K: Sink>(
     rt: &R,
     alloc: Global,
@@ -93,15 +100,19 @@ pub fn run<R: Threads + Sync, S: Store, K: Sink>(
     store: &mut S,
     out: &mut K,
 ) -> u8
-    ensures run { IsProgramRun (map string_bytes words.now) result (outside_at (S.state store.old) (K.state out.old)) (outside_at (S.state store.new) (K.state out.new)) }
-    // Over files of bytes words that build no memory have one answer at most, and the run ends as it says: status and text are a
-    // function of words and files.
-    ensures one { EndsAsAnswer (map string_bytes words.now) result (outside_at (S.state store.old) (K.state out.old)) (outside_at (S.state store.new) (K.state out.new)) }
+    ensures run { IsProgramRun (map string_bytes words.now) result (outside_at (S.state store.old) (K.state out.old))
+        (outside_at (S.state store.new) (K.state out.new)) }
+    // Over files of bytes words that build no memory have one answer at most, and the run ends as it says: status and
+    // text are a function of words and files.
+    ensures one { EndsAsAnswer (map string_bytes words.now) result (outside_at (S.state store.old) (K.state out.old))
+        (outside_at (S.state store.new) (K.state out.new)) }
     // So they are of words that build one, with the files at the end.
-    ensures work { EndAsAsked (map string_bytes words.now) result (outside_at (S.state store.old) (K.state out.old)) (outside_at (S.state store.new) (K.state out.new)) }
-    // A build whose kit `kit` finds no weakness in is refused with none of what such a kit rules out: no pins or taps that are too close, no broken
-    // rule, no nets that differ.
-    ensures good { EndsWithinGoodKit (map string_bytes words.now) result (outside_at (S.state store.old) (K.state out.old)) (outside_at (S.state store.new) (K.state out.new)) }
+    ensures work { EndAsAsked (map string_bytes words.now) result (outside_at (S.state store.old) (K.state out.old))
+        (outside_at (S.state store.new) (K.state out.new)) }
+    // A build whose kit `kit` finds no weakness in is refused with none of what such a kit rules out: no pins or taps
+    // that are too close, no broken rule, no nets that differ.
+    ensures good { EndsWithinGoodKit (map string_bytes words.now) result
+        (outside_at (S.state store.old) (K.state out.old)) (outside_at (S.state store.new) (K.state out.new)) }
 {
     run_gated(rt, alloc, &OpenGate, words, store, out)
 }

@@ -1,5 +1,5 @@
-//! One row for each command, over the kit of demonstration 0, and calls that fail while a command reads or prints. More rows stand
-//! in examples/rows, which need only a program.
+//! One row for each command, over the kit of demonstration 0, and calls that fail while a command reads or prints. More
+//! rows stand in examples/rows, which need only a program.
 
 use crate::run::run;
 use demo_kit::demo;

@@ -3,7 +3,7 @@ mod PortLaws
 mod FormulaLaws
 mod PinLaws
 pub mod MeetLaws
-mod ChannelLaws
+pub mod ChannelLaws
 pub mod KitLaws
 mod TrackCountLaws
 pub mod NetLaws
@@ -11,6 +11,6 @@ pub mod SenseLaws
 pub mod TopLaws
 pub mod ExitLaws
 mod ColumnLaws
-mod RoutedLaws
+pub mod RoutedLaws
 mod DataLaws
 pub mod RefusedLaws

@@ -1,12 +1,12 @@
 mod NameLaws
-mod ExtentLaws
+pub mod ExtentLaws
 mod LibraryLaws
 mod SignalLaws
-mod LayoutLaws
+pub mod LayoutLaws
 pub mod KitFacts
 pub mod HeldFacts
-mod LabelFacts
-mod AssemblyLaws
+pub mod LabelFacts
+pub mod AssemblyLaws
 pub mod MainChannelLaws
 pub mod StatedLaws
 pub mod MemoryLaws

@@ -1,0 +1,4 @@
+pub mod LowLaws
+pub mod StepLaws
+pub mod DesignLaws
+pub mod RomDesignLaws

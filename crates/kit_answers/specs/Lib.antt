@@ -1,0 +1,2 @@
+pub mod KitAnswers
+pub mod RomLeafAnswers

@@ -1,0 +1,9 @@
+pub mod FloorplanLaws
+pub mod ColumnLaws
+pub mod MainLaws
+pub mod TapLaws
+pub mod BankLaws
+pub mod LayoutLaws
+pub mod SupplyLaws
+pub mod LibraryLaws
+pub mod MacroLaws

@@ -1,0 +1,4 @@
+mod KeyLaws
+pub mod TechLaws
+pub mod ConfigLaws
+pub mod GoodLaws
