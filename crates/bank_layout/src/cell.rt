@@ -32,8 +32,8 @@ fn part_at(
     })
 }
 
-/// The cell of a bank: its array, its precharge cells and its data, with the bank's wires. Coordinates are nanometres from
-/// the bank's lower edge. `name` is the macro's.
+/// The cell of a bank: its array, its precharge cells and its data, with the bank's wires. Coordinates are nanometres
+/// from the bank's lower edge. `name` is the macro's.
 pub fn bank_cell(
     alloc: Global,
     name: &Name,
@@ -43,7 +43,8 @@ pub fn bank_cell(
 ) -> Result<DrawnCell, Memory>
     requires sides { AreLeafSides sides.now }
     requires near { IsNearFloorplan floorplan.now }
-    ensures { IfOk result (λ cell. (plan : Organization) (kit : LayoutKit) → AreSidesOf plan kit sides.now → cell ≡ bank_cell plan kit (floorplan_of floorplan.now) name.now wires.items) }
+    ensures { IfOk result (λ cell. (plan : Organization) (kit : LayoutKit) → AreSidesOf plan kit sides.now
+        → cell ≡ bank_cell plan kit (floorplan_of floorplan.now) name.now wires.items) }
 {
     let columns = columns_x(sides, floorplan);
     let array = Point {

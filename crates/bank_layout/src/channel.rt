@@ -30,7 +30,8 @@ fn moved(by: i64, shape: &Shape) -> Shape
 pub fn add_moved(by: i64, channel: &[Shape], shapes: &mut Vec<Shape>) -> Result<(), Memory>
     requires by { IsUpTo (2 ^ 24) by }
     requires near { (s : Shape) → Contains channel.now s → AreCornersWithin (2 ^ 30) s.rect }
-    ensures { OnOk result (Adds shapes.old.items shapes.new.items (SomeGives (λ from to. IsShifted by (pos 0) from to) channel.now)) }
+    ensures { OnOk result (Adds shapes.old.items shapes.new.items
+        (SomeGives (λ from to. IsShifted by (pos 0) from to) channel.now)) }
 {
     for shape in channel {
         shapes.push(moved(by, shape))?;

@@ -19,7 +19,8 @@ fn add_output(x: i64, top: i64, wire: &Wire, shapes: &mut Vec<Shape>) -> Result<
     requires metals { 3 < length wire.now.metals }
     requires near { IsUpTo (2 ^ 26) x }
     requires tall { pos 0 <ℤ top }
-    ensures { OnOk result (Adds shapes.old.items shapes.new.items (IsBox (slice_index wire.now.metals 3) x (pos 0) (x +ℤ wire.now.width) top)) }
+    ensures { OnOk result (Adds shapes.old.items shapes.new.items
+        (IsBox (slice_index wire.now.metals 3) x (pos 0) (x +ℤ wire.now.width) top)) }
 {
     let rect = Rect {
         x1: x,
@@ -34,8 +35,8 @@ fn add_output(x: i64, top: i64, wire: &Wire, shapes: &mut Vec<Shape>) -> Result<
     Ok(())
 }
 
-/// Adds the wires of the outputs, one for each bit of the word where something is written: the first at `first`, and the others as
-/// far from each other as the bits' columns, which are so wide. They end at `top`.
+/// Adds the wires of the outputs, one for each bit of the word where something is written: the first at `first`, and
+/// the others as far from each other as the bits' columns, which are so wide. They end at `top`.
 pub fn add_outputs(
     plan: &Plan,
     first: i64,
@@ -50,7 +51,9 @@ pub fn add_outputs(
     requires near { IsUpTo (2 ^ 25) first }
     requires width { width ≤ 65536 }
     requires tall { IsWritten (organization plan.now) → pos 0 <ℤ top }
-    ensures { OnOk result (Adds shapes.old.items shapes.new.items (IsOutputBelow wire.now first (words_per_row (organization plan.now)) width top (inputs_of (organization plan.now)))) }
+    ensures { OnOk result (Adds shapes.old.items shapes.new.items
+        (IsOutputBelow wire.now first (words_per_row (organization plan.now)) width top
+        (inputs_of (organization plan.now)))) }
 {
     for bit in 0..inputs_of(plan) {
         let x = first + column_offset(first_column(plan, bit), width);

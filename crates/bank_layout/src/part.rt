@@ -22,12 +22,13 @@ use sram_plan::Plan;
 use sram_subckts::bank_subckt;
 use std::alloc::Global;
 
-/// Adds the cells and the subcircuits of a bank: those of its array, its precharge and its data, and its own. Answers where nets
-/// come to its edges, in nanometres from its lower left corner, which is the macro's left end at the lower edge of the data; nets
-/// inside the bank's parts have the names that they have there. `name` is the macro's. `SliceTooNarrow`: the sense cell, or else
-/// the write cell where something is written, is wider than the columns of a bit; or else `Close`: pins of the column channel are
-/// nearer to each other than the pitch, x from the left end of the columns; or else `TapsClose`: taps of the rails are, y from the
-/// bank's lower side. After a refusal a part of the bank may be added.
+/// Adds the cells and the subcircuits of a bank: those of its array, its precharge and its data, and its own. Answers
+/// where nets come to its edges, in nanometres from its lower left corner, which is the macro's left end at the lower
+/// edge of the data; nets inside the bank's parts have the names that they have there. `name` is the macro's.
+/// `SliceTooNarrow`: the sense cell, or else the write cell where something is written, is wider than the columns of a
+/// bit; or else `Close`: pins of the column channel are nearer to each other than the pitch, x from the left end of the
+/// columns; or else `TapsClose`: taps of the rails are, y from the bank's lower side. After a refusal a part of the
+/// bank may be added.
 pub fn build(
     alloc: Global,
     kit: &Kit,
@@ -40,7 +41,8 @@ pub fn build(
     requires plan { ArePlanNumbers (numbers_of plan.now) }
     requires few { length cells.old.cells < 2 ^ 30 }
     ensures built { IfOk result (IsBankBuilt kit.now (organization plan.now) name.now cells.old cells.new) }
-    ensures deck { OnOk result (deck.new ≡ with_bank_subckts (organization plan.now) (cell_in kit.now.tech.roles) name.now deck.old) }
+    ensures deck { OnOk result (deck.new ≡ with_bank_subckts (organization plan.now)
+        (cell_in kit.now.tech.roles) name.now deck.old) }
     ensures fault { IfErr result (IsBankPartRefused kit.now (organization plan.now)) }
 {
     refuse_narrow_slices(alloc, kit, plan)?;

@@ -52,7 +52,8 @@ fn sense_tap(kit: &Kit, plan: &Plan, sides: &LeafSides, floorplan: &FloorplanNum
     requires sides { AreLeafSides sides.now }
     requires near { IsNearFloorplan floorplan.now }
     requires sides_of { AreSidesOf (organization plan.now) (layout_kit kit.now) sides.now }
-    ensures { IsLeafTap kit.now.leaves Sense 3 (sense_tap (organization plan.now) (layout_kit kit.now) (floorplan_of floorplan.now)) result }
+    ensures { IsLeafTap kit.now.leaves Sense 3 (sense_tap (organization plan.now) (layout_kit kit.now)
+        (floorplan_of floorplan.now)) result }
 {
     let column = plan.columns - plan.wpr;
     let y = floorplan.sense_y - floorplan.write_y;
@@ -67,7 +68,8 @@ fn precharge_tap(kit: &Kit, plan: &Plan, sides: &LeafSides, floorplan: &Floorpla
     requires sides { AreLeafSides sides.now }
     requires near { IsNearFloorplan floorplan.now }
     requires sides_of { AreSidesOf (organization plan.now) (layout_kit kit.now) sides.now }
-    ensures { IsLeafTap kit.now.leaves Precharge 2 (precharge_tap (organization plan.now) (layout_kit kit.now) (floorplan_of floorplan.now)) result }
+    ensures { IsLeafTap kit.now.leaves Precharge 2 (precharge_tap (organization plan.now) (layout_kit kit.now)
+        (floorplan_of floorplan.now)) result }
 {
     let y = floorplan.precharge_y - floorplan.write_y;
     let place = column_place(plan.columns - 1, sides, floorplan, y);
@@ -80,7 +82,12 @@ fn choice_tap(rail: u32, low: i64, track: u32, wire: &Wire) -> Tap
     requires rail { rail ≤ 64 }
     requires low { IsUpTo (2 ^ 20) low }
     requires track { track < 1024 }
-    ensures { result ≡ record { rail = rail; y = low +ℤ channel_height wire.now track; end = rail_x wire.now rail +ℤ wire.now.width } }
+    ensures { result ≡ record {
+      rail = rail;
+      y = low +ℤ channel_height wire.now track;
+      end = rail_x wire.now rail +ℤ
+          wire.now.width;
+    } }
 {
     Tap {
         rail,
@@ -89,8 +96,8 @@ fn choice_tap(rail: u32, low: i64, track: u32, wire: &Wire) -> Tap
     }
 }
 
-/// Adds the taps of the column choices: their rails begin at `first`, and their tracks are those of a channel that begins at
-/// `low`.
+/// Adds the taps of the column choices: their rails begin at `first`, and their tracks are those of a channel that
+/// begins at `low`.
 fn add_choice_taps(
     first: u32,
     low: i64,
@@ -104,7 +111,8 @@ fn add_choice_taps(
     requires low { IsUpTo (2 ^ 20) low }
     requires few { count ≤ 8 }
     requires tracks { HasTracks count tracks.now }
-    ensures { OnOk result (taps.new.items ≡ taps.old.items ++ tabulate count (choice_tap wire.now low first tracks.now)) }
+    ensures { OnOk result (taps.new.items
+        ≡ taps.old.items ++ tabulate count (choice_tap wire.now low first tracks.now)) }
 {
     for choice in 0..count {
         let track = tracks[choice as usize];
@@ -131,7 +139,8 @@ pub fn bank_taps(
     requires sizes { AreSizes wire.now }
     requires stands { floorplan.now.sense_y ≡ floorplan.now.write_y +ℤ pos sides.now.write_height }
     requires tracks { HasTracks (choice_count (organization plan.now).col_bits) tracks.now }
-    ensures { IfOk result (λ taps. AreBankTaps kit.now.leaves (organization plan.now) (layout_kit kit.now) wire.now (floorplan_of floorplan.now) tracks.now taps.items) }
+    ensures { IfOk result (λ taps. AreBankTaps kit.now.leaves (organization plan.now) (layout_kit kit.now) wire.now
+        (floorplan_of floorplan.now) tracks.now taps.items) }
 {
     let array = floorplan.array_y - floorplan.write_y;
     let mut taps = row_taps(alloc, kit, plan, floorplan.row_x, array)?;

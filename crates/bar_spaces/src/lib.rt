@@ -1,4 +1,5 @@
-//! Laws of the space rules of the first metal, on which bars and joiners of the supplies stand, and of the cuts above it.
+//! Laws of the space rules of the first metal, on which bars and joiners of the supplies stand, and of the cuts above
+//! it.
 #![tactic(auto)]
 
 ghost use Rattle.bar_spaces.specs.Kept.{FirstCutSpaceIsKept, FirstSpaceIsKept};

@@ -59,7 +59,8 @@ fn add_columns(
     requires width { width ≤ 65536 }
     requires left { IsReachable left.now.rect }
     requires right { IsReachable right.now.rect }
-    ensures { OnOk result (edges.new.items ≡ edges.old.items ++ tabulate_lists (columns_of (organization plan.now)) (column_edges from width left.now.rect.x1 right.now.rect.x1)) }
+    ensures { OnOk result (edges.new.items ≡ edges.old.items ++ tabulate_lists (columns_of (organization plan.now))
+        (column_edges from width left.now.rect.x1 right.now.rect.x1)) }
 {
     for column in 0..plan.columns {
         add_column(
@@ -85,7 +86,8 @@ fn add_column(
 ) -> Result<(), Memory>
     requires left { IsReachable left.now.rect }
     requires right { IsReachable right.now.rect }
-    ensures { OnOk result ((from width : ℕ) → x ≡ from + column * width → edges.new.items ≡ edges.old.items ++ column_edges from width left.now.rect.x1 right.now.rect.x1 column) }
+    ensures { OnOk result ((from width : ℕ) → x ≡ from + column * width
+        → edges.new.items ≡ edges.old.items ++ column_edges from width left.now.rect.x1 right.now.rect.x1 column) }
 {
     edges.push(line_edge(alloc, Spelling::Numbered(b"bl", column), x, left)?)?;
     edges.push(line_edge(alloc, Spelling::Numbered(b"br", column), x, right)?)?;

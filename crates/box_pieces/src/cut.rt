@@ -38,8 +38,8 @@ fn better(area: Rect, boxes: &[Rect], others: &[Rect], across: Cut, upward: Cut)
     if few < many { upward } else { across }
 }
 
-/// Where the area may be cut at an edge of one of the boxes, so that about as many of these edges lie on both sides, and few
-/// edges of these and the other boxes are cut.
+/// Where the area may be cut at an edge of one of the boxes, so that about as many of these edges lie on both sides,
+/// and few edges of these and the other boxes are cut.
 pub fn cut_of(
     alloc: Global,
     area: Rect,

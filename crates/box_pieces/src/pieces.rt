@@ -64,11 +64,13 @@ fn add_pieces(
     add_pieces(alloc, high, &boxes, &by, out)
 }
 
-/// The pieces of the boxes: those that lie in one of the others, and those that lie in none. Where boxes lie on one another,
-/// few of their pieces do.
+/// The pieces of the boxes: those that lie in one of the others, and those that lie in none. Where boxes lie on one
+/// another, few of their pieces do.
 pub fn split(alloc: Global, boxes: &[Rect], by: &[Rect]) -> Result<Pieces, Memory>
-    ensures inside { IfOk result (λ pieces. (x y : ℤ) → HasCellInSome pieces.inside.items x y ↔ IsCellInside boxes.now by.now x y) }
-    ensures outside { IfOk result (λ pieces. (x y : ℤ) → HasCellInSome pieces.outside.items x y ↔ IsCellOutside boxes.now by.now x y) }
+    ensures inside { IfOk result (λ pieces. (x y : ℤ) → HasCellInSome pieces.inside.items x y
+        ↔ IsCellInside boxes.now by.now x y) }
+    ensures outside { IfOk result (λ pieces. (x y : ℤ) → HasCellInSome pieces.outside.items x y
+        ↔ IsCellOutside boxes.now by.now x y) }
 {
     let boxes = merged(alloc, boxes)?;
     let by = merged(alloc, by)?;

@@ -4,7 +4,8 @@ ghost use Rattle.tech_rules.specs.Facts.{IsTech};
 ghost use Rattle.command_steps.specs.File.{IsFile};
 ghost use Rattle.command_steps.specs.Outcome.{is_usage_outcome};
 ghost use Rattle.command_steps.specs.Reading.{HasRead};
-ghost use Rattle.build_command.specs.Design.{IsConfigFile, IsLeafLayoutFile, IsKitOver, IsKitWith, IsKitUnder, IsDesignWith, IsDesignOf, IsDesign, IsGoodDesign};
+ghost use Rattle.build_command.specs.Design.{IsConfigFile, IsLeafLayoutFile, IsKitOver, IsKitWith, IsKitUnder};
+ghost use Rattle.build_command.specs.Design.{IsDesignWith, IsDesignOf, IsDesign, IsGoodDesign};
 ghost use Rattle.leaf_tables.specs.Kits.{IsKit};
 
 use command_steps::{file_text, read_file, read_technology_under, with_ending};
@@ -46,7 +47,8 @@ fn read_under<S: Store>(
     ending: &str,
     store: &mut S,
 ) -> Result<Items<u8>, Refusal>
-    ensures read { HasRead (λ files. IsFile files (name.now ++ ending.now)) result (S.state store.old) (S.state store.new) }
+    ensures read { HasRead (λ files. IsFile files (name.now ++ ending.now)) result (S.state store.old)
+        (S.state store.new) }
     ensures words { is_usage_outcome result ≡ false }
 {
     let file = with_ending(alloc, name, ending)?;
@@ -59,7 +61,8 @@ fn read_leaf_layout<S: Store>(
     name: &str,
     store: &mut S,
 ) -> Result<Items<u8>, Refusal>
-    ensures read { HasRead (λ files. IsLeafLayoutFile files (name.now ++ codes ".gds")) result (S.state store.old) (S.state store.new) }
+    ensures read { HasRead (λ files. IsLeafLayoutFile files (name.now ++ codes ".gds")) result (S.state store.old)
+        (S.state store.new) }
     ensures words { is_usage_outcome result ≡ false }
 {
     let bytes = read_under(alloc, name, ".gds", store)?;
@@ -76,7 +79,8 @@ fn read_kit_over<S: Store>(
     store: &mut S,
 ) -> Result<Kit, Refusal>
     requires { IsTech tech }
-    ensures read { HasRead (λ files. IsKitOver files name.now tech gds.now) result (S.state store.old) (S.state store.new) }
+    ensures read { HasRead (λ files. IsKitOver files name.now tech gds.now) result (S.state store.old)
+        (S.state store.new) }
     ensures good { IfOk result IsKit }
     ensures words { is_usage_outcome result ≡ false }
 {
@@ -100,7 +104,8 @@ fn read_kit_with<S: Store>(
     read_kit_over(alloc, name, tech, gds.as_slice(), store)
 }
 
-/// Reads the kit of this name: the technology, the leaf cells' layouts and their subcircuits, each decoded before the next is read.
+/// Reads the kit of this name: the technology, the leaf cells' layouts and their subcircuits, each decoded before the
+/// next is read.
 pub fn read_kit_under<S: Store>(alloc: Global, name: &str, store: &mut S) -> Result<Kit, Refusal>
     ensures read { HasRead (λ files. IsKitUnder files name.now) result (S.state store.old) (S.state store.new) }
     ensures good { IfOk result IsKit }
@@ -139,8 +144,8 @@ pub fn design_of<S: Store>(alloc: Global, config: Config, store: &mut S) -> Resu
     design_with(alloc, config, plan, store)
 }
 
-/// Reads the configuration, and then the files that it names: the technology, the leaf cells' layouts and their subcircuits,
-/// each decoded before the next is read.
+/// Reads the configuration, and then the files that it names: the technology, the leaf cells' layouts and their
+/// subcircuits, each decoded before the next is read.
 pub fn read_design<S: Store>(alloc: Global, name: &str, store: &mut S) -> Result<Design, Refusal>
     ensures read { HasRead (λ files. IsDesign files name.now) result (S.state store.old) (S.state store.new) }
     ensures good { IfOk result IsGoodDesign }

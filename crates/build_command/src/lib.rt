@@ -1,5 +1,5 @@
-//! The commands `build`, `demo` and `rom`: a configuration, a kit of leaf cells and, for a read-only memory, its words are read,
-//! a memory is built of them, and its views are written.
+//! The commands `build`, `demo` and `rom`: a configuration, a kit of leaf cells and, for a read-only memory, its words
+//! are read, a memory is built of them, and its views are written.
 #![tactic(auto)]
 
 mod demo_files;

@@ -10,7 +10,8 @@ ghost use Rattle.sram_plan.specs.Config.{IsConfig};
 ghost use Rattle.sram_plan.specs.PlanNumbers.{numbers_of};
 ghost use Rattle.build_command.specs.Design.{IsGoodDesign};
 ghost use Rattle.build_command.specs.RomDesign.{IsGoodRom};
-ghost use Rattle.build_command.specs.Made.{view_name, views, success_reply, made_of, refusal_in, ordered, order_of, order_of_rom, IsOrderMade};
+ghost use Rattle.build_command.specs.Made.{view_name, views, success_reply, made_of, refusal_in, ordered, order_of};
+ghost use Rattle.build_command.specs.Made.{order_of_rom, IsOrderMade};
 
 use crate::design::Design;
 use crate::rom_design::RomDesign;
@@ -27,7 +28,8 @@ use std::thread::Threads;
 use tech_rules::Layer;
 use tile_checker::Gate;
 
-/// What is made of a design: the views under the names of their files, in the order in which they are written, and the answer.
+/// What is made of a design: the views under the names of their files, in the order in which they are written, and the
+/// answer.
 #[derive(Drop)]
 pub struct Made {
     pub views: Items<MemFile>,

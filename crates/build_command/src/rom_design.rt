@@ -3,7 +3,8 @@ ghost use Rattle.sram_plan.specs.Config.{IsConfig};
 ghost use Rattle.command_steps.specs.Outcome.{UnlessMemory, is_read_failed, is_usage_outcome};
 ghost use Rattle.command_steps.specs.Reading.{HasRead};
 ghost use Rattle.build_command.specs.Design.{IsGoodDesign};
-ghost use Rattle.build_command.specs.RomDesign.{key_against_rom, IsRomConfiguration, IsRomWith, IsRomOver, IsRomUnder, IsRomAfter, IsRomDesign, IsGoodRom};
+ghost use Rattle.build_command.specs.RomDesign.{key_against_rom, IsRomConfiguration, IsRomWith, IsRomOver, IsRomUnder};
+ghost use Rattle.build_command.specs.RomDesign.{IsRomAfter, IsRomDesign, IsGoodRom};
 ghost use Rattle.reply_lines.specs.declared.refusal.Refusal.TheVariants as refusal_of;
 ghost use Rattle.rom_leaves.specs.RomLeaves.{HasRomLeaves};
 
@@ -59,7 +60,8 @@ fn rom_with<S: Store>(
     requires design { IsGoodDesign design }
     requires suited { key_against_rom design.config ≡ None }
     requires cells { HasRomLeaves design.kit }
-    ensures read { HasRead (λ files. IsRomWith files content.now design) result (S.state store.old) (S.state store.new) }
+    ensures read { HasRead (λ files. IsRomWith files content.now design) result (S.state store.old)
+        (S.state store.new) }
     ensures good { IfOk result IsGoodRom }
     ensures words { is_usage_outcome result ≡ false }
 {
@@ -77,7 +79,8 @@ fn rom_over<S: Store>(
 ) -> Result<RomDesign, Refusal>
     requires design { IsGoodDesign design }
     requires suited { key_against_rom design.config ≡ None }
-    ensures read { HasRead (λ files. IsRomOver files content.now design) result (S.state store.old) (S.state store.new) }
+    ensures read { HasRead (λ files. IsRomOver files content.now design) result (S.state store.old)
+        (S.state store.new) }
     ensures good { IfOk result IsGoodRom }
     ensures words { is_usage_outcome result ≡ false }
 {
@@ -94,7 +97,8 @@ fn rom_under<S: Store>(
 ) -> Result<RomDesign, Refusal>
     requires config { IsConfig config }
     requires suited { key_against_rom config ≡ None }
-    ensures read { HasRead (λ files. IsRomUnder files content.now config) result (S.state store.old) (S.state store.new) }
+    ensures read { HasRead (λ files. IsRomUnder files content.now config) result (S.state store.old)
+        (S.state store.new) }
     ensures good { IfOk result IsGoodRom }
     ensures words { is_usage_outcome result ≡ false }
 {
@@ -110,7 +114,8 @@ fn rom_after<S: Store>(
     store: &mut S,
 ) -> Result<RomDesign, Refusal>
     requires config { IsConfig config }
-    ensures read { HasRead (λ files. IsRomAfter files content.now config) result (S.state store.old) (S.state store.new) }
+    ensures read { HasRead (λ files. IsRomAfter files content.now config) result (S.state store.old)
+        (S.state store.new) }
     ensures good { IfOk result IsGoodRom }
     ensures words { is_usage_outcome result ≡ false }
 {
@@ -118,15 +123,16 @@ fn rom_after<S: Store>(
     rom_under(alloc, config, content, store)
 }
 
-/// Reads what a read-only memory is built of: its design, as `read_design` does, and then the data file. After the configuration
-/// its keys are looked at that no such memory has, and after the kit its cells that hold fixed bits.
+/// Reads what a read-only memory is built of: its design, as `read_design` does, and then the data file. After the
+/// configuration its keys are looked at that no such memory has, and after the kit its cells that hold fixed bits.
 pub fn read_rom<S: Store>(
     alloc: Global,
     name: &str,
     content: &str,
     store: &mut S,
 ) -> Result<RomDesign, Refusal>
-    ensures read { HasRead (λ files. IsRomDesign files name.now content.now) result (S.state store.old) (S.state store.new) }
+    ensures read { HasRead (λ files. IsRomDesign files name.now content.now) result (S.state store.old)
+        (S.state store.new) }
     ensures good { IfOk result IsGoodRom }
     ensures words { is_usage_outcome result ≡ false }
 {

@@ -53,7 +53,8 @@ fn work_on_rom<R: Threads + Sync, G: Gate + Sync, S: Store>(
 ) -> Result<Made, Refusal>
     requires some { 0 < workers }
     requires at_most { workers ≤ 64 }
-    ensures read { HasRead (λ files. IsRomWork files config.now content.now) result (S.state store.old) (S.state store.new) }
+    ensures read { HasRead (λ files. IsRomWork files config.now content.now) result (S.state store.old)
+        (S.state store.new) }
     ensures names { IfOk result (λ made. HaveAsciiNames made.views) }
     ensures done { IfOk result (λ made. made.reply.status ≡ 0) }
     ensures words { is_usage_outcome result ≡ false }
@@ -85,7 +86,8 @@ fn work_on_demo<R: Threads + Sync, G: Gate + Sync>(
 /// Writes the views, and prints the line of success.
 fn put_out<S: Store, K: Sink>(alloc: Global, made: &Made, store: &mut S, out: &mut K) -> u8
     requires { HaveAsciiNames made.now.views }
-    ensures { IsPutOut made.now result (outside_at (S.state store.old) (K.state out.old)) (outside_at (S.state store.new) (K.state out.new)) }
+    ensures { IsPutOut made.now result (outside_at (S.state store.old) (K.state out.old))
+        (outside_at (S.state store.new) (K.state out.new)) }
 {
     match write_files(made.views.as_slice(), store) {
         Ok(()) => finish(alloc, &made.reply, out),
@@ -105,7 +107,8 @@ fn build_from<R: Threads + Sync, G: Gate + Sync, S: Store, K: Sink>(
 ) -> u8
     requires some { 0 < workers }
     requires at_most { workers ≤ 64 }
-    ensures { IsMakingRun (build config.now) result (outside_at (S.state store.old) (K.state out.old)) (outside_at (S.state store.new) (K.state out.new)) }
+    ensures { IsMakingRun (build config.now) result (outside_at (S.state store.old) (K.state out.old))
+        (outside_at (S.state store.new) (K.state out.new)) }
 {
     match work_on(rt, alloc, gate, config, workers, store) {
         Ok(made) => put_out(alloc, &made, store, out),
@@ -126,7 +129,8 @@ fn build_rom<R: Threads + Sync, G: Gate + Sync, S: Store, K: Sink>(
 ) -> u8
     requires some { 0 < workers }
     requires at_most { workers ≤ 64 }
-    ensures { IsMakingRun (rom config.now content.now) result (outside_at (S.state store.old) (K.state out.old)) (outside_at (S.state store.new) (K.state out.new)) }
+    ensures { IsMakingRun (rom config.now content.now) result (outside_at (S.state store.old) (K.state out.old))
+        (outside_at (S.state store.new) (K.state out.new)) }
 {
     match work_on_rom(rt, alloc, gate, config, content, workers, store) {
         Ok(made) => put_out(alloc, &made, store, out),
@@ -146,7 +150,8 @@ fn build_demo<R: Threads + Sync, G: Gate + Sync, S: Store, K: Sink>(
 ) -> u8
     requires some { 0 < workers }
     requires at_most { workers ≤ 64 }
-    ensures { IsDemoBuilt files.items result (outside_at (S.state store.old) (K.state out.old)) (outside_at (S.state store.new) (K.state out.new)) }
+    ensures { IsDemoBuilt files.items result (outside_at (S.state store.old) (K.state out.old))
+        (outside_at (S.state store.new) (K.state out.new)) }
 {
     match work_on_demo(rt, alloc, gate, files, workers) {
         Ok(made) => put_out(alloc, &made, store, out),
@@ -167,7 +172,8 @@ fn write_and_build<R: Threads + Sync, G: Gate + Sync, S: Store, K: Sink>(
     requires some { 0 < workers }
     requires at_most { workers ≤ 64 }
     requires names { HaveAsciiNames files.items }
-    ensures { IsDemoWritten files.items result (outside_at (S.state store.old) (K.state out.old)) (outside_at (S.state store.new) (K.state out.new)) }
+    ensures { IsDemoWritten files.items result (outside_at (S.state store.old) (K.state out.old))
+        (outside_at (S.state store.new) (K.state out.new)) }
 {
     match write_files(&files, store) {
         Ok(()) => build_demo(rt, alloc, gate, files, workers, store, out),
@@ -187,7 +193,8 @@ fn demonstrate<R: Threads + Sync, G: Gate + Sync, S: Store, K: Sink>(
 ) -> u8
     requires some { 0 < workers }
     requires at_most { workers ≤ 64 }
-    ensures { IsMakingRun (demo number) result (outside_at (S.state store.old) (K.state out.old)) (outside_at (S.state store.new) (K.state out.new)) }
+    ensures { IsMakingRun (demo number) result (outside_at (S.state store.old) (K.state out.old))
+        (outside_at (S.state store.new) (K.state out.new)) }
 {
     let Ok(files) = demo_files(alloc, number) else {
         return no_memory(out);
@@ -195,9 +202,10 @@ fn demonstrate<R: Threads + Sync, G: Gate + Sync, S: Store, K: Sink>(
     write_and_build(rt, alloc, gate, files, workers, store, out)
 }
 
-/// Builds a memory, a read-only memory or a demonstration: it reads what the memory is built of, writes the four views, and
-/// prints the line of success, or that of the first refusal. Nothing is written before all that is to be written and printed is
-/// made, but for the files of a demonstration, which are written first. It answers the exit status, as `run` does.
+/// Builds a memory, a read-only memory or a demonstration: it reads what the memory is built of, writes the four views,
+/// and prints the line of success, or that of the first refusal. Nothing is written before all that is to be written
+/// and printed is made, but for the files of a demonstration, which are written first. It answers the exit status, as
+/// `run` does.
 pub fn make<R: Threads + Sync, G: Gate + Sync, S: Store, K: Sink>(
     rt: &R,
     alloc: Global,
@@ -207,7 +215,8 @@ pub fn make<R: Threads + Sync, G: Gate + Sync, S: Store, K: Sink>(
     out: &mut K,
 ) -> u8
     requires { HasMakingWorkers making }
-    ensures { IsMakingRun (told_making making.entry) result (outside_at (S.state store.old) (K.state out.old)) (outside_at (S.state store.new) (K.state out.new)) }
+    ensures { IsMakingRun (told_making making.entry) result (outside_at (S.state store.old) (K.state out.old))
+        (outside_at (S.state store.new) (K.state out.new)) }
 {
     match making.asked {
         Asked::Build { config } => build_from(rt, alloc, gate, config, making.workers, store, out),

@@ -8,8 +8,8 @@ use reply_lines::ReplyLine;
 use sram_plan::Plan;
 use std::alloc::Global;
 
-/// The line of a memory that was built: its name, the rows and columns of a bank, the tracks of the main channel, the leaf
-/// instances, and the macro's sides.
+/// The line of a memory that was built: its name, the rows and columns of a bank, the tracks of the main channel, the
+/// leaf instances, and the macro's sides.
 pub fn success_line(
     alloc: Global,
     name: &Name,

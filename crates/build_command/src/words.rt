@@ -2,7 +2,8 @@ ghost use Rattle.std.specs.Prelude.{◌≡◌, ◌≢◌, ◌<◌, ◌≤◌, �
 ghost use Rattle.std.specs.Fmt.{decimal};
 ghost use Rattle.std.specs.Option.{option_map};
 ghost use Rattle.std.specs.Str.{bytes_eq};
-ghost use Rattle.build_command.specs.Words.{IsMakingForm, AreNoMaking, build_form, demo_form, rom_form, told_form, told_files, told_making, HasMakingWorkers};
+ghost use Rattle.build_command.specs.Words.{IsMakingForm, AreNoMaking, build_form, demo_form, rom_form, told_form};
+ghost use Rattle.build_command.specs.Words.{told_files, told_making, HasMakingWorkers};
 
 use command_steps::workers_in;
 use itoa::Buffer;

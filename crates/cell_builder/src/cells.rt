@@ -15,8 +15,9 @@ use std::alloc::Global;
 use std::marker::Model;
 use tech_rules::{Layer, Tech};
 
-/// Builds a GDS library cell by cell: each cell gets instances, wires and labels, and may refer to the other cells and to
-/// the structures of adopted libraries. Coordinates are in nanometres. A call that runs out of memory changes nothing.
+/// Builds a GDS library cell by cell: each cell gets instances, wires and labels, and may refer to the other cells and
+/// to the structures of adopted libraries. Coordinates are in nanometres. A call that runs out of memory changes
+/// nothing.
 #[derive(Drop)]
 pub struct Cells {
     alloc: Global,
@@ -87,7 +88,8 @@ impl Cells {
     /// Places an instance of the cell or structure `of` in a cell.
     pub fn place(&mut self, cell: u32, inst: &Name, of: &Name, at: Place) -> Result<(), Memory>
         requires made { cell < length self.old.cells }
-        ensures ok { OnOk result (self.new ≡ with_change cell (add_instance (instance_at inst.now of.now at)) self.old) }
+        ensures ok { OnOk result (self.new
+            ≡ with_change cell (add_instance (instance_at inst.now of.now at)) self.old) }
         ensures err { OnErr result (self.new ≡ self.old) }
     {
         let name = name_copy(self.alloc, inst)?;

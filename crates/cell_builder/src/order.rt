@@ -1,6 +1,7 @@
 ghost use Rattle.std.specs.Prelude.{refl, Some};
 ghost use Rattle.std.specs.Ordering.{eq_by_cmp};
-ghost use Rattle.cell_builder.specs.LabelOrder.{text_order, text_total, text_partial, text_equivalence, text_partial_equivalence};
+ghost use Rattle.cell_builder.specs.LabelOrder.{text_order, text_total, text_partial, text_equivalence};
+ghost use Rattle.cell_builder.specs.LabelOrder.{text_partial_equivalence};
 
 use crate::cell::PlacedLabel;
 use std::cmp::Ordering;

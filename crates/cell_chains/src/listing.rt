@@ -23,7 +23,8 @@ fn cell_of(
     requires sized { length positions.now ≡ length nodes.now.names.items }
     requires inside { node < length nodes.now.names.items }
     requires known { IsKnown nodes.now.firsts.items node }
-    ensures { IfOk result (IsListed structs.now (texts nodes.now.names.items) nodes.now.firsts.items positions.now height node) }
+    ensures { IfOk result (IsListed structs.now (texts nodes.now.names.items) nodes.now.firsts.items positions.now
+        height node) }
 {
     let first = nodes.firsts[node];
     let Some(structure) = first else {
@@ -49,7 +50,8 @@ pub fn listed(
     requires order { IsBottomUp nodes.now.graph.items order.now }
     requires sized { length heights.now ≡ length nodes.now.graph.items }
     requires known { All (IsKnown nodes.now.firsts.items) order.now }
-    ensures { IfOk result (λ cells. AreListed structs.now (texts nodes.now.names.items) nodes.now.firsts.items order.now heights.now cells.items) }
+    ensures { IfOk result (λ cells. AreListed structs.now (texts nodes.now.names.items) nodes.now.firsts.items
+        order.now heights.now cells.items) }
 {
     let positions = positions(alloc, order, nodes.names.len())?;
     let mut cells = Vec::new(alloc);

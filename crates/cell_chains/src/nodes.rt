@@ -1,6 +1,7 @@
 ghost use Rattle.std.specs.Prelude.{◌≡◌, ◌<◌, List, ℕ, length, Contains, IfOk, IfSome};
 ghost use Rattle.cell_chains.specs.Chains.{elements_of};
-ghost use Rattle.cell_chains.specs.Numbering.{texts, referred_names, all_referred, first_from, Rises, AreFirsts, AreReferences, IsGraph, AreNamedNodes};
+ghost use Rattle.cell_chains.specs.Numbering.{texts, referred_names, all_referred, first_from, Rises, AreFirsts};
+ghost use Rattle.cell_chains.specs.Numbering.{AreReferences, IsGraph, AreNamedNodes};
 
 use crate::names::{node_of, referred, sorted_names};
 use gds_library::{Element, Structure};

@@ -27,7 +27,8 @@ fn target_of(names: &[&[u8]], positions: &[usize], element: &Element) -> usize
     requires rises { Rises (texts names.now) }
     requires sized { length positions.now ≡ length names.now }
     requires there { (name : List ℕ) → referred_name element.now ≡ Some name → Contains (texts names.now) name }
-    ensures { (name : List ℕ) → referred_name element.now ≡ Some name → LeadsTo (texts names.now) positions.now name result }
+    ensures { (name : List ℕ) → referred_name element.now ≡ Some name
+        → LeadsTo (texts names.now) positions.now name result }
 {
     let Some(name) = referred(element) else {
         return 0;

@@ -36,9 +36,11 @@ fn counts_of(part: &CellPart) -> SaturatedCounts
 
 /// How much each cell draws itself.
 fn own_counts(alloc: Global, tree: &Tree) -> Result<Vec<SaturatedCounts>, Memory>
-    requires parts { AreCellParts tree.now.layers.now tree.now.keeps_labels tree.now.structs.now tree.now.cells.now (length tree.now.cells.now) tree.now.parts.now }
+    requires parts { AreCellParts tree.now.layers.now tree.now.keeps_labels tree.now.structs.now tree.now.cells.now
+        (length tree.now.cells.now) tree.now.parts.now }
     requires cells { AreAllCells tree.now.structs.now tree.now.cells.now }
-    ensures { IfOk result (λ counts. AreAllOwnCounts tree.now.layers.now tree.now.structs.now tree.now.cells.now counts.items) }
+    ensures { IfOk result (λ counts. AreAllOwnCounts tree.now.layers.now tree.now.structs.now tree.now.cells.now
+        counts.items) }
 {
     let mut counts = Vec::with_capacity(alloc, tree.cells.len())?;
     for index in 0..tree.cells.len() {

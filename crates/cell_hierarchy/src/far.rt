@@ -1,7 +1,8 @@
 ghost use Rattle.std.specs.Prelude.{◌≡◌, ◌↔◌, IsTrue};
 ghost use Rattle.gds_records.specs.Values.{IsShort};
 ghost use Rattle.or_geom.specs.Place.{low_corner, high_corner};
-ghost use Rattle.cell_hierarchy.specs.Far.{IsFirstOf, first_of, upper_left, lower_right, IsFarAt, IsFarCorner, HasFarCorner, HasFarPoint, IsFarIn};
+ghost use Rattle.cell_hierarchy.specs.Far.{IsFirstOf, first_of, upper_left, lower_right, IsFarAt, IsFarCorner};
+ghost use Rattle.cell_hierarchy.specs.Far.{HasFarCorner, HasFarPoint, IsFarIn};
 
 use or_geom::{Point, Rect, Shape};
 use std::cmp::Ordering;

@@ -1,7 +1,7 @@
 use or_geom::{Point, Shape};
 
-/// A label of the flat layout: its path, which is the names of the instances from the top separated by `/`, its name, the
-/// index of its layer in the technology's list, and its point in nanometres. The texts lie in an arena.
+/// A label of the flat layout: its path, which is the names of the instances from the top separated by `/`, its name,
+/// the index of its layer in the technology's list, and its point in nanometres. The texts lie in an arena.
 #[derive(Clone, Copy, Debug)]
 pub struct Label<'b> {
     pub path: &'b str,

@@ -48,8 +48,8 @@ fn flat_of<'b>(
 }
 
 /// The flat layout of a structure: its own shapes and labels and those of all structures that it reaches, each turned,
-/// moved and named by the instances on the way. Errors come in the order of the variants of `FlattenFault`; `Memory` may
-/// come in place of each.
+/// moved and named by the instances on the way. Errors come in the order of the variants of `FlattenFault`; `Memory`
+/// may come in place of each.
 pub fn flatten<'b>(
     alloc: Global,
     bump: &'b Bump,

@@ -1,6 +1,8 @@
 ghost use Rattle.cell_hierarchy.specs.Along.{FlatShapesAreImages, FlatTextsAreAscii};
 ghost use Rattle.cell_hierarchy.specs.Bounds.{FlatLabelsAreFew, FlatShapesAreFew};
-ghost use Rattle.cell_hierarchy.specs.OneAnswer.{FlatListsAreUnique, FlatShapesAreUnique, FlatListsHaveShapes, FlattenFaultsAreUnique, FlattenFaultsExcludeShapes, FlattenFaultsExcludeLists};
+ghost use Rattle.cell_hierarchy.specs.OneAnswer.{FlatListsAreUnique, FlatShapesAreUnique, FlatListsHaveShapes};
+ghost use Rattle.cell_hierarchy.specs.OneAnswer.{FlattenFaultsAreUnique, FlattenFaultsExcludeShapes};
+ghost use Rattle.cell_hierarchy.specs.OneAnswer.{FlattenFaultsExcludeLists};
 
 /// A law for readers: a structure has one pair of flat lists.
 pub fn flat_lists_are_unique()

@@ -1,6 +1,7 @@
 ghost use Rattle.std.specs.Prelude.{refl, Some};
 ghost use Rattle.std.specs.Ordering.{eq_by_cmp};
-ghost use Rattle.cell_hierarchy.specs.LabelLaws.{flat_label_order, flat_label_total, flat_label_partial, flat_label_equivalence, flat_label_partial_equivalence};
+ghost use Rattle.cell_hierarchy.specs.LabelLaws.{flat_label_order, flat_label_total, flat_label_partial};
+ghost use Rattle.cell_hierarchy.specs.LabelLaws.{flat_label_equivalence, flat_label_partial_equivalence};
 
 use crate::flat::Label;
 use std::cmp::Ordering;

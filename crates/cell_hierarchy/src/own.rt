@@ -61,7 +61,8 @@ fn add_labels<'b>(
     requires offset { IsNearPoint at.now.place.at }
     requires near { AllByRecursion (λ label. IsNearPoint label.at) labels.now }
     requires own { AllByRecursion (λ label. label.path.now ≡ []) labels.now }
-    ensures { OnOk result (Adds (map plain_label out.old.items) (map plain_label out.new.items) (SomeGives (LabelGives at.now.path.now at.now.place) labels.now)) }
+    ensures { OnOk result (Adds (map plain_label out.old.items) (map plain_label out.new.items)
+        (SomeGives (LabelGives at.now.path.now at.now.place) labels.now)) }
 {
     for label in labels {
         out.push(Label {

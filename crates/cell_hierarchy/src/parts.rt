@@ -4,7 +4,8 @@ ghost use Rattle.std.specs.List.{AllByRecursion};
 ghost use Rattle.gds_library.specs.declared.library.Structure.{Structure};
 ghost use Rattle.gds_library.specs.Writable.{IsWritableElement, IsWritableCell};
 ghost use Rattle.element_drawing.specs.ElementLabels.{pathless};
-ghost use Rattle.cell_hierarchy.specs.Drawings.{AreAllCells, IsDrawingOf, IsSomeAt, LeadsToSome, IsLiveOf, IsCellPart, AreCellParts, IsBlank};
+ghost use Rattle.cell_hierarchy.specs.Drawings.{AreAllCells, IsDrawingOf, IsSomeAt, LeadsToSome, IsLiveOf, IsCellPart};
+ghost use Rattle.cell_hierarchy.specs.Drawings.{AreCellParts, IsBlank};
 ghost use Rattle.cell_hierarchy.specs.Plain.{plain_label};
 
 use crate::arena::text_in;
@@ -18,7 +19,8 @@ use or_geom::{Memory, Point};
 use std::alloc::Global;
 use tech_rules::Layer;
 
-/// A cell's own drawing, and its references that count: the elements at these indices lead to cells that draw something.
+/// A cell's own drawing, and its references that count: the elements at these indices lead to cells that draw
+/// something.
 #[derive(Drop)]
 pub struct CellPart<'b> {
     pub own: Drawing<'b>,
@@ -115,8 +117,8 @@ fn leads_to_some(element: &Element, target: usize, parts: &[CellPart]) -> bool
     }
 }
 
-/// The elements that lead to cells which draw something: `parts` has the cells so far, and `targets` for each element that
-/// refers to a structure the index of its cell.
+/// The elements that lead to cells which draw something: `parts` has the cells so far, and `targets` for each element
+/// that refers to a structure the index of its cell.
 fn live_references(
     alloc: Global,
     elements: &[Element],
@@ -148,7 +150,8 @@ fn part_of<'b>(
     requires few { length layers.now ≤ 64 }
     requires writable { AllByRecursion IsWritableCell structs.now }
     requires stands { cell.now.structure < length structs.now }
-    requires sized { (s : Structure) → slice_get structs.now cell.now.structure ≡ Some s → length cell.now.targets ≡ length s.elements }
+    requires sized { (s : Structure) → slice_get structs.now cell.now.structure ≡ Some s
+        → length cell.now.targets ≡ length s.elements }
     ensures { IfOk result (IsCellPart layers.now keeps_labels structs.now cell.now below.now) }
 {
     let elements = structs[cell.structure].elements.as_slice();
@@ -169,7 +172,8 @@ pub fn parts_of<'b>(
     requires few { length layers.now ≤ 64 }
     requires writable { AllByRecursion IsWritableCell structs.now }
     requires cells { AreAllCells structs.now cells.now }
-    ensures { IfOk result (λ parts. AreCellParts layers.now keeps_labels structs.now cells.now (length cells.now) parts.items) }
+    ensures { IfOk result (λ parts. AreCellParts layers.now keeps_labels structs.now cells.now
+        (length cells.now) parts.items) }
 {
     let mut parts = Vec::new(alloc);
     for cell in cells {

@@ -15,8 +15,8 @@ use gds_library::Prop;
 use or_geom::{Memory, Name, Place};
 use std::alloc::Global;
 
-/// Where a cell stands below the top: the names of the instances from the top, separated by `/`, and how it is turned and
-/// moved in the top's coordinates. Where no labels are kept the names are left out.
+/// Where a cell stands below the top: the names of the instances from the top, separated by `/`, and how it is turned
+/// and moved in the top's coordinates. Where no labels are kept the names are left out.
 #[derive(Clone, Copy)]
 pub struct Placement<'b> {
     pub path: &'b str,
@@ -81,7 +81,8 @@ pub fn item_below<'b>(
     requires path { IsAscii outer.now.path.now }
     requires writable { IsWritableGrid grid }
     requires spot { IsSpotOf grid spot }
-    ensures { IfOk result (IsPlacedBelow keeps_labels outer.now (array_name n spot.column spot.row) (place_in grid spot.column spot.row)) }
+    ensures { IfOk result (IsPlacedBelow keeps_labels outer.now (array_name n spot.column spot.row)
+        (place_in grid spot.column spot.row)) }
 {
     let place = outer.place.then(place_at(grid, spot));
     if !keeps_labels {

@@ -15,7 +15,8 @@ use or_geom::{Memory, Shape, sort_distinct};
 /// Sorts the labels and drops what stands among them twice.
 fn sort_distinct_labels(labels: &mut Vec<Label>)
     ensures rises { IsStrictlySortedBy label_order (map plain_label labels.new.items) }
-    ensures same { (label : PlainLabel) → Contains (map plain_label labels.new.items) label ↔ Contains (map plain_label labels.old.items) label }
+    ensures same { (label : PlainLabel) → Contains (map plain_label labels.new.items) label
+        ↔ Contains (map plain_label labels.old.items) label }
 {
     labels.sort_unstable();
     labels.dedup();

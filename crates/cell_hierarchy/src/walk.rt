@@ -3,7 +3,8 @@ ghost use Rattle.cell_chains.specs.Hierarchy.{IsCellOf};
 ghost use Rattle.cell_hierarchy.specs.Below.{SomeBelow};
 ghost use Rattle.cell_hierarchy.specs.Grid.{IsWritableGrid, IsSpotOf};
 ghost use Rattle.cell_hierarchy.specs.Things.{DrawingGrows};
-ghost use Rattle.cell_hierarchy.specs.Parts.{IsCellTree, IsPlacedAt, IsBelowAt, IsLiveAt, IsElementOf, IsOfElement, IsOfCellIn, IsOfArrayItem};
+ghost use Rattle.cell_hierarchy.specs.Parts.{IsCellTree, IsPlacedAt, IsBelowAt, IsLiveAt, IsElementOf, IsOfElement};
+ghost use Rattle.cell_hierarchy.specs.Parts.{IsOfCellIn, IsOfArrayItem};
 
 use crate::drawing::Drawing;
 use crate::grid::{ArrayGrid, Spot};
@@ -46,7 +47,8 @@ pub fn add_cell<'b>(
 ) -> Result<(), Memory>
     requires tree { IsCellTree tree.now }
     requires at { IsPlacedAt tree.now index at.now }
-    ensures { OnOk result ((name : List ℕ) → IsCellOf tree.now.structs.now tree.now.cells.now index name → DrawingGrows out.old out.new (IsOfCellIn tree.now at.now name)) }
+    ensures { OnOk result ((name : List ℕ) → IsCellOf tree.now.structs.now tree.now.cells.now index name
+        → DrawingGrows out.old out.new (IsOfCellIn tree.now at.now name)) }
 {
     let part = &tree.parts[index];
     add_own(at, &part.own, out)?;
@@ -121,7 +123,9 @@ fn add_array<'b>(
     requires tree { IsCellTree tree.now }
     requires at { IsBelowAt tree.now array.target at.now }
     requires writable { IsWritableGrid array.grid }
-    ensures { OnOk result ((name : List ℕ) → IsCellOf tree.now.structs.now tree.now.cells.now array.target name → DrawingGrows out.old out.new (SomeBelow (λ column. SomeBelow (IsOfArrayItem tree.now at.now array name column) array.grid.rows) array.grid.columns)) }
+    ensures { OnOk result ((name : List ℕ) → IsCellOf tree.now.structs.now tree.now.cells.now array.target name
+        → DrawingGrows out.old out.new (SomeBelow
+        (λ column. SomeBelow (IsOfArrayItem tree.now at.now array name column) array.grid.rows) array.grid.columns)) }
 {
     for column in 0..array.grid.columns {
         add_column(alloc, bump, tree, array, column, at, out)?;
@@ -144,7 +148,8 @@ fn add_column<'b>(
     requires at { IsBelowAt tree.now array.target at.now }
     requires writable { IsWritableGrid array.grid }
     requires in_grid { column < array.grid.columns }
-    ensures { OnOk result ((name : List ℕ) → IsCellOf tree.now.structs.now tree.now.cells.now array.target name → DrawingGrows out.old out.new (SomeBelow (IsOfArrayItem tree.now at.now array name column) array.grid.rows)) }
+    ensures { OnOk result ((name : List ℕ) → IsCellOf tree.now.structs.now tree.now.cells.now array.target name
+        → DrawingGrows out.old out.new (SomeBelow (IsOfArrayItem tree.now at.now array name column) array.grid.rows)) }
 {
     for row in 0..array.grid.rows {
         add_item(alloc, bump, tree, array, Spot { column, row }, at, out)?;
@@ -167,7 +172,8 @@ fn add_item<'b>(
     requires at { IsBelowAt tree.now array.target at.now }
     requires writable { IsWritableGrid array.grid }
     requires spot { IsSpotOf array.grid spot }
-    ensures { OnOk result ((name : List ℕ) → IsCellOf tree.now.structs.now tree.now.cells.now array.target name → DrawingGrows out.old out.new (IsOfArrayItem tree.now at.now array name spot.column spot.row)) }
+    ensures { OnOk result ((name : List ℕ) → IsCellOf tree.now.structs.now tree.now.cells.now array.target name
+        → DrawingGrows out.old out.new (IsOfArrayItem tree.now at.now array name spot.column spot.row)) }
 {
     let inner = item_below(
         alloc,

@@ -1,9 +1,11 @@
 ghost use Rattle.std.specs.Prelude.{◌≡◌, map};
-ghost use Rattle.cell_roles.specs.LeafRoles.{pin_role, leaf_role_name, leaf_role_ports, leaf_inputs, leaf_stored, leaf_driven, leaf_joined};
+ghost use Rattle.cell_roles.specs.LeafRoles.{pin_role, leaf_role_name, leaf_role_ports, leaf_inputs, leaf_stored};
+ghost use Rattle.cell_roles.specs.LeafRoles.{leaf_driven, leaf_joined};
 
 use crate::role::Role;
 
-/// What a leaf cell is for: one of the roles of a read-write memory, or a cell that holds a fixed bit of a read-only one.
+/// What a leaf cell is for: one of the roles of a read-write memory, or a cell that holds a fixed bit of a read-only
+/// one.
 #[derive(Clone, Copy, PartialEq, Eq, Debug, Drop)]
 pub enum LeafRole {
     Common(Role),

@@ -1,5 +1,5 @@
-//! The roles of a memory's leaf cells, fourteen of a read-write memory and two more of a read-only one: their names and ports, and
-//! what a cell of each role does.
+//! The roles of a memory's leaf cells, fourteen of a read-write memory and two more of a read-only one: their names and
+//! ports, and what a cell of each role does.
 #![tactic(auto)]
 
 mod laws;

@@ -1,5 +1,6 @@
 ghost use Rattle.std.specs.Prelude.{◌≡◌, map};
-ghost use Rattle.cell_roles.specs.Roles.{all_roles, role_name, role_ports, input_pins, stored_bits, driven_pins, joined_pins};
+ghost use Rattle.cell_roles.specs.Roles.{all_roles, role_name, role_ports, input_pins, stored_bits, driven_pins};
+ghost use Rattle.cell_roles.specs.Roles.{joined_pins};
 
 /// What a leaf cell is for. The order is that in which a technology's roles are looked at.
 #[derive(Clone, Copy, PartialEq, Eq, Debug, Drop)]

@@ -4,8 +4,8 @@ ghost use Rattle.channel_router.specs.Occupied.{IsEnded, NoneEnds, Releases, Tak
 use or_geom::Memory;
 use std::collections::BTreeSet;
 
-/// Takes the track that is free first out of the tracks in use, where it is free at `left` or before. A track in use stands
-/// behind the place from which it is free.
+/// Takes the track that is free first out of the tracks in use, where it is free at `left` or before. A track in use
+/// stands behind the place from which it is free.
 fn pop_ended(left: i64, busy: &mut BTreeSet<(i64, u32)>) -> Option<u32>
     ensures ended { IfSome result (IsEnded left busy.old.keys busy.new.keys) }
     ensures none { IfNone result (NoneEnds left busy.new.keys) }

@@ -19,20 +19,24 @@ use or_geom::{Items, Memory, Shape};
 use std::alloc::Global;
 use tech_rules::{RouteFault, Wire};
 
-/// Routes a channel. A net's interval runs from its least to its greatest x over pins and exits. Nets are taken by left end
-/// and then by number, and each gets the lowest track whose last interval ends at least a pitch before. On its track a net
-/// has a trunk on the third metal; each pin has a branch, on the fourth metal up to the channel's upper end or on the second
-/// down to the lower, and a cut between branch and trunk. Pins of one side that are nearer to each other than the pitch are
-/// refused. No assignment of the nets to tracks has fewer tracks. Where cuts join the wires' metals alone, wires of different
-/// nets don't touch, and each net is one net.
+/// Routes a channel. A net's interval runs from its least to its greatest x over pins and exits. Nets are taken by left
+/// end and then by number, and each gets the lowest track whose last interval ends at least a pitch before. On its
+/// track a net has a trunk on the third metal; each pin has a branch, on the fourth metal up to the channel's upper end
+/// or on the second down to the lower, and a cut between branch and trunk. Pins of one side that are nearer to each
+/// other than the pitch are refused. No assignment of the nets to tracks has fewer tracks. Where cuts join the wires'
+/// metals alone, wires of different nets don't touch, and each net is one net.
 pub fn route(alloc: Global, ch: &Channel, wire: &Wire) -> Result<Routed, RouteFault>
     requires sizes { AreSizes wire.now }
     requires layers { AreSevenLayers wire.now }
     requires channel { IsChannel ch.now }
     ensures routed { IfOk result (λ r. (intervals : List Interval) × IsRouted ch.now wire.now intervals r) }
-    ensures dense { IfOk result (λ r. (intervals : List Interval) → AreIntervals ch.now intervals → IsDensity (pitch wire.now) intervals r.tracks) }
-    ensures least { IfOk result (λ r. (intervals : List Interval) (track : List ℕ) (n : ℕ) → AreIntervals ch.now intervals → IsAssignment (pitch wire.now) intervals track → AreTracksBelow track n → r.tracks ≤ n) }
-    ensures nets { IfOk result (λ r. (intervals : List Interval) → AreIntervals ch.now intervals → AreChannelNets ch.now wire.now intervals r.track r.tracks r.shapes) }
+    ensures dense { IfOk result (λ r. (intervals : List Interval) → AreIntervals ch.now intervals
+        → IsDensity (pitch wire.now) intervals r.tracks) }
+    ensures least { IfOk result (λ r. (intervals : List Interval) (track : List ℕ) (n : ℕ)
+        → AreIntervals ch.now intervals → IsAssignment (pitch wire.now) intervals track → AreTracksBelow track n
+        → r.tracks ≤ n) }
+    ensures nets { IfOk result (λ r. (intervals : List Interval) → AreIntervals ch.now intervals
+        → AreChannelNets ch.now wire.now intervals r.track r.tracks r.shapes) }
     ensures apart { IfOk result (λ _. HasClosePins ch.now wire.now → ⊥) }
     ensures fault { IfErr result (IsRouteFault ch.now wire.now) }
 {

@@ -35,7 +35,8 @@ pub fn add_trunks(
     requires near_intervals { AreNearIntervals intervals.now }
     requires forward { AreForward intervals.now }
     requires each { length track.now ≡ length intervals.now }
-    ensures { OnOk result (Adds shapes.old.items shapes.new.items (IsTrunkBelow low wire.now intervals.now track.now (length intervals.now))) }
+    ensures { OnOk result (Adds shapes.old.items shapes.new.items
+        (IsTrunkBelow low wire.now intervals.now track.now (length intervals.now))) }
 {
     for net in 0..intervals.len() {
         let interval = intervals[net];
@@ -68,7 +69,8 @@ pub fn add_top(
     requires near_pins { ArePinsNear pins.now }
     requires of_nets { AreOfNets (length track.now) pins.now }
     requires below { AreTracksBelow track.now tracks }
-    ensures { OnOk result (Adds shapes.old.items shapes.new.items (SomeGives (IsOfTopPin low wire.now track.now tracks) pins.now)) }
+    ensures { OnOk result (Adds shapes.old.items shapes.new.items
+        (SomeGives (IsOfTopPin low wire.now track.now tracks) pins.now)) }
 {
     let end = low + channel_height(wire, tracks);
     for pin in pins {
@@ -100,7 +102,8 @@ pub fn add_bottom(
     requires near { IsNear low }
     requires near_pins { ArePinsNear pins.now }
     requires of_nets { AreOfNets (length track.now) pins.now }
-    ensures { OnOk result (Adds shapes.old.items shapes.new.items (SomeGives (IsOfBottomPin low wire.now track.now) pins.now)) }
+    ensures { OnOk result (Adds shapes.old.items shapes.new.items
+        (SomeGives (IsOfBottomPin low wire.now track.now) pins.now)) }
 {
     for pin in pins {
         let y = low + channel_height(wire, track[pin.net as usize]);

@@ -1,6 +1,7 @@
 ghost use Rattle.reply_lines.specs.Lines.{reply_line};
 ghost use Rattle.reply_lines.specs.Refusals.{refusal_words};
-ghost use Rattle.command_steps.specs.Finished.{IsFinished, IsOutOfMemory, IsFaultLinePrinted, IsUnwrittenPrinted, IsRefusalPrinted};
+ghost use Rattle.command_steps.specs.Finished.{IsFinished, IsOutOfMemory, IsFaultLinePrinted, IsUnwrittenPrinted};
+ghost use Rattle.command_steps.specs.Finished.{IsRefusalPrinted};
 
 use crate::print::print;
 use crate::write::Unwritten;
@@ -60,7 +61,8 @@ fn finish_unread<K: Sink>(alloc: Global, refusal: &Refusal, out: &mut K) -> u8
 
 /// Prints the line of a file that wasn't written, where the store failed, or says that memory ran out.
 pub fn finish_unwritten<K: Sink>(alloc: Global, unwritten: &Unwritten<'_>, out: &mut K) -> u8
-    ensures { IsUnwrittenPrinted unwritten.now.file.now.name unwritten.now.fail result (K.state out.old) (K.state out.new) }
+    ensures { IsUnwrittenPrinted unwritten.now.file.now.name unwritten.now.fail result (K.state out.old)
+        (K.state out.new) }
 {
     match unwritten.fail {
         WriteFail::Failed => match unwritten_line(alloc, &unwritten.file.name) {

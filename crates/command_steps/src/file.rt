@@ -54,7 +54,8 @@ pub fn read_technology_under<S: Store>(
     name: &str,
     store: &mut S,
 ) -> Result<Tech, Refusal>
-    ensures read { HasRead (λ files. IsTechnologyFile files (name.now ++ codes ".toml")) result (S.state store.old) (S.state store.new) }
+    ensures read { HasRead (λ files. IsTechnologyFile files (name.now ++ codes ".toml")) result (S.state store.old)
+        (S.state store.new) }
     ensures good { IfOk result IsTech }
     ensures words { is_usage_outcome result ≡ false }
 {

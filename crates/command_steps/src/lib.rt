@@ -1,4 +1,5 @@
-//! The steps of a command on the outside: files are read and written, lines are printed, and each step says how it ended.
+//! The steps of a command on the outside: files are read and written, lines are printed, and each step says how it
+//! ended.
 #![tactic(auto)]
 
 mod ending;

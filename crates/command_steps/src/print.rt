@@ -35,7 +35,8 @@ fn print_violation<K: Sink>(
     violation: Violation,
     out: &mut K,
 ) -> Result<(), PutFail>
-    ensures written { Puts (K.state out.old).text (K.state out.new).text (reply_line (violation_words layers.now violation)) result }
+    ensures written { Puts (K.state out.old).text (K.state out.new).text
+        (reply_line (violation_words layers.now violation)) result }
     ensures cause { HasCause (K.state out.old).faults (K.state out.new).faults (put_failed result) }
     ensures counted { OnOk result (RoseBy 1 (K.state out.old).puts (K.state out.new).puts) }
 {
@@ -52,7 +53,8 @@ fn print_report<K: Sink>(
     violations: &[Violation],
     out: &mut K,
 ) -> Result<(), PutFail>
-    ensures printed { Prints (report_lines layers.now violations.now) (K.state out.old).text (K.state out.new).text result }
+    ensures printed { Prints (report_lines layers.now violations.now) (K.state out.old).text
+        (K.state out.new).text result }
     ensures cause { HasCause (K.state out.old).faults (K.state out.new).faults (put_failed result) }
     ensures counted { OnOk result (RoseBy (length violations.now) (K.state out.old).puts (K.state out.new).puts) }
 {

@@ -29,7 +29,8 @@ pub fn logic_row_cell(
 ) -> Result<DrawnCell, Memory>
     requires kit { IsKit kit.now }
     requires row { IsRowOfMemory (cell_in kit.now.tech.roles) row.now }
-    ensures { IfOk result (λ cell. (plan : Organization) → IsLogicRow plan (cell_in kit.now.tech.roles) row.now → cell ≡ logic_row_cell plan (layout_kit kit.now) name.now) }
+    ensures { IfOk result (λ cell. (plan : Organization) → IsLogicRow plan (cell_in kit.now.tech.roles) row.now
+        → cell ≡ logic_row_cell plan (layout_kit kit.now) name.now) }
 {
     let instances = side_by_side(alloc, kit, &row.gates, &row.roles)?;
     Ok(bare_cell(alloc, name, b"_logic", instances)?)
@@ -45,7 +46,10 @@ fn side_by_side(
     requires kit { IsKit kit.now }
     requires few { length gates.now ≤ 2 ^ 13 }
     requires roles { length roles.now ≡ length gates.now }
-    ensures { IfOk result (λ placed. (plan : Organization) → gates.now ≡ logic_instances plan (cell_in kit.now.tech.roles) → roles.now ≡ map (logic_role plan) (logic_cells plan) → placed.items ≡ side_by_side plan (layout_kit kit.now) 0 (logic_cells plan)) }
+    ensures { IfOk result (λ placed. (plan : Organization)
+        → gates.now ≡ logic_instances plan (cell_in kit.now.tech.roles)
+        → roles.now ≡ map (logic_role plan) (logic_cells plan)
+        → placed.items ≡ side_by_side plan (layout_kit kit.now) 0 (logic_cells plan)) }
 {
     let mut placed = Vec::new(alloc);
     let mut x = 0;

@@ -1,5 +1,6 @@
 ghost use Rattle.std.specs.Prelude.{◌≡◌, ◌++◌, ◌∷◌, [], map, OnOk};
-ghost use Rattle.sram_netlist.specs.Instances.{Clki, Csd, Wed, Csi, Wei, Wln, Wli, Wrn, Wri, Rdn, Rdi, Dlay, Senn, Seni};
+ghost use Rattle.sram_netlist.specs.Instances.{Clki, Csd, Wed, Csi, Wei, Wln, Wli, Wrn, Wri, Rdn, Rdi, Dlay, Senn};
+ghost use Rattle.sram_netlist.specs.Instances.{Seni};
 ghost use Rattle.sram_netlist.specs.InstanceList.{fixed_cells};
 ghost use Rattle.sram_netlist.specs.Names.{net_name};
 ghost use Rattle.sram_netlist.specs.Netlist.{sense_start};
@@ -23,7 +24,9 @@ pub fn add_control(
     roles: &[RoleName],
     row: &mut Vec<LogicGate>,
 ) -> Result<(), Memory>
-    ensures { OnOk result (row.new.items ≡ row.old.items ++ map (logic_gate (organization plan.now) (cell_in roles.now)) (fixed_cells plan.now.write_size)) }
+    ensures { OnOk result (row.new.items
+        ≡ row.old.items ++ map (logic_gate (organization plan.now) (cell_in roles.now))
+        (fixed_cells plan.now.write_size)) }
 {
     if plan.write_size == 0 {
         return add_read_control(alloc, plan, roles, row);
@@ -46,7 +49,8 @@ fn add_read_control(
     roles: &[RoleName],
     row: &mut Vec<LogicGate>,
 ) -> Result<(), Memory>
-    ensures { OnOk result (row.new.items ≡ row.old.items ++ map (logic_gate (organization plan.now) (cell_in roles.now)) (fixed_cells 0)) }
+    ensures { OnOk result (row.new.items
+        ≡ row.old.items ++ map (logic_gate (organization plan.now) (cell_in roles.now)) (fixed_cells 0)) }
 {
     add_select_latch(alloc, plan, roles, row)?;
     add_select(alloc, plan, roles, row)?;
@@ -62,7 +66,8 @@ fn add_select_latch(
     roles: &[RoleName],
     row: &mut Vec<LogicGate>,
 ) -> Result<(), Memory>
-    ensures { OnOk result (row.new.items ≡ row.old.items ++ map (logic_gate (organization plan.now) (cell_in roles.now)) (Clki ∷ Csd ∷ [])) }
+    ensures { OnOk result (row.new.items
+        ≡ row.old.items ++ map (logic_gate (organization plan.now) (cell_in roles.now)) (Clki ∷ Csd ∷ [])) }
 {
     add_gate(
         alloc,
@@ -93,7 +98,8 @@ fn add_write_latch(
     roles: &[RoleName],
     row: &mut Vec<LogicGate>,
 ) -> Result<(), Memory>
-    ensures { OnOk result (row.new.items ≡ row.old.items ++ map (logic_gate (organization plan.now) (cell_in roles.now)) (Wed ∷ [])) }
+    ensures { OnOk result (row.new.items
+        ≡ row.old.items ++ map (logic_gate (organization plan.now) (cell_in roles.now)) (Wed ∷ [])) }
 {
     add_gate(
         alloc,
@@ -116,7 +122,8 @@ fn add_select(
     roles: &[RoleName],
     row: &mut Vec<LogicGate>,
 ) -> Result<(), Memory>
-    ensures { OnOk result (row.new.items ≡ row.old.items ++ map (logic_gate (organization plan.now) (cell_in roles.now)) (Csi ∷ [])) }
+    ensures { OnOk result (row.new.items
+        ≡ row.old.items ++ map (logic_gate (organization plan.now) (cell_in roles.now)) (Csi ∷ [])) }
 {
     add_gate(
         alloc,
@@ -135,7 +142,8 @@ fn add_write(
     roles: &[RoleName],
     row: &mut Vec<LogicGate>,
 ) -> Result<(), Memory>
-    ensures { OnOk result (row.new.items ≡ row.old.items ++ map (logic_gate (organization plan.now) (cell_in roles.now)) (Wei ∷ [])) }
+    ensures { OnOk result (row.new.items
+        ≡ row.old.items ++ map (logic_gate (organization plan.now) (cell_in roles.now)) (Wei ∷ [])) }
 {
     add_gate(
         alloc,
@@ -154,7 +162,8 @@ fn add_word_line_enable(
     roles: &[RoleName],
     row: &mut Vec<LogicGate>,
 ) -> Result<(), Memory>
-    ensures { OnOk result (row.new.items ≡ row.old.items ++ map (logic_gate (organization plan.now) (cell_in roles.now)) (Wln ∷ Wli ∷ [])) }
+    ensures { OnOk result (row.new.items
+        ≡ row.old.items ++ map (logic_gate (organization plan.now) (cell_in roles.now)) (Wln ∷ Wli ∷ [])) }
 {
     add_gate(
         alloc,
@@ -185,7 +194,8 @@ fn add_write_enable(
     roles: &[RoleName],
     row: &mut Vec<LogicGate>,
 ) -> Result<(), Memory>
-    ensures { OnOk result (row.new.items ≡ row.old.items ++ map (logic_gate (organization plan.now) (cell_in roles.now)) (Wrn ∷ Wri ∷ [])) }
+    ensures { OnOk result (row.new.items
+        ≡ row.old.items ++ map (logic_gate (organization plan.now) (cell_in roles.now)) (Wrn ∷ Wri ∷ [])) }
 {
     add_gate(
         alloc,
@@ -217,7 +227,8 @@ fn add_read(
     roles: &[RoleName],
     row: &mut Vec<LogicGate>,
 ) -> Result<(), Memory>
-    ensures { OnOk result (row.new.items ≡ row.old.items ++ map (logic_gate (organization plan.now) (cell_in roles.now)) (Rdn ∷ Rdi ∷ [])) }
+    ensures { OnOk result (row.new.items
+        ≡ row.old.items ++ map (logic_gate (organization plan.now) (cell_in roles.now)) (Rdn ∷ Rdi ∷ [])) }
 {
     add_gate(
         alloc,
@@ -249,7 +260,8 @@ fn add_sense_enable(
     roles: &[RoleName],
     row: &mut Vec<LogicGate>,
 ) -> Result<(), Memory>
-    ensures { OnOk result (row.new.items ≡ row.old.items ++ map (logic_gate (organization plan.now) (cell_in roles.now)) (Dlay ∷ Senn ∷ Seni ∷ [])) }
+    ensures { OnOk result (row.new.items
+        ≡ row.old.items ++ map (logic_gate (organization plan.now) (cell_in roles.now)) (Dlay ∷ Senn ∷ Seni ∷ [])) }
 {
     add_gate(
         alloc,

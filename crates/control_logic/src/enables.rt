@@ -99,7 +99,9 @@ fn add_bank_enables(
     row: &mut Vec<LogicGate>,
 ) -> Result<(), Memory>
     requires { ArePlanNumbers (numbers_of plan.now) }
-    ensures { OnOk result (row.new.items ≡ row.old.items ++ map (logic_gate (organization plan.now) (cell_in roles.now)) (tabulate_lists (power_of_two plan.now.bank_bits) bank_cells)) }
+    ensures { OnOk result (row.new.items
+        ≡ row.old.items ++ map (logic_gate (organization plan.now) (cell_in roles.now))
+        (tabulate_lists (power_of_two plan.now.bank_bits) bank_cells)) }
 {
     for bank in 0..plan.banks {
         add_bank_word_line(alloc, roles, bank, row)?;
@@ -116,7 +118,9 @@ pub fn add_bank_choices(
     row: &mut Vec<LogicGate>,
 ) -> Result<(), Memory>
     requires { ArePlanNumbers (numbers_of plan.now) }
-    ensures { OnOk result (row.new.items ≡ row.old.items ++ map (logic_gate (organization plan.now) (cell_in roles.now)) (banks_cells (organization plan.now) plan.now.bank_bits)) }
+    ensures { OnOk result (row.new.items
+        ≡ row.old.items ++ map (logic_gate (organization plan.now) (cell_in roles.now))
+        (banks_cells (organization plan.now) plan.now.bank_bits)) }
 {
     if plan.bank_bits == 0 {
         return Ok(());
@@ -131,11 +135,12 @@ pub fn add_bank_choices(
     Ok(())
 }
 
-/// The inputs of the gate of a write enable: the macro's write enable, then the bank where there are several, then the mask
-/// where there are masks. Answers how many they are.
+/// The inputs of the gate of a write enable: the macro's write enable, then the bank where there are several, then the
+/// mask where there are masks. Answers how many they are.
 fn add_enable_inputs(nodes: &mut NameList, plan: &Plan, bank: u32, mask: u32) -> Result<u32, Memory>
     requires { ArePlanNumbers (numbers_of plan.now) }
-    ensures nodes { IfOk result (λ _. nodes.new ≡ nodes.old ++ map (net_name (organization plan.now)) (enable_inputs (organization plan.now) bank mask)) }
+    ensures nodes { IfOk result (λ _. nodes.new ≡ nodes.old ++ map (net_name (organization plan.now))
+        (enable_inputs (organization plan.now) bank mask)) }
     ensures count { IfOk result (λ inputs. inputs ≡ length (enable_inputs (organization plan.now) bank mask)) }
 {
     nodes.add(Spelling::Word(b"wen"))?;
@@ -147,8 +152,10 @@ fn add_enable_inputs(nodes: &mut NameList, plan: &Plan, bank: u32, mask: u32) ->
 /// The bank's line where there are several banks.
 fn add_bank_input(nodes: &mut NameList, plan: &Plan, bank: u32) -> Result<u32, Memory>
     requires { ArePlanNumbers (numbers_of plan.now) }
-    ensures nodes { IfOk result (λ _. nodes.new ≡ nodes.old ++ map (net_name (organization plan.now)) (bank_input (organization plan.now) plan.now.bank_bits bank)) }
-    ensures count { IfOk result (λ inputs. inputs ≡ length (bank_input (organization plan.now) plan.now.bank_bits bank)) }
+    ensures nodes { IfOk result (λ _. nodes.new ≡ nodes.old ++ map (net_name (organization plan.now))
+        (bank_input (organization plan.now) plan.now.bank_bits bank)) }
+    ensures count { IfOk result (λ inputs. inputs
+        ≡ length (bank_input (organization plan.now) plan.now.bank_bits bank)) }
     ensures few { IfOk result (λ inputs. inputs ≤ 1) }
 {
     if plan.bank_bits == 0 {
@@ -160,7 +167,8 @@ fn add_bank_input(nodes: &mut NameList, plan: &Plan, bank: u32) -> Result<u32, M
 
 /// The mask bit where there are masks.
 fn add_mask_input(nodes: &mut NameList, plan: &Plan, mask: u32) -> Result<u32, Memory>
-    ensures nodes { IfOk result (λ _. nodes.new ≡ nodes.old ++ map (net_name (organization plan.now)) (mask_input plan.now.masks mask)) }
+    ensures nodes { IfOk result (λ _. nodes.new ≡ nodes.old ++ map (net_name (organization plan.now))
+        (mask_input plan.now.masks mask)) }
     ensures count { IfOk result (λ inputs. inputs ≡ length (mask_input plan.now.masks mask)) }
     ensures few { IfOk result (λ inputs. inputs ≤ 1) }
 {
@@ -181,7 +189,8 @@ fn add_enable_gate(
     row: &mut Vec<LogicGate>,
 ) -> Result<(), Memory>
     requires { ArePlanNumbers (numbers_of plan.now) }
-    ensures { OnOk result (row.new.items ≡ row.old.items ++ logic_gate (organization plan.now) (cell_in roles.now) (Gn bank mask) ∷ []) }
+    ensures { OnOk result (row.new.items ≡ row.old.items ++ logic_gate (organization plan.now) (cell_in roles.now)
+        (Gn bank mask) ∷ []) }
 {
     let mut nodes = NameList::new(alloc);
     let inputs = add_enable_inputs(&mut nodes, plan, bank, mask)?;
@@ -207,7 +216,8 @@ fn add_enable(
     row: &mut Vec<LogicGate>,
 ) -> Result<(), Memory>
     requires { ArePlanNumbers (numbers_of plan.now) }
-    ensures { OnOk result (row.new.items ≡ row.old.items ++ map (logic_gate (organization plan.now) (cell_in roles.now)) (enable_gates bank mask)) }
+    ensures { OnOk result (row.new.items
+        ≡ row.old.items ++ map (logic_gate (organization plan.now) (cell_in roles.now)) (enable_gates bank mask)) }
 {
     add_enable_gate(alloc, plan, roles, bank, mask, row)?;
     let nodes = [
@@ -234,7 +244,9 @@ fn add_enables_of(
     row: &mut Vec<LogicGate>,
 ) -> Result<(), Memory>
     requires { ArePlanNumbers (numbers_of plan.now) }
-    ensures { OnOk result (row.new.items ≡ row.old.items ++ map (logic_gate (organization plan.now) (cell_in roles.now)) (tabulate_lists (enables_of (organization plan.now)) (enable_gates bank))) }
+    ensures { OnOk result (row.new.items
+        ≡ row.old.items ++ map (logic_gate (organization plan.now) (cell_in roles.now))
+        (tabulate_lists (enables_of (organization plan.now)) (enable_gates bank))) }
 {
     for mask in 0..enables_of(plan) {
         add_enable(alloc, plan, roles, bank, mask, row)?;
@@ -250,7 +262,10 @@ fn add_enables_of_banks(
     row: &mut Vec<LogicGate>,
 ) -> Result<(), Memory>
     requires { ArePlanNumbers (numbers_of plan.now) }
-    ensures { OnOk result (row.new.items ≡ row.old.items ++ map (logic_gate (organization plan.now) (cell_in roles.now)) (tabulate_lists (power_of_two plan.now.bank_bits) (λ bank. tabulate_lists (enables_of (organization plan.now)) (enable_gates bank)))) }
+    ensures { OnOk result (row.new.items
+        ≡ row.old.items ++ map (logic_gate (organization plan.now) (cell_in roles.now))
+        (tabulate_lists (power_of_two plan.now.bank_bits) (λ bank. tabulate_lists (enables_of (organization plan.now))
+        (enable_gates bank)))) }
 {
     for bank in 0..plan.banks {
         add_enables_of(alloc, plan, roles, bank, row)?;
@@ -266,7 +281,9 @@ pub fn add_write_enable_gates(
     row: &mut Vec<LogicGate>,
 ) -> Result<(), Memory>
     requires { ArePlanNumbers (numbers_of plan.now) }
-    ensures { OnOk result (row.new.items ≡ row.old.items ++ map (logic_gate (organization plan.now) (cell_in roles.now)) (enable_cells plan.now.bank_bits plan.now.masks (enables_of (organization plan.now)))) }
+    ensures { OnOk result (row.new.items
+        ≡ row.old.items ++ map (logic_gate (organization plan.now) (cell_in roles.now))
+        (enable_cells plan.now.bank_bits plan.now.masks (enables_of (organization plan.now)))) }
 {
     if plan.bank_bits == 0 && plan.masks == 0 {
         return Ok(());

@@ -23,7 +23,8 @@ fn add_address_bit(
     bit: u32,
     row: &mut Vec<LogicGate>,
 ) -> Result<(), Memory>
-    ensures { OnOk result (row.new.items ≡ row.old.items ++ map (logic_gate (organization plan.now) (cell_in roles.now)) (address_cells bit)) }
+    ensures { OnOk result (row.new.items
+        ≡ row.old.items ++ map (logic_gate (organization plan.now) (cell_in roles.now)) (address_cells bit)) }
 {
     let latch = [
         Spelling::Indexed(b"addr0", bit),
@@ -57,7 +58,9 @@ pub fn add_address(
     row: &mut Vec<LogicGate>,
 ) -> Result<(), Memory>
     requires { ArePlanNumbers (numbers_of plan.now) }
-    ensures { OnOk result (row.new.items ≡ row.old.items ++ map (logic_gate (organization plan.now) (cell_in roles.now)) (tabulate_lists (addr_bits (organization plan.now)) address_cells)) }
+    ensures { OnOk result (row.new.items
+        ≡ row.old.items ++ map (logic_gate (organization plan.now) (cell_in roles.now))
+        (tabulate_lists (addr_bits (organization plan.now)) address_cells)) }
 {
     for bit in 0..plan.addr_bits {
         add_address_bit(alloc, plan, roles, bit, row)?;
@@ -72,7 +75,9 @@ pub fn add_data_latches(
     roles: &[RoleName],
     row: &mut Vec<LogicGate>,
 ) -> Result<(), Memory>
-    ensures { OnOk result (row.new.items ≡ row.old.items ++ map (logic_gate (organization plan.now) (cell_in roles.now)) (tabulate (inputs_of (organization plan.now)) Dd)) }
+    ensures { OnOk result (row.new.items
+        ≡ row.old.items ++ map (logic_gate (organization plan.now) (cell_in roles.now))
+        (tabulate (inputs_of (organization plan.now)) Dd)) }
 {
     for bit in 0..inputs_of(plan) {
         let nodes = [
@@ -99,7 +104,8 @@ pub fn add_mask_latches(
     roles: &[RoleName],
     row: &mut Vec<LogicGate>,
 ) -> Result<(), Memory>
-    ensures { OnOk result (row.new.items ≡ row.old.items ++ map (logic_gate (organization plan.now) (cell_in roles.now)) (tabulate plan.now.masks Dm)) }
+    ensures { OnOk result (row.new.items
+        ≡ row.old.items ++ map (logic_gate (organization plan.now) (cell_in roles.now)) (tabulate plan.now.masks Dm)) }
 {
     for mask in 0..plan.masks {
         let nodes = [

@@ -1,4 +1,5 @@
-//! The control logic of a memory: its logic row as a list of gates, and the cell, the subcircuit and the edges of that row.
+//! The control logic of a memory: its logic row as a list of gates, and the cell, the subcircuit and the edges of that
+//! row.
 #![tactic(auto)]
 
 mod cell;

@@ -37,10 +37,13 @@ pub fn build(
     requires kit { IsKit kit.now }
     requires plan { ArePlanNumbers (numbers_of plan.now) }
     requires few { length cells.old.cells < 2 ^ 31 }
-    ensures cells { OnOk result (cells.new ≡ with_drawn (logic_row_cell (organization plan.now) (layout_kit kit.now) name.now) cells.old) }
-    ensures deck { OnOk result (deck.new ≡ with_subckt (logic_row_subckt (organization plan.now) (cell_in kit.now.tech.roles) name.now) deck.old) }
+    ensures cells { OnOk result (cells.new
+        ≡ with_drawn (logic_row_cell (organization plan.now) (layout_kit kit.now) name.now) cells.old) }
+    ensures deck { OnOk result (deck.new
+        ≡ with_subckt (logic_row_subckt (organization plan.now) (cell_in kit.now.tech.roles) name.now) deck.old) }
     ensures edges { IfOk result (AreEdgesOf (logic_pins kit.now (organization plan.now))) }
-    ensures width { IfOk result (λ edges. edges.width ≡ pos (logic_width (organization plan.now) (layout_kit kit.now))) }
+    ensures width { IfOk result (λ edges. edges.width
+        ≡ pos (logic_width (organization plan.now) (layout_kit kit.now))) }
     ensures height { IfOk result (λ edges. edges.height ≡ pos (logic_height (layout_kit kit.now))) }
     ensures memory { IfErr result (λ fault. fault ≡ part_fault.Memory) }
     ensures same_cells { OnErr result (cells.new ≡ cells.old) }
@@ -68,7 +71,8 @@ fn row_edges(
     requires row { IsLogicRow (organization plan.now) (cell_in kit.now.tech.roles) row.now }
     requires cell { cell.now ≡ logic_row_cell (organization plan.now) (layout_kit kit.now) name.now }
     ensures edges { IfOk result (AreEdgesOf (logic_pins kit.now (organization plan.now))) }
-    ensures width { IfOk result (λ edges. edges.width ≡ pos (logic_width (organization plan.now) (layout_kit kit.now))) }
+    ensures width { IfOk result (λ edges. edges.width
+        ≡ pos (logic_width (organization plan.now) (layout_kit kit.now))) }
     ensures height { IfOk result (λ edges. edges.height ≡ pos (logic_height (layout_kit kit.now))) }
 {
     let width = i64::from(row_width(kit, row));

@@ -23,7 +23,8 @@ use sram_plan::Plan;
 use std::alloc::Global;
 use tech_rules::RoleName;
 
-/// The logic row of a memory: its gates from the left, each with its nodes and the name of its cell, and the role of each.
+/// The logic row of a memory: its gates from the left, each with its nodes and the name of its cell, and the role of
+/// each.
 #[derive(Drop)]
 pub struct LogicRow {
     pub gates: Vec<Instance>,
@@ -50,8 +51,11 @@ fn add_gates(
     row: &mut Vec<LogicGate>,
 ) -> Result<(), Memory>
     requires numbers { ArePlanNumbers (numbers_of plan.now) }
-    requires lines { lines.items ≡ map (logic_gate (organization plan.now) (cell_in roles.now)) (choice_gates plan.now.col_bits ++ groups_gates (organization plan.now).groups plan.now.col_bits) }
-    ensures { OnOk result (row.new.items ≡ row.old.items ++ map (logic_gate (organization plan.now) (cell_in roles.now)) (logic_cells (organization plan.now))) }
+    requires lines { lines.items ≡ map (logic_gate (organization plan.now) (cell_in roles.now))
+        (choice_gates plan.now.col_bits ++ groups_gates (organization plan.now).groups plan.now.col_bits) }
+    ensures { OnOk result (row.new.items
+        ≡ row.old.items ++ map (logic_gate (organization plan.now) (cell_in roles.now))
+        (logic_cells (organization plan.now))) }
 {
     let mut decoder = lines;
     add_control(alloc, plan, roles, row)?;
@@ -82,7 +86,8 @@ fn row_of(alloc: Global, list: Vec<LogicGate>) -> Result<LogicRow, Memory>
 pub fn row_width(kit: &Kit, row: &LogicRow) -> u32
     requires kit { IsKit kit.now }
     requires row { IsRowOfMemory (cell_in kit.now.tech.roles) row.now }
-    ensures is { (plan : Organization) → IsLogicRow plan (cell_in kit.now.tech.roles) row.now → result ≡ total_width plan (layout_kit kit.now) (logic_cells plan) }
+    ensures is { (plan : Organization) → IsLogicRow plan (cell_in kit.now.tech.roles) row.now
+        → result ≡ total_width plan (layout_kit kit.now) (logic_cells plan) }
     ensures few { result ≤ 2 ^ 29 }
 {
     let mut width = 0;

@@ -14,8 +14,9 @@ use reply_lines::{Refusal, Reply};
 use std::alloc::Global;
 use tech_rules::Tech;
 
-/// What the leaf cells of a technology draw otherwise than their subcircuits say, if anything, as an answer: the first difference
-/// of transistors, which looks at nothing but these three. Refused is what `devices` of device_lvs refuses, or memory ran out.
+/// What the leaf cells of a technology draw otherwise than their subcircuits say, if anything, as an answer: the first
+/// difference of transistors, which looks at nothing but these three. Refused is what `devices` of device_lvs refuses,
+/// or memory ran out.
 pub fn answer_devices(
     alloc: Global,
     tech: &Tech,

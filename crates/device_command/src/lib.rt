@@ -1,4 +1,5 @@
-//! What the command `devices` answers: the first difference of transistors in leaf cells as a line, or why there is no answer.
+//! What the command `devices` answers: the first difference of transistors in leaf cells as a line, or why there is no
+//! answer.
 #![tactic(auto)]
 
 mod answer;

@@ -91,7 +91,9 @@ fn transistor_line(
     role: &Name,
     transistor: Transistor<'_>,
 ) -> Result<ReplyLine, Memory>
-    ensures { IfOk result (λ line. line ≡ reply_line (kind.now ∷ role.now ∷ transistor.entry.model.now ∷ transistor.entry.gate.now ∷ transistor.entry.low.now ∷ transistor.entry.high.now ∷ [])) }
+    ensures { IfOk result (λ line. line ≡ reply_line
+        (kind.now ∷ role.now ∷ transistor.entry.model.now ∷ transistor.entry.gate.now ∷ transistor.entry.low.now ∷
+        transistor.entry.high.now ∷ [])) }
 {
     let mut line = kind_line(alloc, kind, role)?;
     add_names(&mut line, transistor.model, transistor.gate)?;
@@ -135,7 +137,8 @@ fn device_line(alloc: Global, difference: &DeviceDiff) -> Result<ReplyLine, Memo
     }
 }
 
-/// The answer to a comparison of transistors: status 0 and no line where there is no difference, else status 1 and its line.
+/// The answer to a comparison of transistors: status 0 and no line where there is no difference, else status 1 and its
+/// line.
 pub fn device_reply(alloc: Global, difference: &Option<DeviceDiff>) -> Result<Reply, Memory>
     ensures { IfOk result (λ reply. reply ≡ device_reply difference.now) }
 {

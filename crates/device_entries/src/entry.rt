@@ -4,8 +4,8 @@ ghost use Rattle.device_entries.specs.Entries.{lesser, greater, entry_of};
 use or_geom::{Memory, Name};
 use std::alloc::Global;
 
-/// A transistor as it is compared: its model, and the nodes of its gate and of its two other terminals, the lesser by its
-/// bytes first. Names are in lower case.
+/// A transistor as it is compared: its model, and the nodes of its gate and of its two other terminals, the lesser by
+/// its bytes first. Names are in lower case.
 #[derive(Debug, Drop)]
 pub struct DeviceEntry {
     pub model: Name,

@@ -1,5 +1,5 @@
-//! What a comparison of transistors counts: those of a subcircuit's lines, and the least that two lists don't have equally
-//! often.
+//! What a comparison of transistors counts: those of a subcircuit's lines, and the least that two lists don't have
+//! equally often.
 #![tactic(auto)]
 
 mod entry;

@@ -84,8 +84,8 @@ fn read_line(alloc: Global, line: &[u8]) -> Result<DeviceLine, Memory>
     }
 }
 
-/// The transistors of the M lines among the lines of a subcircuit that are no instances, or the first M line that has fewer
-/// than six words.
+/// The transistors of the M lines among the lines of a subcircuit that are no instances, or the first M line that has
+/// fewer than six words.
 pub fn line_entries(alloc: Global, lines: &[Name]) -> Result<Vec<DeviceEntry>, LineFault>
     ensures entries { IfOk result (λ e. AreLineEntries lines.now e.items) }
     ensures fault { IfErr result (IsLineFault lines.now) }

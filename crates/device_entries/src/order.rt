@@ -1,6 +1,7 @@
 ghost use Rattle.std.specs.Prelude.{refl, Some};
 ghost use Rattle.std.specs.Ordering.{eq_by_cmp};
-ghost use Rattle.device_entries.specs.EntryOrder.{entry_order, entry_total, entry_partial, entry_equivalence, entry_partial_equivalence};
+ghost use Rattle.device_entries.specs.EntryOrder.{entry_order, entry_total, entry_partial, entry_equivalence};
+ghost use Rattle.device_entries.specs.EntryOrder.{entry_partial_equivalence};
 
 use crate::entry::DeviceEntry;
 use std::cmp::Ordering;

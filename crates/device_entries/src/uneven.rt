@@ -53,9 +53,9 @@ fn comes_first(entries: &[DeviceEntry], others: &[DeviceEntry], place: usize) ->
     }
 }
 
-/// The least entry that the transistors of a layout and those of a subcircuit don't have equally often, if there is one.
-/// Where the lists, in order, part, the lesser entry is the one: what stands before is in both, and all that follows is
-/// greater.
+/// The least entry that the transistors of a layout and those of a subcircuit don't have equally often, if there is
+/// one. Where the lists, in order, part, the lesser entry is the one: what stands before is in both, and all that
+/// follows is greater.
 pub fn least_uneven(drawn: Vec<DeviceEntry>, listed: Vec<DeviceEntry>) -> Option<Uneven>
     ensures none { IfNone result (AreEven drawn.items listed.items) }
     ensures least { IfSome result (IsLeastUneven drawn.items listed.items) }

@@ -78,8 +78,8 @@ fn difference_of_names(
     Ok(None)
 }
 
-/// The first of two differences of transistors, where channels are sound and each name is one net's: a terminal without a
-/// name, or an entry that both sides don't have equally often.
+/// The first of two differences of transistors, where channels are sound and each name is one net's: a terminal without
+/// a name, or an entry that both sides don't have equally often.
 fn difference_of_entries(
     alloc: Global,
     role: &Name,

@@ -1,11 +1,12 @@
 use or_geom::Name;
 
-/// What the cell of a role draws otherwise than its subcircuit says. A `role` is named as in the technology; coordinates are
-/// nanometres in the cell; other names are in lower case, and of two nodes the lesser by its bytes stands first.
+/// What the cell of a role draws otherwise than its subcircuit says. A `role` is named as in the technology;
+/// coordinates are nanometres in the cell; other names are in lower case, and of two nodes the lesser by its bytes
+/// stands first.
 #[derive(Debug, Drop)]
 pub enum DeviceDiff {
-    /// The channel whose least unit cell has this lower left corner isn't sound: it is no box between two sides of diffusion
-    /// and two without, its gate layer is an active layer too, or its gates are on more than one net.
+    /// The channel whose least unit cell has this lower left corner isn't sound: it is no box between two sides of
+    /// diffusion and two without, its gate layer is an active layer too, or its gates are on more than one net.
     NotBox {
         role: Name,
         x: i64,

@@ -1,5 +1,6 @@
 ghost use Rattle.std.specs.Prelude.{◌≢◌, ◌<◌, length, IfOk, MatchOption, None};
-ghost use Rattle.device_lvs.specs.ChannelEntries.{IsNotSound, IsNameless, IsEntryOf, AreNamed, HasEntry, IsFirstChannel, HasNoneOf};
+ghost use Rattle.device_lvs.specs.ChannelEntries.{IsNotSound, IsNameless, IsEntryOf, AreNamed, HasEntry};
+ghost use Rattle.device_lvs.specs.ChannelEntries.{IsFirstChannel, HasNoneOf};
 ghost use Rattle.device_lvs.specs.EntrySteps.{HaveDevices, AreReadAs};
 ghost use Rattle.device_lvs.specs.Lookup.{table_names, IsSearchable};
 
@@ -19,7 +20,8 @@ pub enum ChannelEntries {
 
 /// The first channel that isn't sound, by its least corner.
 pub fn first_unsound(channels: &[Channel]) -> Option<Point>
-    ensures { MatchOption result (HasNoneOf IsNotSound channels.now) (λ p. IsFirstChannel IsNotSound channels.now p.x p.y) }
+    ensures { MatchOption result (HasNoneOf IsNotSound channels.now)
+        (λ p. IsFirstChannel IsNotSound channels.now p.x p.y) }
 {
     for channel in channels {
         if channel.terminals.is_none() {
@@ -37,7 +39,8 @@ fn entry_at(
     terminals: Terminals,
 ) -> Result<Option<DeviceEntry>, Memory>
     requires { IsSearchable table.now }
-    ensures { IfOk result (λ e. MatchOption e (AreNamed (table_names table.now) terminals → ⊥) (HasEntry (table_names table.now) device.now terminals)) }
+    ensures { IfOk result (λ e. MatchOption e (AreNamed (table_names table.now) terminals
+        → ⊥) (HasEntry (table_names table.now) device.now terminals)) }
 {
     let Some(gate) = table.name_of(terminals.gate) else {
         return Ok(None);
@@ -62,7 +65,8 @@ fn read_channel(
     requires search { IsSearchable table.now }
     requires sound { channel.now.terminals ≢ None }
     requires there { channel.now.device < length devices.now }
-    ensures { IfOk result (λ e. MatchOption e (IsNameless (table_names table.now) channel.now) (IsEntryOf devices.now (table_names table.now) channel.now)) }
+    ensures { IfOk result (λ e. MatchOption e (IsNameless (table_names table.now) channel.now)
+        (IsEntryOf devices.now (table_names table.now) channel.now)) }
 {
     let Some(terminals) = channel.terminals else {
         unreachable!();

@@ -12,7 +12,8 @@ pub enum DeviceFault {
     UnknownSubckt { name: Name },
     /// The subcircuit has an instance.
     Nested { role: Name },
-    /// The M line with this number, from 0 among the subcircuit's lines that are no instances, has fewer than six words.
+    /// The M line with this number, from 0 among the subcircuit's lines that are no instances, has fewer than six
+    /// words.
     BadDevice { role: Name, line: u64 },
     /// Memory ran out.
     Memory,

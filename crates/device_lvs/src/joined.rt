@@ -23,7 +23,8 @@ fn is_joined_at(nets: &[(u32, &[u8])], place: usize) -> bool
 fn is_less_at(nets: &[(u32, &[u8])], place: usize, other: usize) -> bool
     requires place { place + 1 < length nets.now }
     requires other { other + 1 < length nets.now }
-    ensures { result ≡ is_lt (pair_order (names_at (map net_first nets.now) place) (names_at (map net_first nets.now) other)) }
+    ensures { result ≡ is_lt (pair_order (names_at (map net_first nets.now) place)
+        (names_at (map net_first nets.now) other)) }
 {
     let by_first = nets[place].1.cmp(nets[other].1);
     by_first
@@ -78,7 +79,8 @@ fn names_at(alloc: Global, nets: &[(u32, &[u8])], place: usize) -> Result<(Name,
 
 /// The least two names that are on one net, the lesser first, if there are any.
 pub fn least_joined(alloc: Global, names: &[NetName]) -> Result<Option<(Name, Name)>, Memory>
-    ensures { IfOk result (λ found. MatchOption found (AreNotJoined names.now) (λ pair. IsLeastPair names.now pair.0 pair.1)) }
+    ensures { IfOk result (λ found. MatchOption found (AreNotJoined names.now)
+        (λ pair. IsLeastPair names.now pair.0 pair.1)) }
 {
     let sorted = nets_in_order(alloc, names)?;
     match least_place(&sorted) {

@@ -42,7 +42,8 @@ impl<'a> NameTable<'a> {
     /// A name of the net with this number, if it has one.
     pub fn name_of(&self, net: u32) -> Option<&'a [u8]>
         requires { IsSearchable self.now }
-        ensures { MatchOption result (HasSomeName (table_names self.now) net → ⊥) (λ name. HasName (table_names self.now) net name.now) }
+        ensures { MatchOption result (HasSomeName (table_names self.now) net
+            → ⊥) (λ name. HasName (table_names self.now) net name.now) }
     {
         match self.nets.binary_search(&net) {
             Ok(place) => Some(self.named[place].1),

@@ -9,7 +9,8 @@ ghost use Rattle.tech_rules.specs.Facts.{IsTech};
 ghost use Rattle.cell_hierarchy.specs.FlatLists.{AreFlatLists};
 ghost use Rattle.cell_hierarchy.specs.Plain.{lists_of};
 ghost use Rattle.device_lvs.specs.Roles.{AreListedEntries, IsListFault, IsFaultOfRole};
-ghost use Rattle.device_lvs.specs.RoleSteps.{leaf_files, IsRoleComparedAs, IsFlattenFault, ArePlainEntries, IsPlainFault};
+ghost use Rattle.device_lvs.specs.RoleSteps.{leaf_files, IsRoleComparedAs, IsFlattenFault, ArePlainEntries};
+ghost use Rattle.device_lvs.specs.RoleSteps.{IsPlainFault};
 
 use crate::compare::difference_in;
 use crate::difference::DeviceDiff;

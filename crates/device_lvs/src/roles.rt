@@ -43,9 +43,9 @@ fn has_earlier_cell(roles: &[RoleName], place: usize) -> bool
     false
 }
 
-/// What the cells of a technology's roles draw otherwise than their subcircuits say, if anything: the first difference, by
-/// role. Refused is a technology without devices, and then the first role, in the technology's order, whose cell has no flat
-/// layout, or whose subcircuit is missing, has an instance, or has an M line with fewer than six words.
+/// What the cells of a technology's roles draw otherwise than their subcircuits say, if anything: the first difference,
+/// by role. Refused is a technology without devices, and then the first role, in the technology's order, whose cell has
+/// no flat layout, or whose subcircuit is missing, has an instance, or has an M line with fewer than six words.
 pub fn devices(
     alloc: Global,
     tech: &Tech,

@@ -21,7 +21,8 @@ fn is_split_at(names: &[(&[u8], u32)], place: usize) -> bool
 
 /// The first place at which one name stands beside itself with another net.
 fn first_split(names: &[(&[u8], u32)]) -> Option<usize>
-    ensures { MatchOption result (AreNotSplitBelow (map name_first names.now) (length names.now)) (IsFirstSplit (map name_first names.now)) }
+    ensures { MatchOption result (AreNotSplitBelow (map name_first names.now) (length names.now))
+        (IsFirstSplit (map name_first names.now)) }
 {
     if names.is_empty() {
         return None;

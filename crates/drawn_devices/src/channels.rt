@@ -37,8 +37,8 @@ fn channel_shapes(alloc: Global, device: &Device, shapes: &[Shape]) -> Result<Ve
     Ok(list)
 }
 
-/// The boxes of each channel of a device, the channels in the order of their least cells. The first box of each begins at
-/// its channel's least cell.
+/// The boxes of each channel of a device, the channels in the order of their least cells. The first box of each begins
+/// at its channel's least cell.
 pub fn channel_groups(
     alloc: Global,
     device: &Device,

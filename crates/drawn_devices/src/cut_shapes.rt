@@ -34,7 +34,8 @@ fn add_layer(
     out: &mut Vec<Shape>,
 ) -> Result<(), Memory>
     requires { index < length devices.now }
-    ensures { OnOk result ((first : List Shape) → IsDiffusionAdded devices.now shapes.now index first out.old.items → IsDiffusionAdded devices.now shapes.now (index + 1) first out.new.items) }
+    ensures { OnOk result ((first : List Shape) → IsDiffusionAdded devices.now shapes.now index first out.old.items
+        → IsDiffusionAdded devices.now shapes.now (index + 1) first out.new.items) }
 {
     let layer = devices[index].active;
     // The diffusion of a layer is added once, with the first of its devices.

@@ -107,12 +107,12 @@ fn channels_of(alloc: Global, cell: &CutCell) -> Result<Items<Channel>, Memory>
     Ok(channels)
 }
 
-/// The transistors that a cell draws: the channels of the technology's devices, each with the numbers of its terminals' nets
-/// if it is sound, and the names that the cell's own labels give to nets. Nets are those of touching shapes, of which active
-/// shapes conduct where no gate of a device lies over them.
+/// The transistors that a cell draws: the channels of the technology's devices, each with the numbers of its terminals'
+/// nets if it is sound, and the names that the cell's own labels give to nets. Nets are those of touching shapes, of
+/// which active shapes conduct where no gate of a device lies over them.
 ///
-/// The coordinates of the shapes are within 2^40. Active shapes are cut into boxes by the gates; the memory and the time
-/// grow with these boxes, and not with areas.
+/// The coordinates of the shapes are within 2^40. Active shapes are cut into boxes by the gates; the memory and the
+/// time grow with these boxes, and not with areas.
 pub fn drawn_devices(alloc: Global, tech: &Tech, flat: &Flat) -> Result<DrawnDevices, Memory>
     requires near { AreReachable flat.now.shapes.now }
     requires few { length tech.now.devices ≤ 65535 }

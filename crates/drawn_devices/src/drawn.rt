@@ -25,8 +25,8 @@ pub struct NetName {
     pub net: u32,
 }
 
-/// The numbers of the nets that a channel's gate and its two open sides are on. The first open side is the left or the lower
-/// one.
+/// The numbers of the nets that a channel's gate and its two open sides are on. The first open side is the left or the
+/// lower one.
 #[derive(Clone, Copy, Debug)]
 pub struct Terminals {
     pub gate: u32,
@@ -34,8 +34,8 @@ pub struct Terminals {
     pub second: u32,
 }
 
-/// A channel: the index of its device in the technology's list, the lower left corner of its least unit cell in nanometres,
-/// and its terminals if it is sound.
+/// A channel: the index of its device in the technology's list, the lower left corner of its least unit cell in
+/// nanometres, and its terminals if it is sound.
 #[derive(Clone, Copy, Debug)]
 pub struct Channel {
     pub device: u16,

@@ -102,8 +102,8 @@ fn is_net_of_all(
     Ok(have_net_if_over(bins, nets, layer, area, net, &near))
 }
 
-/// The number of the net on which all shapes of the layer are that share area with the area, if there are such and they are
-/// on one.
+/// The number of the net on which all shapes of the layer are that share area with the area, if there are such and they
+/// are on one.
 pub fn net_of_all(
     alloc: Global,
     bins: &Bins,
@@ -112,7 +112,9 @@ pub fn net_of_all(
     area: Rect,
 ) -> Result<Option<u32>, Memory>
     requires { length nets.now ≡ length bins.now }
-    ensures { IfOk result (λ found. MatchOption found ((net : ℕ) → IsNetOver bins.now nets.now layer area net → IsNetOfAll bins.now nets.now layer area net → ⊥) (λ net. IsNetOver bins.now nets.now layer area net × IsNetOfAll bins.now nets.now layer area net)) }
+    ensures { IfOk result (λ found. MatchOption found ((net : ℕ) → IsNetOver bins.now nets.now layer area net
+        → IsNetOfAll bins.now nets.now layer area net → ⊥) (λ net. IsNetOver bins.now nets.now layer area net
+        × IsNetOfAll bins.now nets.now layer area net)) }
 {
     let Some(net) = net_over(bins, nets, layer, area) else {
         return Ok(None);

@@ -1,6 +1,7 @@
 ghost use Rattle.drawn_devices.specs.ChannelSets.{ChannelsAreThese, TheseAreChannels};
 
-/// A law for readers: the cells to which lists of channel cells lead from one are a channel, as a maximal connected set.
+/// A law for readers: the cells to which lists of channel cells lead from one are a channel, as a maximal connected
+/// set.
 pub fn these_are_channels()
     ensures { TheseAreChannels }
 {}

@@ -17,7 +17,8 @@ use std::alloc::Global;
 /// The name that a label gives to a net, if it gives one.
 fn name_of(alloc: Global, cell: &CutCell, label: &Label) -> Result<Option<NetName>, Memory>
     requires { IsCutCell cell.now }
-    ensures { IfOk result (λ given. (number : Member → ℕ) → AreNumbersIn cell.now number → GivesName cell.now.tech.now cell.now.shapes.now number (plain_label label.now) given) }
+    ensures { IfOk result (λ given. (number : Member → ℕ) → AreNumbersIn cell.now number
+        → GivesName cell.now.tech.now cell.now.shapes.now number (plain_label label.now) given) }
 {
     if !label.path.is_empty() {
         return Ok(None);
@@ -50,7 +51,9 @@ fn label_at<'b>(labels: &[Label<'b>], index: usize) -> Label<'b>
 /// The names that the labels give to nets.
 pub fn names_of(alloc: Global, cell: &CutCell, labels: &[Label]) -> Result<Items<NetName>, Memory>
     requires { IsCutCell cell.now }
-    ensures { IfOk result (λ names. (number : Member → ℕ) → AreNumbersIn cell.now number → (entry : NetName) → Contains names entry ↔ IsNetName cell.now.tech.now cell.now.shapes.now (map plain_label labels.now) number entry) }
+    ensures { IfOk result (λ names. (number : Member → ℕ) → AreNumbersIn cell.now number → (entry : NetName)
+        → Contains names entry ↔ IsNetName cell.now.tech.now cell.now.shapes.now
+        (map plain_label labels.now) number entry) }
 {
     let mut names = Items::new(alloc);
     for index in 0..labels.len() {

@@ -54,8 +54,8 @@ fn add_same(earlier: u16, index: u16, place: usize, out: &mut Items<Channel>) ->
     })
 }
 
-/// Adds the channels of a device that has the layers of an earlier one: they are those of that one. The cell is told for proofs
-/// alone.
+/// Adds the channels of a device that has the layers of an earlier one: they are those of that one. The cell is told
+/// for proofs alone.
 pub fn add_same_channels(
     _cell: &CutCell,
     other: u16,

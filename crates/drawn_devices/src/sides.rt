@@ -2,7 +2,8 @@ ghost use Rattle.std.specs.Prelude.{◌≡◌, ◌↔◌, IsTrue, MatchOption};
 ghost use Rattle.or_geom.specs.Distance.{IsReachable};
 ghost use Rattle.drawn_devices.specs.CutCell.{IsCutCell};
 ghost use Rattle.drawn_devices.specs.Diffusion.{IsActive};
-ghost use Rattle.drawn_devices.specs.Sides.{IsColumn, HasRoom, IsOpen, IsPassed, IsRow, IsShut, IsStrip, crosswise, first_side, second_side};
+ghost use Rattle.drawn_devices.specs.Sides.{IsColumn, HasRoom, IsOpen, IsPassed, IsRow, IsShut, IsStrip, crosswise};
+ghost use Rattle.drawn_devices.specs.Sides.{first_side, second_side};
 
 use crate::cut_cell::CutCell;
 use crate::drawn::{Flow, Side};
@@ -118,7 +119,8 @@ pub fn flow_of(cell: &CutCell, layer: u16, area: Rect) -> Option<Flow>
     requires cut { IsCutCell cell.now }
     requires active { IsActive cell.now.tech.now.devices layer }
     requires near { IsReachable area }
-    ensures { MatchOption result ((flow : Flow) → IsPassed cell.now.tech.now cell.now.shapes.now layer area flow → ⊥) (IsPassed cell.now.tech.now cell.now.shapes.now layer area) }
+    ensures { MatchOption result ((flow : Flow) → IsPassed cell.now.tech.now cell.now.shapes.now layer area flow
+        → ⊥) (IsPassed cell.now.tech.now cell.now.shapes.now layer area) }
 {
     if is_passed(cell, layer, area, Flow::Across) {
         return Some(Flow::Across);

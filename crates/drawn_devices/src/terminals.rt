@@ -56,7 +56,8 @@ pub fn terminals_of(
     requires device { Contains cell.now.tech.now.devices device.now }
     requires least { IsChannelCell cell.now.shapes.now device.now _least }
     requires boxes { HaveCellsOf cell.now.shapes.now device.now _least boxes.now }
-    ensures { IfOk result (λ terminals. (number : Member → ℕ) → AreNumbersIn cell.now number → TerminalsAre cell.now.tech.now cell.now.shapes.now number device.now _least terminals) }
+    ensures { IfOk result (λ terminals. (number : Member → ℕ) → AreNumbersIn cell.now number
+        → TerminalsAre cell.now.tech.now cell.now.shapes.now number device.now _least terminals) }
 {
     let nets = cell.nets.as_slice();
     if is_active(cell.tech.devices.as_slice(), device.gate) {

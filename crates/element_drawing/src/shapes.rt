@@ -52,7 +52,8 @@ fn add_shapes(
 ) -> Result<(), Memory>
     requires few { length layers.now ≤ 64 }
     requires writable { IsWritableElement element.now }
-    ensures { OnOk result ((added : List Shape) × (out.new.items ≡ out.old.items ++ added) × AreShapesOf layers.now element.now added) }
+    ensures { OnOk result ((added : List Shape) × (out.new.items ≡ out.old.items ++ added)
+        × AreShapesOf layers.now element.now added) }
 {
     let Some(layer) = drawn_on(layers, element) else {
         return Ok(());

@@ -4,8 +4,8 @@ ghost use Rattle.element_drawing.specs.Segments.{IsShortStretch, IsStretchExtent
 use crate::extent::AxisExtent;
 use or_geom::Rect;
 
-/// What a segment of a path takes of one axis, in nanometres: from where to where, and how much longer its box is before
-/// and after.
+/// What a segment of a path takes of one axis, in nanometres: from where to where, and how much longer its box is
+/// before and after.
 #[derive(Clone, Copy)]
 pub struct Stretch {
     pub from: i64,

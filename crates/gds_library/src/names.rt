@@ -24,7 +24,8 @@ impl<'a> StructureNames<'a> {
     /// Adds a name, and says whether it is new.
     pub fn add(&mut self, name: &'a [u8]) -> Result<bool, Memory>
         ensures new { IfOk result (λ new. new ≡ not (has_name self.old name.now)) }
-        ensures added { OnOk result ((text : List ℕ) → has_name self.new text ≡ (bytes_eq text name.now || has_name self.old text)) }
+        ensures added { OnOk result ((text : List ℕ)
+            → has_name self.new text ≡ (bytes_eq text name.now || has_name self.old text)) }
     {
         Ok(self.seen.insert(name)?)
     }

@@ -152,8 +152,8 @@ fn finish(bytes: &[u8], library: Library, rest: &[u8]) -> Result<Library, GdsFau
 ///
 /// REFLIBS, FONTS, ATTRTABLE, GENERATIONS, ELFLAGS, PLEX, PRESENTATION, dates, NODE and BOX elements, how a label is
 /// drawn, and zero bytes after ENDLIB are read and dropped. A boundary's points are those at which it turns; a path has
-/// a width, and no round ends or extensions; a reference is turned by multiples of 90 degrees and not magnified. What is
-/// read can be written.
+/// a width, and no round ends or extensions; a reference is turned by multiples of 90 degrees and not magnified. What
+/// is read can be written.
 ///
 /// The bytes are refused exactly where they are no library, and then by the first record that no library has after
 /// those before it. `Memory` means out of memory, whatever the bytes are.

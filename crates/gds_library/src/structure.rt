@@ -4,7 +4,8 @@ ghost use Rattle.gds_records.specs.Reading.{taken_at};
 ghost use Rattle.gds_records.specs.declared.error.Demand.TheVariants as demand;
 ghost use Rattle.gds_library.specs.declared.library.Structure.{Structure};
 ghost use Rattle.gds_library.specs.Grammar.{kept_elements};
-ghost use Rattle.gds_library.specs.ReadLibrary.{elements_at, new_text_of, structure_at, structures_at, AreStructureNames, AreStructureNamesAnd};
+ghost use Rattle.gds_library.specs.ReadLibrary.{elements_at, new_text_of, structure_at, structures_at};
+ghost use Rattle.gds_library.specs.ReadLibrary.{AreStructureNames, AreStructureNamesAnd};
 
 use crate::item::item_from;
 use crate::library::{Element, Structure};
@@ -55,7 +56,8 @@ fn name_from<'a>(
     names: &mut StructureNames<'a>,
     bytes: &'a [u8],
 ) -> Result<(Name, &'a [u8]), RecordError>
-    ensures read { (before : List Structure) → AreStructureNames names.old before → MatchesReader (λ p. (p.0, p.1.now)) (λ z. z) result
+    ensures read { (before : List Structure) → AreStructureNames names.old before
+        → MatchesReader (λ p. (p.0, p.1.now)) (λ z. z) result
         (taken_at demand.NewName STRNAME (new_text_of before) (records_of bytes.now)) }
     ensures names { (before : List Structure) → AreStructureNames names.old before → IfOk result
         (λ p. AreStructureNamesAnd names.new p.0 before) }
@@ -76,7 +78,8 @@ fn structure_from<'a>(
     names: &mut StructureNames<'a>,
     bytes: &'a [u8],
 ) -> Result<(Structure, &'a [u8]), RecordError>
-    ensures read { (before : List Structure) → AreStructureNames names.old before → MatchesReader (λ p. (p.0, p.1.now)) (λ z. z) result
+    ensures read { (before : List Structure) → AreStructureNames names.old before
+        → MatchesReader (λ p. (p.0, p.1.now)) (λ z. z) result
         (structure_at before (records_of bytes.now)) }
     ensures names { (before : List Structure) → AreStructureNames names.old before → IfOk result
         (λ p. AreStructureNamesAnd names.new p.0.name before) }

@@ -5,8 +5,8 @@ ghost use Rattle.gds_records.specs.Record.{is_formed, record_of};
 
 use crate::form::{form_of_code, suits};
 
-/// A record as it stands in a file: its code and its data. Where no whole record stands, as at the end of a file that is
-/// cut short, it is not whole, and its data is all that is left.
+/// A record as it stands in a file: its code and its data. Where no whole record stands, as at the end of a file that
+/// is cut short, it is not whole, and its data is all that is left.
 #[derive(Clone, Copy)]
 pub struct Record<'a> {
     pub whole: bool,

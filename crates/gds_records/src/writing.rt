@@ -3,7 +3,8 @@ ghost use Rattle.std.specs.Int.{w16};
 ghost use Rattle.std.specs.List.{AllByRecursion};
 ghost use Rattle.gds_records.specs.Bytes.{two_bytes, record_bytes};
 ghost use Rattle.gds_records.specs.Values.{IsShort};
-ghost use Rattle.gds_records.specs.Writing.{int16_bytes, int32_bytes, point_bytes, points_bytes, text_bytes, record_with};
+ghost use Rattle.gds_records.specs.Writing.{int16_bytes, int32_bytes, point_bytes, points_bytes, text_bytes};
+ghost use Rattle.gds_records.specs.Writing.{record_with};
 ghost use Rattle.gds_records.specs.declared.limits.TheConstants.{MOST_CHARACTERS};
 
 use or_geom::{Memory, Name, Point};

@@ -1,6 +1,7 @@
 ghost use Rattle.std.specs.Prelude.{◌≡◌, ◌↔◌, IsTrue};
 ghost use Rattle.rectilinear.specs.Simple.{MeetAtMostThere, MeetAsNeighbours};
-ghost use Rattle.gds_stream.specs.Bounds.{AreBoundsOf, AreCommonBounds, AreEmptyBounds, HoldsAtMost, HoldsPoints, IsWidened};
+ghost use Rattle.gds_stream.specs.Bounds.{AreBoundsOf, AreCommonBounds, AreEmptyBounds, HoldsAtMost, HoldsPoints};
+ghost use Rattle.gds_stream.specs.Bounds.{IsWidened};
 
 use or_geom::Point;
 use rectilinear::Side;

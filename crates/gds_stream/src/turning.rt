@@ -54,8 +54,8 @@ pub fn goes_right(from: &[Point], before: &[Point]) -> bool
     first.y == second.y && first.x < second.x
 }
 
-/// Adds the bytes of a ring and of its first corner again: from this corner on through the others to the last ones before
-/// it, or the other way round.
+/// Adds the bytes of a ring and of its first corner again: from this corner on through the others to the last ones
+/// before it, or the other way round.
 pub fn append_closed(
     out: &mut Vec<u8>,
     forward: bool,

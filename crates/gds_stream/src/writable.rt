@@ -5,7 +5,9 @@ ghost use Rattle.gds_library.specs.declared.library.Structure.{Structure};
 ghost use Rattle.gds_records.specs.Values.{IsShort};
 ghost use Rattle.gds_library.specs.Values.{displaced};
 ghost use Rattle.gds_stream.specs.NewName.{IsNewName};
-ghost use Rattle.gds_library.specs.Writable.{IsText, IsPrintable, IsWritableProp, IsWritableRing, IsWritableTrack, IsWritableArray, IsWritableBody, IsWritableElement, IsWritableCell, IsWritable};
+ghost use Rattle.gds_library.specs.Writable.{IsText, IsPrintable, IsWritableProp, IsWritableRing, IsWritableTrack};
+ghost use Rattle.gds_library.specs.Writable.{IsWritableArray, IsWritableBody, IsWritableElement, IsWritableCell};
+ghost use Rattle.gds_library.specs.Writable.{IsWritable};
 
 use crate::simple_ring::{are_straight, is_simple_ring};
 use crate::write::properties_of;
@@ -260,16 +262,16 @@ fn names_differ(structs: &[Structure]) -> bool
     true
 }
 
-/// Whether a library can be written: each value is one that `read_gds` can give. Its name, those of its structures, and all
-/// other texts are 1 to 512 printable characters; no two structures have one name; coordinates, in database units, fit 32
-/// bits, those of the two displaced origins of an array too. A boundary has 4 to 8190 corners, from any of them on and in
-/// either direction, its sides are parallel to the axes and meet only as neighbours, and no corner lies inside a straight
-/// run. A path has flush ends (0) or ends longer by half the width (2), a positive even width, 2 to 8191 points, and
-/// segments parallel to the axes. An array has one or more columns and rows.
+/// Whether a library can be written: each value is one that `read_gds` can give. Its name, those of its structures, and
+/// all other texts are 1 to 512 printable characters; no two structures have one name; coordinates, in database units,
+/// fit 32 bits, those of the two displaced origins of an array too. A boundary has 4 to 8190 corners, from any of them
+/// on and in either direction, its sides are parallel to the axes and meet only as neighbours, and no corner lies
+/// inside a straight run. A path has flush ends (0) or ends longer by half the width (2), a positive even width, 2 to
+/// 8191 points, and segments parallel to the axes. An array has one or more columns and rows.
 ///
 /// It takes no memory. So names are compared two by two, in the square of the number of structures, most of them by
-/// their lengths or first characters. The sides of a boundary are compared half by half, and halves whose boxes are apart
-/// at once: in the square of its corners only where most of its sides lie side by side.
+/// their lengths or first characters. The sides of a boundary are compared half by half, and halves whose boxes are
+/// apart at once: in the square of its corners only where most of its sides lie side by side.
 pub fn is_writable(lib: &Library) -> bool
     ensures { IsTrue result ↔ IsWritable lib.now }
 {

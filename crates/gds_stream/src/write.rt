@@ -10,9 +10,12 @@ ghost use Rattle.gds_records.specs.Writing.{int16_bytes, int32_bytes, points_byt
 ghost use Rattle.gds_library.specs.Values.{displaced};
 ghost use Rattle.gds_library.specs.Grammar.{Spells};
 ghost use Rattle.gds_stream.specs.Turned.{turned_ring, turned_library};
-ghost use Rattle.gds_stream.specs.Canonical.{property_records, end_records, orient_records, closed_ring, element_records, structure_records, canonical};
-ghost use Rattle.gds_library.specs.Writable.{IsText, IsWritableProp, IsWritableRing, IsWritableTrack, IsWritableArray, IsWritableBody, IsWritableElement, IsWritableCell, IsWritable, props_of};
-ghost use Rattle.gds_stream.specs.Written.{HasShortAttribute, HasShortLayers, HasShortNumbers, AreShortNumbers, lattice_records, body_records, head_records};
+ghost use Rattle.gds_stream.specs.Canonical.{property_records, end_records, orient_records, closed_ring};
+ghost use Rattle.gds_stream.specs.Canonical.{element_records, structure_records, canonical};
+ghost use Rattle.gds_library.specs.Writable.{IsText, IsWritableProp, IsWritableRing, IsWritableTrack, IsWritableArray};
+ghost use Rattle.gds_library.specs.Writable.{IsWritableBody, IsWritableElement, IsWritableCell, IsWritable, props_of};
+ghost use Rattle.gds_stream.specs.Written.{HasShortAttribute, HasShortLayers, HasShortNumbers, AreShortNumbers};
+ghost use Rattle.gds_stream.specs.Written.{lattice_records, body_records, head_records};
 
 use crate::limits::{HALF_TURN, NANOMETRES, NO_DATES, QUARTER_TURN, THREE_QUARTER_TURN, VERSION};
 use crate::turning::{append_closed, goes_right, lowest_index};
@@ -72,7 +75,8 @@ fn write_layers(
 
 /// STRANS and ANGLE of a turn, after a reflection or without one.
 fn write_turn(out: &mut Vec<u8>, strans: [u8; 2], angle: [u8; 8]) -> Result<(), Memory>
-    ensures { OnOk result (out.new.items ≡ out.old.items ++ records_bytes (record_with STRANS strans ∷ record_with ANGLE angle ∷ [])) }
+    ensures { OnOk result (out.new.items
+        ≡ out.old.items ++ records_bytes (record_with STRANS strans ∷ record_with ANGLE angle ∷ [])) }
 {
     append_record(out, STRANS, &strans)?;
     append_record(out, ANGLE, &angle)?;
@@ -109,7 +113,8 @@ fn write_points(out: &mut Vec<u8>, points: &[Point]) -> Result<(), Memory>
 /// XY of a boundary: counter-clockwise from its lowest corner, the leftmost of these, and that corner again.
 fn write_ring(out: &mut Vec<u8>, corners: &[Point]) -> Result<(), Memory>
     requires { IsWritableRing corners.now }
-    ensures { OnOk result (out.new.items ≡ out.old.items ++ record_bytes (record_with XY (points_bytes (closed_ring (turned_ring corners.now))))) }
+    ensures { OnOk result (out.new.items
+        ≡ out.old.items ++ record_bytes (record_with XY (points_bytes (closed_ring (turned_ring corners.now))))) }
 {
     let (before, from) = corners.split_at(lowest_index(corners));
     let Some((first, others)) = from.split_first() else {
@@ -157,7 +162,8 @@ fn write_lattice(
     down: Point,
 ) -> Result<(), Memory>
     requires { IsWritableArray place columns rows across down }
-    ensures { OnOk result (out.new.items ≡ out.old.items ++ records_bytes (lattice_records place columns rows across down)) }
+    ensures { OnOk result (out.new.items
+        ≡ out.old.items ++ records_bytes (lattice_records place columns rows across down)) }
 {
     append_head(out, COLROW, 4)?;
     out.extend_from_slice(&columns.to_be_bytes())?;
@@ -175,7 +181,8 @@ fn write_lattice(
 fn write_track(out: &mut Vec<u8>, kind: i16, width: i32, points: &[Point]) -> Result<(), Memory>
     requires { IsWritableTrack kind width points.now }
     ensures { OnOk result (out.new.items ≡ out.old.items ++ records_bytes
-        (record_with PATHTYPE (int16_bytes kind) ∷ record_with WIDTH (int32_bytes width) ∷ record_with XY (points_bytes points.now) ∷ [])) }
+        (record_with PATHTYPE (int16_bytes kind) ∷ record_with WIDTH (int32_bytes width) ∷ record_with XY
+        (points_bytes points.now) ∷ [])) }
 {
     append_int16(out, PATHTYPE, kind)?;
     append_int32(out, WIDTH, width)?;

@@ -1,9 +1,10 @@
-//! Laws of the places of leaf instances: what stands near one in a memory stands near one in another, so that what a rule sees of it on
-//! layers on which only leaf cells draw is seen there.
+//! Laws of the places of leaf instances: what stands near one in a memory stands near one in another, so that what a
+//! rule sees of it on layers on which only leaf cells draw is seen there.
 #![tactic(auto)]
 
 ghost use Rattle.good_places.specs.Columns.{ColumnsAreAlike};
-ghost use Rattle.good_places.specs.Pairs.{CellsAreAlikeZones, ColumnsAreAlikeZones, FrontsAreAlikeZones, SlicesAreAlikeZones};
+ghost use Rattle.good_places.specs.Pairs.{CellsAreAlikeZones, ColumnsAreAlikeZones, FrontsAreAlikeZones};
+ghost use Rattle.good_places.specs.Pairs.{SlicesAreAlikeZones};
 ghost use Rattle.good_places.specs.Plain.{PlainRulesAreKept};
 ghost use Rattle.good_places.specs.Row.{CellsAreNearAlike};
 ghost use Rattle.good_places.specs.Seen.{LeafEnclosuresAreSeen, LeafSpacesAreSeen, LeafWidthsAreSeen};
@@ -36,7 +37,8 @@ pub fn cells_are_near_alike()
     ensures { CellsAreNearAlike }
 {}
 
-/// A column's zone in a bank and that of a column of another bank with the same rows are alike: around them leaf instances stand alike.
+/// A column's zone in a bank and that of a column of another bank with the same rows are alike: around them leaf
+/// instances stand alike.
 pub fn columns_are_alike_zones()
     ensures { ColumnsAreAlikeZones }
 {}
@@ -56,7 +58,8 @@ pub fn cells_are_alike_zones()
     ensures { CellsAreAlikeZones }
 {}
 
-/// On a layer on which only leaf cells draw, what a width rule sees of a shape is seen in a memory that stands alike around it.
+/// On a layer on which only leaf cells draw, what a width rule sees of a shape is seen in a memory that stands alike
+/// around it.
 pub fn leaf_widths_are_seen()
     ensures { LeafWidthsAreSeen }
 {}
@@ -71,7 +74,8 @@ pub fn leaf_enclosures_are_seen()
     ensures { LeafEnclosuresAreSeen }
 {}
 
-/// Each leaf instance stands in a small memory, of one to four bits, with all leaf instances that a rule reaches from there.
+/// Each leaf instance stands in a small memory, of one to four bits, with all leaf instances that a rule reaches from
+/// there.
 pub fn leaves_have_windows()
     ensures { LeavesHaveWindows }
 {}

@@ -1,4 +1,5 @@
-//! Laws of windows: the small memories of a memory are windows of its kit, and a good kit is as the laws of places and wires ask.
+//! Laws of windows: the small memories of a memory are windows of its kit, and a good kit is as the laws of places and
+//! wires ask.
 #![tactic(auto)]
 
 ghost use Rattle.good_windows.specs.Listed.{WindowsAreListed};
@@ -11,7 +12,8 @@ pub fn windows_are_listed()
     ensures { WindowsAreListed }
 {}
 
-/// In the memories of a kit whose reach is short, each rule and the shapes beyond outlines reach no further than the laws of places ask.
+/// In the memories of a kit whose reach is short, each rule and the shapes beyond outlines reach no further than the
+/// laws of places ask.
 pub fn good_kits_are_short()
     ensures { GoodKitsAreShort }
 {}

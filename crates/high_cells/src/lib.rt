@@ -8,8 +8,8 @@ pub fn cells_are_high()
     ensures { CellsAreHigh }
 {}
 
-/// In a kit whose pins are right the leaf cells of a memory are more than two wires high, as the laws of nets on the first
-/// metal ask.
+/// In a kit whose pins are right the leaf cells of a memory are more than two wires high, as the laws of nets on the
+/// first metal ask.
 pub fn kits_have_high_cells()
     ensures { KitsHaveHighCells }
 {}

@@ -12,9 +12,10 @@ use reply_lines::{Refusal, Reply};
 use std::alloc::Global;
 use std::thread::Threads;
 
-/// The first weakness of a kit as an answer, or no line where the kit is good: where its rules, its connections and its leaf cells
-/// meet what is asked of them, and of 540 small macros those whose slices are wide enough, assembled as a build does, are clean. It looks at nothing but the kit, and is
-/// the same for each number of workers. It is refused only where memory runs out.
+/// The first weakness of a kit as an answer, or no line where the kit is good: where its rules, its connections and its
+/// leaf cells meet what is asked of them, and of 540 small macros those whose slices are wide enough, assembled as a
+/// build does, are clean. It looks at nothing but the kit, and is the same for each number of workers. It is refused
+/// only where memory runs out.
 pub fn answer_kit<R: Threads + Sync>(
     rt: &R,
     alloc: Global,
@@ -29,8 +30,8 @@ pub fn answer_kit<R: Threads + Sync>(
     ensures read { is_read_failed result ≡ false }
     ensures words { is_usage_outcome result ≡ false }
 {
-    // The calls do nothing when the program runs: their contracts are the laws by which macros can be flattened and no name is
-    // taken.
+    // The calls do nothing when the program runs: their contracts are the laws by which macros can be flattened and no
+    // name is taken.
     macros_are_whole();
     macros_have_rows();
     unused_names_are_free();

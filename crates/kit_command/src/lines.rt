@@ -59,7 +59,9 @@ fn pin_line(alloc: Global, role: &Name, pin: &Name) -> Result<ReplyLine, Memory>
 
 /// The line of a small macro and the number of its fault.
 fn window_line(alloc: Global, window: &Window, fault: u32) -> Result<ReplyLine, Memory>
-    ensures { IfOk result (λ line. line ≡ reply_line (codes "Weak" ∷ codes "Window" ∷ decimal window.now.word_size ∷ decimal window.now.write_size ∷ decimal window.now.wpr ∷ decimal window.now.rows ∷ decimal window.now.banks ∷ decimal fault ∷ [])) }
+    ensures { IfOk result (λ line. line ≡ reply_line
+        (codes "Weak" ∷ codes "Window" ∷ decimal window.now.word_size ∷ decimal window.now.write_size ∷ decimal
+        window.now.wpr ∷ decimal window.now.rows ∷ decimal window.now.banks ∷ decimal fault ∷ [])) }
 {
     let mut line = kind_line(alloc, b"Window")?;
     add_pair(&mut line, window.word_size, window.write_size)?;

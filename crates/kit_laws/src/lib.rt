@@ -1,7 +1,8 @@
 //! Laws of kits: a technology and the files of its leaf cells are one kit, or have one fault.
 #![tactic(auto)]
 
-ghost use Rattle.kit_laws.specs.OneCell.{LeafPinsAreUnique, OutlinesAreUnique, PinFaultsAreUnique, PinFaultsExcludePins};
+ghost use Rattle.kit_laws.specs.OneCell.{LeafPinsAreUnique, OutlinesAreUnique, PinFaultsAreUnique};
+ghost use Rattle.kit_laws.specs.OneCell.{PinFaultsExcludePins};
 ghost use Rattle.kit_laws.specs.OneKit.{KitFaultsAreUnique, KitFaultsExcludeKits, KitsAreUnique};
 ghost use Rattle.kit_laws.specs.OneRom.{RomLeafFaultsAreUnique, RomLeafFaultsExcludeRomLeaves};
 
@@ -40,7 +41,8 @@ pub fn kit_faults_exclude_kits()
     ensures { KitFaultsExcludeKits }
 {}
 
-/// A kit has at most one fault of the leaf cells of a read-only memory, and none where it has these cells, out of memory aside.
+/// A kit has at most one fault of the leaf cells of a read-only memory, and none where it has these cells, out of
+/// memory aside.
 pub fn rom_leaf_faults_are_unique()
     ensures one { RomLeafFaultsAreUnique }
     ensures apart { RomLeafFaultsExcludeRomLeaves }

@@ -5,7 +5,8 @@ ghost use Rattle.tech_rules.specs.Facts.{AreSizes};
 ghost use Rattle.leaf_tables.specs.declared.kit.Leaf.{Leaf};
 ghost use Rattle.leaf_tables.specs.Alignment.{leaf_in};
 ghost use Rattle.leaf_tables.specs.Kits.{IsKit};
-ghost use Rattle.kit_rules.specs.Reach.{IsAsWideAs, IsNearLength, IsNearReach, IsShortReach, greatest_minimum, minimum_of, reach_with};
+ghost use Rattle.kit_rules.specs.Reach.{IsAsWideAs, IsNearLength, IsNearReach, IsShortReach, greatest_minimum};
+ghost use Rattle.kit_rules.specs.Reach.{minimum_of, reach_with};
 
 use leaf_tables::{Kit, Role, leaf_of, wire_of};
 use tech_rules::{Rule, Wire};
@@ -34,8 +35,8 @@ fn greatest_minimum(rules: &[Rule]) -> i64
     }
 }
 
-/// How far leaf cells can be felt that pass their outlines so far, in nanometres: the greatest minimum of a rule, and the overhang
-/// on both sides.
+/// How far leaf cells can be felt that pass their outlines so far, in nanometres: the greatest minimum of a rule, and
+/// the overhang on both sides.
 pub fn reach_with(kit: &Kit, overhang: i64) -> i64
     requires kit { IsKit kit.now }
     requires overhang { IsNearLength overhang }
@@ -89,7 +90,8 @@ fn is_below_wires(wire: &Wire, reach: i64) -> bool
 fn are_gates_as_wide_as(kit: &Kit, reach: i64) -> bool
     requires kit { IsKit kit.now }
     requires reach { IsNearReach reach }
-    ensures { IsTrue result ↔ ((inv : Leaf) → leaf_in kit.now.leaves Inv ≡ Some inv → (IsAsWideAs kit.now Nand2 (reach -ℤ inv.width) × IsAsWideAs kit.now Nand3 (reach -ℤ inv.width))) }
+    ensures { IsTrue result ↔ ((inv : Leaf) → leaf_in kit.now.leaves Inv ≡ Some inv
+        → (IsAsWideAs kit.now Nand2 (reach -ℤ inv.width) × IsAsWideAs kit.now Nand3 (reach -ℤ inv.width))) }
 {
     let rest = reach - leaf_of(kit, Role::Inv).width;
     if !is_as_wide_as(kit, Role::Nand2, rest) {

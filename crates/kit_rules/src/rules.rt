@@ -47,7 +47,8 @@ fn is_own_space(wire: &Wire, layer: u16, other: u16, min: i64) -> bool
 
 /// Whether neither layer is one of wires, or the space rule is one of a layer with itself.
 fn is_wire_space(wire: &Wire, layer: u16, other: u16, min: i64) -> bool
-    ensures { IsTrue result ↔ (((IsWireLayer wire.now layer → ⊥) × (IsWireLayer wire.now other → ⊥)) ⊎ IsOwnSpace wire.now layer other min) }
+    ensures { IsTrue result ↔ (((IsWireLayer wire.now layer → ⊥) × (IsWireLayer wire.now other → ⊥))
+        ⊎ IsOwnSpace wire.now layer other min) }
 {
     if is_own_space(wire, layer, other, min) {
         return true;

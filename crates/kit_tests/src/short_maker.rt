@@ -10,8 +10,8 @@ use std::alloc::Global;
 /// The most rows of a bank for which `ShortMaker` makes a macro.
 const MOST_ROWS: u32 = 32;
 
-/// Makes macros of at most 32 rows as a build does, and says of larger ones that their sense cells are too wide: so that all
-/// small macros are looked at in the time of a test.
+/// Makes macros of at most 32 rows as a build does, and says of larger ones that their sense cells are too wide: so
+/// that all small macros are looked at in the time of a test.
 pub struct ShortMaker;
 
 impl Maker for ShortMaker {

@@ -57,7 +57,8 @@ fn an_area_with_a_hole_is_not_covered(rt: HostRuntime) {
     assert!(rt; !covered(rect(0, 0, 10, 10), &ring[..4]));
 }
 
-/// A cell of 10 by 20 that is reflected about the x axis, turned by 270 degrees and moved to 100, 0; then a quarter turn.
+/// A cell of 10 by 20 that is reflected about the x axis, turned by 270 degrees and moved to 100, 0; then a quarter
+/// turn.
 #[test]
 fn a_reflected_and_turned_cell(rt: HostRuntime) {
     let inner = Place {

@@ -57,8 +57,8 @@ fn mode_of(rt: &HostRuntime, path: &str) -> Result<u32, Fail> {
     Ok(fs::metadata(rt, path)?.permissions().mode() & 0o777)
 }
 
-/// A write through a link replaces the file that the link leads to and keeps its permissions, and what an ended write left
-/// beside it is gone.
+/// A write through a link replaces the file that the link leads to and keeps its permissions, and what an ended write
+/// left beside it is gone.
 #[test]
 fn a_real_file_is_replaced(rt: HostRuntime) -> Result<(), Fail> {
     put_with_mode(&rt, "or_host_old", b"old", 0o640)?;

@@ -69,7 +69,8 @@ fn without(alloc: Global, text: &[u8], first: &str, last: &str) -> Result<String
     Ok(format!(in alloc; "{before}{last}{after}")?)
 }
 
-/// The file with the inverter's coordinates of 28 and 32 greater by one: a cell of 33 whose upper rail and pins end there.
+/// The file with the inverter's coordinates of 28 and 32 greater by one: a cell of 33 whose upper rail and pins end
+/// there.
 fn with_a_higher_inverter(alloc: Global, gds: &[u8]) -> Result<Vec<u8>, Fail> {
     let mut bytes = Vec::new(alloc);
     let mut zeros = 0u32;

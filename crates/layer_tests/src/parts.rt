@@ -18,8 +18,8 @@ use std::process::Abort;
 use std::test::Fail;
 use tech_rules::read_tech;
 
-/// What a part is built of: a kit, a plan and a name; and what it is added to: no cells but those of the kit, and the kit's
-/// subcircuits.
+/// What a part is built of: a kit, a plan and a name; and what it is added to: no cells but those of the kit, and the
+/// kit's subcircuits.
 #[derive(Drop)]
 struct Trial {
     kit: Kit,

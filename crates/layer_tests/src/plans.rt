@@ -158,8 +158,8 @@ fn check_name(rt: &impl Abort, alloc: Global, name: &str, wanted: &str) -> Resul
     Ok(())
 }
 
-/// No memory has a keyword of Verilog for its name, of which a contract has the list; in other letters, or longer, it is a
-/// name.
+/// No memory has a keyword of Verilog for its name, of which a contract has the list; in other letters, or longer, it
+/// is a name.
 #[test]
 fn keywords_of_verilog(rt: HostRuntime) -> Result<(), Fail> {
     for word in ["always", "endmodule", "reg", "supply0", "xor"] {

@@ -1,4 +1,5 @@
-//! SPICE: texts that are refused, a text that is read, decks that are written, and the flat rows of a deck of two levels.
+//! SPICE: texts that are refused, a text that is read, decks that are written, and the flat rows of a deck of two
+//! levels.
 
 use netlist::{Deck, Rows, Subckt};
 use or_geom::Name;

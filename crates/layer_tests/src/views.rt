@@ -1,4 +1,5 @@
-//! LEF and Verilog: a memory of 16 words of two bits in the demonstration kit, and one of 16 words of four bits whose writes are masked.
+//! LEF and Verilog: a memory of 16 words of two bits in the demonstration kit, and one of 16 words of four bits whose
+//! writes are masked.
 
 ghost use Rattle.std.specs.Prelude.{◌≡◌, ◌^◌, pos, ◌≤ℤ◌, length, All, IfOk};
 ghost use Rattle.sram_netlist.specs.Numbers.{ArePlanNumbers};

@@ -3,7 +3,8 @@ ghost use Rattle.std.specs.List.{AllByRecursion};
 ghost use Rattle.gds_library.specs.Writable.{IsWritableCell};
 ghost use Rattle.cell_hierarchy.specs.Drawings.{AreAllCells};
 ghost use Rattle.leaf_contacts.specs.Contact.{leaf_cell_names};
-ghost use Rattle.leaf_contacts.specs.Stands.{AreCellSummaries, AreReachedCells, CountsAt, IsCellNamed, IsCellSummary, LeadsToCounted, RefersToCounted};
+ghost use Rattle.leaf_contacts.specs.Stands.{AreCellSummaries, AreReachedCells, CountsAt, IsCellNamed, IsCellSummary};
+ghost use Rattle.leaf_contacts.specs.Stands.{LeadsToCounted, RefersToCounted};
 
 use cell_chains::Cell;
 use element_drawing::own_shapes;
@@ -13,8 +14,8 @@ use or_geom::{Memory, Name, Shape};
 use std::alloc::Global;
 use tech_rules::Layer;
 
-/// What is looked at of a cell: the shapes that it draws itself, whether it is one of the leaf cells, and whether it counts. A cell
-/// that is no leaf cell and below which nothing is drawn doesn't, however often it is placed.
+/// What is looked at of a cell: the shapes that it draws itself, whether it is one of the leaf cells, and whether it
+/// counts. A cell that is no leaf cell and below which nothing is drawn doesn't, however often it is placed.
 #[derive(Drop)]
 pub struct CellSummary {
     pub shapes: Vec<Shape>,
@@ -22,7 +23,8 @@ pub struct CellSummary {
     pub counts: bool,
 }
 
-/// The cells that a top reaches, from the bottom up, each with its summary. The layers and the top's name are told for proofs alone.
+/// The cells that a top reaches, from the bottom up, each with its summary. The layers and the top's name are told for
+/// proofs alone.
 #[derive(Clone, Copy)]
 pub struct ReachedCells<'a> {
     pub layers: &'a [Layer],
@@ -92,8 +94,8 @@ fn leads_to_counted(element: &Element, target: usize, summaries: &[CellSummary])
     }
 }
 
-/// Whether one of the elements refers to a cell that counts. `targets` has for each element that refers to a structure the index of
-/// its cell.
+/// Whether one of the elements refers to a cell that counts. `targets` has for each element that refers to a structure
+/// the index of its cell.
 fn refers_to_counted(elements: &[Element], targets: &[usize], summaries: &[CellSummary]) -> bool
     requires { length targets.now ≡ length elements.now }
     ensures { IsTrue result ↔ RefersToCounted elements.now targets.now summaries.now }
@@ -115,7 +117,8 @@ fn is_counted(
     below: &[CellSummary],
 ) -> bool
     requires { length targets.now ≡ length elements.now }
-    ensures { IsTrue result ↔ (IsTrue is_leaf ⊎ ((shapes.now ≡ [] → ⊥) ⊎ RefersToCounted elements.now targets.now below.now)) }
+    ensures { IsTrue result ↔ (IsTrue is_leaf
+        ⊎ ((shapes.now ≡ [] → ⊥) ⊎ RefersToCounted elements.now targets.now below.now)) }
 {
     is_leaf || !shapes.is_empty() || refers_to_counted(elements, targets, below)
 }
@@ -156,7 +159,8 @@ pub fn summaries_of(
     requires few { length layers.now ≤ 64 }
     requires writable { AllByRecursion IsWritableCell structs.now }
     requires cells { AreAllCells structs.now cells.now }
-    ensures { IfOk result (λ summaries. AreCellSummaries layers.now (leaf_cell_names leaves.now) structs.now cells.now (length cells.now) summaries.items) }
+    ensures { IfOk result (λ summaries. AreCellSummaries layers.now (leaf_cell_names leaves.now) structs.now cells.now
+        (length cells.now) summaries.items) }
 {
     let mut summaries = Vec::new(alloc);
     for cell in cells {

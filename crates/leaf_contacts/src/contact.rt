@@ -1,4 +1,5 @@
-ghost use Rattle.std.specs.Prelude.{◌≡◌, ◌↔◌, ◌≤◌, ◌<◌, ℕ, List, Contains, IfOk, OnOk, IsTrue, Some, [], length, slice_get};
+ghost use Rattle.std.specs.Prelude.{◌≡◌, ◌↔◌, ◌≤◌, ◌<◌, ℕ, List, Contains, IfOk, OnOk, IsTrue, Some, [], length};
+ghost use Rattle.std.specs.Prelude.{slice_get};
 ghost use Rattle.std.specs.Option.{option_copied};
 ghost use Rattle.or_geom.specs.Adds.{Adds};
 ghost use Rattle.or_geom.specs.Gathering.{SomeHas};
@@ -9,7 +10,9 @@ ghost use Rattle.cell_chains.specs.Chains.{IsSound};
 ghost use Rattle.cell_chains.specs.Hierarchy.{AreCells};
 ghost use Rattle.cell_hierarchy.specs.FlatLists.{AreFlatShapes};
 ghost use Rattle.leaf_contacts.specs.Contact.{HasLooseContact};
-ghost use Rattle.leaf_contacts.specs.Marks.{AreLayoutEntries, AreMarks, AreNearLeaves, AreStandsIn, HasContactAt, IsContactOf, IsContactWith, IsLayerAdded, IsListedElsewhere, IsNearOnLayers, IsTouchedElsewhere, ShapeEntry, TouchesElsewhere};
+ghost use Rattle.leaf_contacts.specs.Marks.{AreLayoutEntries, AreMarks, AreNearLeaves, AreStandsIn, HasContactAt};
+ghost use Rattle.leaf_contacts.specs.Marks.{IsContactOf, IsContactWith, IsLayerAdded, IsListedElsewhere};
+ghost use Rattle.leaf_contacts.specs.Marks.{IsNearOnLayers, IsTouchedElsewhere, ShapeEntry, TouchesElsewhere};
 ghost use Rattle.leaf_contacts.specs.Stands.{AreReachedCells};
 
 use crate::cells::{ReachedCells, is_cell_named, summaries_of};
@@ -35,7 +38,8 @@ pub struct MarkedLayout<'a, 'b> {
     pub marks: &'a [Option<Mark<'b>>],
 }
 
-/// Adds the places of the shapes of the layer whose closed box meets that of the shape, if shapes of the layer may touch it.
+/// Adds the places of the shapes of the layer whose closed box meets that of the shape, if shapes of the layer may
+/// touch it.
 fn add_near_on(
     bins: &Bins,
     connects: &[Connect],
@@ -71,7 +75,9 @@ fn add_near(
 /// Whether the flat shape at this place stands elsewhere than in the instance.
 fn stands_elsewhere(layout: &MarkedLayout, place: usize, instance: &[ReferenceStep]) -> bool
     requires { place < length layout.now.marks.now }
-    ensures { (entries : List ShapeEntry) (shape : Shape) → AreMarks layout.now.bins.now entries layout.now.marks.now → slice_get layout.now.bins.now place ≡ Some shape → IsTrue result ↔ IsListedElsewhere entries shape (Some instance.now) }
+    ensures { (entries : List ShapeEntry) (shape : Shape) → AreMarks layout.now.bins.now entries layout.now.marks.now
+        → slice_get layout.now.bins.now place ≡ Some shape
+        → IsTrue result ↔ IsListedElsewhere entries shape (Some instance.now) }
 {
     match layout.marks[place] {
         Some(mark) => is_elsewhere(&mark, instance),
@@ -91,7 +97,9 @@ fn shape_at(layout: &MarkedLayout, place: usize) -> Shape
 fn touches_at(layout: &MarkedLayout, shape: Shape, instance: &[ReferenceStep], place: usize) -> bool
     requires within { place < length layout.now.bins.now }
     requires marks { length layout.now.marks.now ≡ length layout.now.bins.now }
-    ensures { (entries : List ShapeEntry) → AreMarks layout.now.bins.now entries layout.now.marks.now → IsTrue result ↔ IsTouchedElsewhere layout.now.tech.now.connects layout.now.bins.now entries shape instance.now place }
+    ensures { (entries : List ShapeEntry) → AreMarks layout.now.bins.now entries layout.now.marks.now
+        → IsTrue result ↔ IsTouchedElsewhere layout.now.tech.now.connects layout.now.bins.now entries shape
+        instance.now place }
 {
     let other = shape_at(layout, place);
     touch_or_same(layout.tech.connects.as_slice(), shape, other)
@@ -107,7 +115,9 @@ fn touches_one_of(
 ) -> bool
     requires within { (place : ℕ) → Contains places.now place → place < length layout.now.bins.now }
     requires marks { length layout.now.marks.now ≡ length layout.now.bins.now }
-    ensures { (entries : List ShapeEntry) → AreMarks layout.now.bins.now entries layout.now.marks.now → IsTrue result ↔ SomeHas (IsTouchedElsewhere layout.now.tech.now.connects layout.now.bins.now entries shape instance.now) places.now }
+    ensures { (entries : List ShapeEntry) → AreMarks layout.now.bins.now entries layout.now.marks.now
+        → IsTrue result ↔ SomeHas (IsTouchedElsewhere layout.now.tech.now.connects layout.now.bins.now entries shape
+        instance.now) places.now }
 {
     for place in places {
         if touches_at(layout, shape, instance, *place) {
@@ -126,7 +136,8 @@ fn touches_elsewhere(
 ) -> Result<bool, Memory>
     requires few { length layout.now.tech.now.layers ≤ 64 }
     requires marks { length layout.now.marks.now ≡ length layout.now.bins.now }
-    ensures { IfOk result (λ found. (entries : List ShapeEntry) → AreLayoutEntries layout.now entries → IsTrue found ↔ TouchesElsewhere layout.now.tech.now.connects entries shape instance.now) }
+    ensures { IfOk result (λ found. (entries : List ShapeEntry) → AreLayoutEntries layout.now entries
+        → IsTrue found ↔ TouchesElsewhere layout.now.tech.now.connects entries shape instance.now) }
 {
     places.clear();
     add_near(
@@ -151,7 +162,8 @@ fn has_contact_of(
     requires marks { length layout.now.marks.now ≡ length layout.now.bins.now }
     requires near { IsNearPoint stand.now.place.at }
     requires loose { AreReachable loose.now }
-    ensures { IfOk result (λ found. (entries : List ShapeEntry) → AreLayoutEntries layout.now entries → IsTrue found ↔ SomeHas (IsContactOf layout.now.tech.now.connects entries stand.now) loose.now) }
+    ensures { IfOk result (λ found. (entries : List ShapeEntry) → AreLayoutEntries layout.now entries
+        → IsTrue found ↔ SomeHas (IsContactOf layout.now.tech.now.connects entries stand.now) loose.now) }
 {
     for shape in loose {
         let moved = Shape {
@@ -189,7 +201,8 @@ fn has_contact_with(
     requires near { IsNearPoint stand.now.place.at }
     requires cell { stand.now.cell < length layout.now.tree.now.cells.now }
     requires loose { AreReachable leaf.now.shapes }
-    ensures { IfOk result (λ found. (entries : List ShapeEntry) → AreLayoutEntries layout.now entries → IsTrue found ↔ IsContactWith layout.now.tech.now.connects layout.now.tree.now entries stand.now leaf.now) }
+    ensures { IfOk result (λ found. (entries : List ShapeEntry) → AreLayoutEntries layout.now entries
+        → IsTrue found ↔ IsContactWith layout.now.tech.now.connects layout.now.tree.now entries stand.now leaf.now) }
 {
     if !is_cell_named(layout.tree, stand.cell, &leaf.cell) {
         return Ok(false);
@@ -209,7 +222,8 @@ fn has_contact_at(
     requires near { IsNearPoint stand.now.place.at }
     requires cell { stand.now.cell < length layout.now.tree.now.cells.now }
     requires loose { AreNearLeaves layout.now.tree.now.leaves.now }
-    ensures { IfOk result (λ found. (entries : List ShapeEntry) → AreLayoutEntries layout.now entries → IsTrue found ↔ HasContactAt layout.now.tech.now.connects layout.now.tree.now entries stand.now) }
+    ensures { IfOk result (λ found. (entries : List ShapeEntry) → AreLayoutEntries layout.now entries
+        → IsTrue found ↔ HasContactAt layout.now.tech.now.connects layout.now.tree.now entries stand.now) }
 {
     if !is_instance(stand) {
         return Ok(false);
@@ -230,7 +244,8 @@ fn has_contact(alloc: Global, layout: &MarkedLayout, stands: &[Stand]) -> Result
     requires marks { length layout.now.marks.now ≡ length layout.now.bins.now }
     requires stands { AreStandsIn layout.now.tree.now layout.now.bins.now stands.now }
     requires loose { AreNearLeaves layout.now.tree.now.leaves.now }
-    ensures { IfOk result (λ found. (entries : List ShapeEntry) → AreLayoutEntries layout.now entries → IsTrue found ↔ SomeHas (HasContactAt layout.now.tech.now.connects layout.now.tree.now entries) stands.now) }
+    ensures { IfOk result (λ found. (entries : List ShapeEntry) → AreLayoutEntries layout.now entries
+        → IsTrue found ↔ SomeHas (HasContactAt layout.now.tech.now.connects layout.now.tree.now entries) stands.now) }
 {
     let mut places = Vec::new(alloc);
     for stand in stands {
@@ -276,8 +291,8 @@ fn all_cells_below(alloc: Global, lib: &Library, top: &Name) -> Result<Vec<Cell>
     }
 }
 
-/// Whether a loose shape of a leaf cell, as it lies at an instance of the cell below the top, touches or is a shape that stands
-/// outside of this instance. `bins` has the flat shapes of the top.
+/// Whether a loose shape of a leaf cell, as it lies at an instance of the cell below the top, touches or is a shape
+/// that stands outside of this instance. `bins` has the flat shapes of the top.
 pub fn has_loose_contact<'b>(
     alloc: Global,
     bump: &'b Bump,

@@ -1,11 +1,13 @@
-ghost use Rattle.std.specs.Prelude.{◌≡◌, ◌↔◌, ◌≢◌, ◌⊎◌, ◌++◌, ◌∷◌, [], List, Contains, IfOk, IsTrue, Some, length, true, false};
+ghost use Rattle.std.specs.Prelude.{◌≡◌, ◌↔◌, ◌≢◌, ◌⊎◌, ◌++◌, ◌∷◌, [], List, Contains, IfOk, IsTrue, Some, length};
+ghost use Rattle.std.specs.Prelude.{true, false};
 ghost use Rattle.std.specs.List.{AllByRecursion};
 ghost use Rattle.std.specs.List.Sorted.{IsStrictlySortedBy};
 ghost use Rattle.std.specs.Option.{option_copied};
 ghost use Rattle.or_geom.specs.declared.shape.Shape.{Shape};
 ghost use Rattle.or_geom.specs.Place.{IsNearPoint};
 ghost use Rattle.or_geom.specs.ShapeOrder.{shape_order};
-ghost use Rattle.leaf_contacts.specs.Marks.{AreAllEntries, AreEntriesOf, AreMarks, ShapeEntry, HasShapesOf, AreStandsIn, IsListedElsewhere, IsMark, IsMarkOrNone, shape_entry};
+ghost use Rattle.leaf_contacts.specs.Marks.{AreAllEntries, AreEntriesOf, AreMarks, ShapeEntry, HasShapesOf};
+ghost use Rattle.leaf_contacts.specs.Marks.{AreStandsIn, IsListedElsewhere, IsMark, IsMarkOrNone, shape_entry};
 ghost use Rattle.or_geom.specs.Reachable.{AreReachable};
 ghost use Rattle.leaf_contacts.specs.Stands.{AreReachedCells};
 
@@ -14,7 +16,8 @@ use crate::stand::{ReferenceStep, Stand, are_same};
 use or_geom::{Memory, Shape};
 use std::alloc::Global;
 
-/// In which instances a shape of the flat layout stands: in this one or, where that is none, in no instance; and perhaps elsewhere too.
+/// In which instances a shape of the flat layout stands: in this one or, where that is none, in no instance; and
+/// perhaps elsewhere too.
 #[derive(Clone, Copy)]
 pub struct Mark<'b> {
     pub instance: Option<&'b [ReferenceStep]>,
@@ -34,22 +37,26 @@ fn is_one(a: Option<&[ReferenceStep]>, b: Option<&[ReferenceStep]>) -> bool
 
 /// Whether the mark tells of something else than this instance or, where there is none, of an instance.
 fn differs(mark: &Mark, instance: Option<&[ReferenceStep]>) -> bool
-    ensures other { result ≡ true → (mark.now.elsewhere ≡ true) ⊎ (option_copied instance.entry ≢ option_copied mark.now.instance) }
-    ensures same { result ≡ false → (mark.now.elsewhere ≡ false) × (option_copied instance.entry ≡ option_copied mark.now.instance) }
+    ensures other { result ≡ true → (mark.now.elsewhere ≡ true)
+        ⊎ (option_copied instance.entry ≢ option_copied mark.now.instance) }
+    ensures same { result ≡ false → (mark.now.elsewhere ≡ false)
+        × (option_copied instance.entry ≡ option_copied mark.now.instance) }
 {
     mark.elsewhere || !is_one(instance, mark.instance)
 }
 
 /// Whether the shape that is marked so stands elsewhere than in the instance.
 pub fn is_elsewhere(mark: &Mark, instance: &[ReferenceStep]) -> bool
-    ensures { (entries : List ShapeEntry) (shape : Shape) → IsMark entries shape mark.now → IsTrue result ↔ IsListedElsewhere entries shape (Some instance.now) }
+    ensures { (entries : List ShapeEntry) (shape : Shape) → IsMark entries shape mark.now
+        → IsTrue result ↔ IsListedElsewhere entries shape (Some instance.now) }
 {
     differs(mark, Some(instance))
 }
 
 /// The mark of a shape that stands in this instance too.
 fn mark_with<'b>(mark: Option<Mark<'b>>, instance: Option<&'b [ReferenceStep]>) -> Mark<'b>
-    ensures { (entries : List ShapeEntry) (shape : Shape) → IsMarkOrNone entries shape mark.entry → IsMark (entries ++ shape_entry shape (option_copied instance.entry) ∷ []) shape result }
+    ensures { (entries : List ShapeEntry) (shape : Shape) → IsMarkOrNone entries shape mark.entry
+        → IsMark (entries ++ shape_entry shape (option_copied instance.entry) ∷ []) shape result }
 {
     match mark {
         None => Mark {
@@ -73,7 +80,8 @@ fn mark_shape<'b>(
     requires rises { IsStrictlySortedBy shape_order shapes.now }
     requires listed { Contains shapes.now shape }
     requires sized { length marks.old ≡ length shapes.now }
-    ensures { (entries : List ShapeEntry) → AreMarks shapes.now entries marks.old → AreMarks shapes.now (entries ++ shape_entry shape (option_copied instance.entry) ∷ []) marks.new }
+    ensures { (entries : List ShapeEntry) → AreMarks shapes.now entries marks.old
+        → AreMarks shapes.now (entries ++ shape_entry shape (option_copied instance.entry) ∷ []) marks.new }
 {
     if let Ok(index) = shapes.binary_search(&shape) {
         marks[index] = Some(mark_with(marks[index], instance));
@@ -92,7 +100,9 @@ fn mark_stand<'b>(
     requires own { AreReachable own.now }
     requires listed { HasShapesOf stand.now own.now shapes.now }
     requires sized { length marks.old ≡ length shapes.now }
-    ensures { (added : List ShapeEntry) × AreEntriesOf stand.now own.now added × ((entries : List ShapeEntry) → AreMarks shapes.now entries marks.old → AreMarks shapes.now (entries ++ added) marks.new) }
+    ensures { (added : List ShapeEntry) × AreEntriesOf stand.now own.now added
+        × ((entries : List ShapeEntry) → AreMarks shapes.now entries marks.old
+        → AreMarks shapes.now (entries ++ added) marks.new) }
 {
     for shape in own {
         let moved = Shape {
@@ -113,7 +123,8 @@ pub fn marks_of<'b>(
     requires tree { AreReachedCells tree.now }
     requires rises { IsStrictlySortedBy shape_order shapes.now }
     requires stands { AreStandsIn tree.now shapes.now stands.now }
-    ensures { IfOk result (λ marks. (entries : List ShapeEntry) × AreAllEntries tree.now stands.now entries × AreMarks shapes.now entries marks.items) }
+    ensures { IfOk result (λ marks. (entries : List ShapeEntry) × AreAllEntries tree.now stands.now entries
+        × AreMarks shapes.now entries marks.items) }
 {
     let mut marks = vec![in alloc; None; shapes.len()]?;
     for stand in stands {

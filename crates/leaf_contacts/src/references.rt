@@ -1,4 +1,5 @@
-ghost use Rattle.std.specs.Prelude.{◌≡◌, ◌++◌, ◌∷◌, [], ◌<◌, ◌^◌, ◌+ℤ◌, ◌*ℤ◌, FitsSigned, ℕ, pos, List, IfOk, OnOk, length};
+ghost use Rattle.std.specs.Prelude.{◌≡◌, ◌++◌, ◌∷◌, [], ◌<◌, ◌^◌, ◌+ℤ◌, ◌*ℤ◌, FitsSigned, ℕ, pos, List, IfOk, OnOk};
+ghost use Rattle.std.specs.Prelude.{length};
 ghost use Rattle.std.specs.Int.{w32};
 ghost use Rattle.std.specs.Option.{option_copied};
 ghost use Rattle.or_geom.specs.Place.{IsNearPoint, IsWithin};
@@ -7,7 +8,9 @@ ghost use Rattle.cell_chains.specs.Instances.{item_place};
 ghost use Rattle.cell_hierarchy.specs.Below.{SomeBelow};
 ghost use Rattle.cell_hierarchy.specs.Grid.{IsShortWay};
 ghost use Rattle.leaf_contacts.specs.Chains.{Reference};
-ghost use Rattle.leaf_contacts.specs.Stands.{AddsBelow, instance_below, HasContent, IsElementAt, IsCellNamed, IsGridOf, IsGridItem, IsLiveFrom, IsLiveReference, IsReferenceAt, IsStandOf, AreReachedCells};
+ghost use Rattle.leaf_contacts.specs.Stands.{AddsBelow, instance_below, HasContent, IsElementAt, IsCellNamed, IsGridOf};
+ghost use Rattle.leaf_contacts.specs.Stands.{IsGridItem, IsLiveFrom, IsLiveReference, IsReferenceAt, IsStandOf};
+ghost use Rattle.leaf_contacts.specs.Stands.{AreReachedCells};
 
 use crate::cells::{ReachedCells, counts_at, structure_at};
 use crate::stand::{ReferenceStep, Stand};
@@ -42,8 +45,8 @@ fn steps_with<'b>(
     Ok(bump.try_alloc_slice_copy(&longer)?)
 }
 
-/// The instance in which a cell stands to which these references lead: that of the cell above or, where that is in none, itself if it is
-/// a leaf cell.
+/// The instance in which a cell stands to which these references lead: that of the cell above or, where that is in
+/// none, itself if it is a leaf cell.
 pub fn instance_below<'b>(
     above: Option<&'b [ReferenceStep]>,
     is_leaf: bool,
@@ -71,7 +74,8 @@ fn stand_below<'b>(
     requires target { target < length tree.now.summaries.now }
     requires near { IsNearPoint outer.now.place.at }
     requires place { IsWithin (2 ^ 33) place.at }
-    ensures { IfOk result (λ made. (chain : List Reference) (r : Reference) → IsStandOf tree.now chain outer.now → IsReferenceAt tree.now outer.now.cell target step place r → IsStandOf tree.now (chain ++ r ∷ []) made) }
+    ensures { IfOk result (λ made. (chain : List Reference) (r : Reference) → IsStandOf tree.now chain outer.now
+        → IsReferenceAt tree.now outer.now.cell target step place r → IsStandOf tree.now (chain ++ r ∷ []) made) }
 {
     let steps = steps_with(alloc, bump, outer.steps, step)?;
     Ok(Stand {
@@ -102,7 +106,8 @@ fn end_of(steps: AxisSteps) -> i64
 
 /// The place of an array's item.
 fn place_at(grid: &Grid, column: u16, row: u16) -> Place
-    requires writable { IsWritableArray grid.now.place (pos grid.now.columns) (pos grid.now.rows) grid.now.across grid.now.down }
+    requires writable { IsWritableArray grid.now.place (pos grid.now.columns)
+        (pos grid.now.rows) grid.now.across grid.now.down }
     requires column { column < grid.now.columns }
     requires row { row < grid.now.rows }
     ensures is { result ≡ item_place grid.now.place column row grid.now.across grid.now.down }
@@ -148,7 +153,10 @@ fn add_column<'b>(
     requires near { IsNearPoint outer.now.place.at }
     requires grid { IsGridOf tree.now outer.now.cell grid.now }
     requires column { column < grid.now.columns }
-    ensures { OnOk result ((chain : List Reference) (to : List ℕ) → IsStandOf tree.now chain outer.now → IsCellNamed tree.now grid.now.target to → AddsBelow tree.now chain (SomeBelow (IsGridItem grid.now to column) grid.now.rows) out.old.items out.new.items) }
+    ensures { OnOk result ((chain : List Reference) (to : List ℕ) → IsStandOf tree.now chain outer.now
+        → IsCellNamed tree.now grid.now.target to
+        → AddsBelow tree.now chain (SomeBelow (IsGridItem grid.now to column) grid.now.rows) out.old.items
+        out.new.items) }
 {
     for row in 0..grid.rows {
         let step = ReferenceStep {
@@ -175,7 +183,10 @@ fn add_array<'b>(
     requires tree { AreReachedCells tree.now }
     requires near { IsNearPoint outer.now.place.at }
     requires grid { IsGridOf tree.now outer.now.cell grid.now }
-    ensures { OnOk result ((chain : List Reference) (to : List ℕ) → IsStandOf tree.now chain outer.now → IsCellNamed tree.now grid.now.target to → AddsBelow tree.now chain (SomeBelow (λ column. SomeBelow (IsGridItem grid.now to column) grid.now.rows) grid.now.columns) out.old.items out.new.items) }
+    ensures { OnOk result ((chain : List Reference) (to : List ℕ) → IsStandOf tree.now chain outer.now
+        → IsCellNamed tree.now grid.now.target to
+        → AddsBelow tree.now chain (SomeBelow (λ column. SomeBelow (IsGridItem grid.now to column) grid.now.rows)
+        grid.now.columns) out.old.items out.new.items) }
 {
     for column in 0..grid.columns {
         add_column(alloc, bump, tree, outer, grid, column, out)?;
@@ -194,8 +205,8 @@ fn content_of<'a>(tree: &ReachedCells<'a>, cell: usize) -> (&'a [Element], &'a [
     (structure.elements.as_slice(), cell.targets.as_slice())
 }
 
-/// Adds the cells that an element of the cell places there, if they count. The element has this index, and refers to the cell at the
-/// target's.
+/// Adds the cells that an element of the cell places there, if they count. The element has this index, and refers to
+/// the cell at the target's.
 fn add_element<'b>(
     alloc: Global,
     bump: &'b Bump,
@@ -209,7 +220,9 @@ fn add_element<'b>(
     requires tree { AreReachedCells tree.now }
     requires near { IsNearPoint outer.now.place.at }
     requires element { IsElementAt tree.now outer.now.cell index element.now target }
-    ensures { OnOk result ((chain : List Reference) (name : List ℕ) → IsStandOf tree.now chain outer.now → IsCellNamed tree.now outer.now.cell name → AddsBelow tree.now chain (IsLiveReference tree.now name index) out.old.items out.new.items) }
+    ensures { OnOk result ((chain : List Reference) (name : List ℕ) → IsStandOf tree.now chain outer.now
+        → IsCellNamed tree.now outer.now.cell name
+        → AddsBelow tree.now chain (IsLiveReference tree.now name index) out.old.items out.new.items) }
 {
     match element {
         Element::Sref { place, .. } => {
@@ -262,7 +275,9 @@ pub fn add_below<'b>(
     requires tree { AreReachedCells tree.now }
     requires near { IsNearPoint outer.now.place.at }
     requires cell { outer.now.cell < length tree.now.cells.now }
-    ensures { OnOk result ((chain : List Reference) (name : List ℕ) → IsStandOf tree.now chain outer.now → IsCellNamed tree.now outer.now.cell name → AddsBelow tree.now chain (IsLiveFrom tree.now name) out.old.items out.new.items) }
+    ensures { OnOk result ((chain : List Reference) (name : List ℕ) → IsStandOf tree.now chain outer.now
+        → IsCellNamed tree.now outer.now.cell name
+        → AddsBelow tree.now chain (IsLiveFrom tree.now name) out.old.items out.new.items) }
 {
     let (elements, targets) = content_of(tree, outer.cell);
     for index in 0..elements.len() {

@@ -10,8 +10,8 @@ pub struct ReferenceStep {
     pub row: u16,
 }
 
-/// Where a cell stands below the top: its index in the list of cells, its place in the top's coordinates, the references that
-/// lead to it, and those that lead to the leaf cell in which it stands, if it stands in one.
+/// Where a cell stands below the top: its index in the list of cells, its place in the top's coordinates, the
+/// references that lead to it, and those that lead to the leaf cell in which it stands, if it stands in one.
 #[derive(Clone, Copy)]
 pub struct Stand<'b> {
     pub cell: usize,

@@ -9,14 +9,14 @@ pub fn wire_layer_widths_are_kept()
     ensures { WireLayerWidthsAreKept }
 {}
 
-/// A memory keeps a rule that cuts between the wires' metals are enclosed where the small memories break no rule. The metal
-/// below or above the cut is one of the enclosing layers.
+/// A memory keeps a rule that cuts between the wires' metals are enclosed where the small memories break no rule. The
+/// metal below or above the cut is one of the enclosing layers.
 pub fn cut_enclosures_are_kept()
     ensures { CutEnclosuresAreKept }
 {}
 
-/// A memory keeps a rule that shapes of a layer without wires are enclosed by layers of which some have wires, where the
-/// small memories break no rule.
+/// A memory keeps a rule that shapes of a layer without wires are enclosed by layers of which some have wires, where
+/// the small memories break no rule.
 pub fn enclosures_by_wires_are_kept()
     ensures { EnclosuresByWiresAreKept }
 {}

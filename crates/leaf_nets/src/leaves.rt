@@ -40,8 +40,9 @@ fn role_at(all: &[Role], index: usize) -> Role
     all[index]
 }
 
-/// Whether the labels of all pins name them rightly, in each leaf cell by itself: each label of a pin binds a shape, and two
-/// labels of pins are on one net exactly where they name one pin. Where they do, the loose shapes of the leaf cells.
+/// Whether the labels of all pins name them rightly, in each leaf cell by itself: each label of a pin binds a shape,
+/// and two labels of pins are on one net exactly where they name one pin. Where they do, the loose shapes of the leaf
+/// cells.
 pub fn kit_nets(alloc: Global, kit: &Kit) -> Result<KitNets, Memory>
     requires { IsKit kit.now }
     ensures { IfOk result (AreKitNets kit.now) }

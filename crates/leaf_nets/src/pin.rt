@@ -24,7 +24,9 @@ pub enum PinBinding {
 
 /// What they bind with one more label, which binds a shape on this net, or none.
 fn with_net(found: PinBinding, net: Option<u32>) -> PinBinding
-    ensures { (shapes : List Shape) (nets : List ℕ) (labels : List PlainLabel) (pin : List ℕ) (label : PlainLabel) → IsPinBinding shapes nets labels pin found → IsLabelOfPin pin label → IsNetNumberOf shapes nets label net → IsPinBinding shapes nets (labels ++ label ∷ []) pin result }
+    ensures { (shapes : List Shape) (nets : List ℕ) (labels : List PlainLabel) (pin : List ℕ) (label : PlainLabel)
+        → IsPinBinding shapes nets labels pin found → IsLabelOfPin pin label → IsNetNumberOf shapes nets label net
+        → IsPinBinding shapes nets (labels ++ label ∷ []) pin result }
 {
     let Some(number) = net else {
         return PinBinding::Wrong;

@@ -30,7 +30,8 @@ fn text_at<'a>(texts: &[&'a str], index: usize) -> &'a str
     texts[index]
 }
 
-/// The nets of the pins. `nets` has the number of each shape's net under these connections, which are told for proofs alone.
+/// The nets of the pins. `nets` has the number of each shape's net under these connections, which are told for proofs
+/// alone.
 pub fn pin_numbers(
     alloc: Global,
     _connections: &[Connect],
@@ -41,7 +42,8 @@ pub fn pin_numbers(
 ) -> Result<PinNumbers, Memory>
     requires rises { IsStrictlySortedBy shape_order bins.now }
     requires nets { AreShapeNets _connections.now bins.now nets.now }
-    ensures { IfOk result (ArePinNumbers _connections.now (record { shapes = bins.now; labels = map plain_label labels.now }) nets.now (map (λ t. t.now) pins.now)) }
+    ensures { IfOk result (ArePinNumbers _connections.now
+        (record { shapes = bins.now; labels = map plain_label labels.now }) nets.now (map (λ t. t.now) pins.now)) }
 {
     let mut numbers = Vec::new(alloc);
     for index in 0..pins.len() {

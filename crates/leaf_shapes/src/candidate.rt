@@ -66,7 +66,8 @@ fn shape_at(shapes: &[Shape], place: usize) -> Shape
 /// The shape that the label binds, if it binds one.
 fn bound_shape(bins: &Bins, label: &Label) -> Option<Shape>
     requires { IsStrictlySortedBy shape_order bins.now }
-    ensures { MatchOption result (BindsNone bins.now (anchor_at (plain_label label.now))) (Binds bins.now (anchor_at (plain_label label.now))) }
+    ensures { MatchOption result (BindsNone bins.now (anchor_at (plain_label label.now)))
+        (Binds bins.now (anchor_at (plain_label label.now))) }
 {
     let Some(place) = bins.first_at(label.layer, label.at) else {
         return None;
@@ -77,7 +78,8 @@ fn bound_shape(bins: &Bins, label: &Label) -> Option<Shape>
 /// The shape that the label binds, if the label is one of the pin's and the shape is as wanted.
 fn wanted_shape(bins: &Bins, label: &Label, pin: &str, wanted: Wanted) -> Option<Shape>
     requires { IsStrictlySortedBy shape_order bins.now }
-    ensures { MatchOption result (GivesNone wanted bins.now pin.now (plain_label label.now)) (GivesShape wanted bins.now pin.now (plain_label label.now)) }
+    ensures { MatchOption result (GivesNone wanted bins.now pin.now (plain_label label.now))
+        (GivesShape wanted bins.now pin.now (plain_label label.now)) }
 {
     if !is_label_of(pin, label) {
         return None;
@@ -102,7 +104,8 @@ fn label_at<'b>(labels: &[Label<'b>], index: usize) -> Label<'b>
 /// Of the shapes that the pin's labels bind, in order of labels, the first that is as wanted.
 pub fn first_candidate(bins: &Bins, labels: &[Label], pin: &str, wanted: Wanted) -> Option<Shape>
     requires { IsStrictlySortedBy shape_order bins.now }
-    ensures { MatchOption result (NoCandidate (IsWanted wanted) bins.now (map plain_label labels.now) pin.now) (IsFirstCandidate (IsWanted wanted) bins.now (map plain_label labels.now) pin.now) }
+    ensures { MatchOption result (NoCandidate (IsWanted wanted) bins.now (map plain_label labels.now) pin.now)
+        (IsFirstCandidate (IsWanted wanted) bins.now (map plain_label labels.now) pin.now) }
 {
     for index in 0..labels.len() {
         let label = label_at(labels, index);

@@ -33,8 +33,8 @@ impl Metal {
 #[derive(Clone, Copy, Debug)]
 pub struct Demand(pub &'static str, pub Metal, pub Fit);
 
-/// What a cell of the role has to draw for its pins: first for the signals, then the rails. Those for one pin stand beside
-/// each other.
+/// What a cell of the role has to draw for its pins: first for the signals, then the rails. Those for one pin stand
+/// beside each other.
 pub fn demands(role: Role) -> &'static [Demand]
     ensures { map plain_demand result.now ≡ role_demands role }
 {

@@ -7,7 +7,8 @@ pub enum PinFault {
     PinMissing { pin: Name },
     /// For some demand none of the shapes that the pin's labels bind is on the layer.
     PinLayer { pin: Name },
-    /// The pin's labels bind a shape on the layer of each demand, but for some demand none that lies as the demand asks.
+    /// The pin's labels bind a shape on the layer of each demand, but for some demand none that lies as the demand
+    /// asks.
     EdgePin { pin: Name },
     /// Memory ran out.
     Memory,

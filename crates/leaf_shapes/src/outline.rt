@@ -72,10 +72,11 @@ fn lie_inside(wire: &Wire, outer: Rect, shapes: &[Shape]) -> bool
     true
 }
 
-/// The size of a cell with these flat shapes. The layer of outlines has one shape, which begins at the origin and has no
-/// side above 65,536 nanometres, and all shapes on metals and cuts lie inside it; else there is none.
+/// The size of a cell with these flat shapes. The layer of outlines has one shape, which begins at the origin and has
+/// no side above 65,536 nanometres, and all shapes on metals and cuts lie inside it; else there is none.
 pub fn outline_size(wire: &Wire, outline: u16, shapes: &[Shape]) -> Option<CellSize>
-    ensures { MatchOption result ((size : CellSize) → IsCellOutline wire.now outline shapes.now size → ⊥) (IsCellOutline wire.now outline shapes.now) }
+    ensures { MatchOption result ((size : CellSize) → IsCellOutline wire.now outline shapes.now size
+        → ⊥) (IsCellOutline wire.now outline shapes.now) }
 {
     let Some(shape) = only_shape(outline, shapes) else {
         return None;

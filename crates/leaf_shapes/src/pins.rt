@@ -5,7 +5,8 @@ ghost use Rattle.cell_hierarchy.specs.Plain.{plain_label};
 ghost use Rattle.leaf_shapes.specs.Candidates.{IsFirstCandidate};
 ghost use Rattle.leaf_shapes.specs.declared.fit.CellSize.{CellSize};
 ghost use Rattle.leaf_shapes.specs.Demands.{plain_demand, role_demands};
-ghost use Rattle.leaf_shapes.specs.Pins.{AreLeafPins, IsDemanded, IsMet, IsPinFault, FirstLacks, LacksLayer, drawing_of};
+ghost use Rattle.leaf_shapes.specs.Pins.{AreLeafPins, IsDemanded, IsMet, IsPinFault, FirstLacks, LacksLayer};
+ghost use Rattle.leaf_shapes.specs.Pins.{drawing_of};
 ghost use Rattle.or_geom.specs.Gathering.{SomeHas};
 
 use crate::candidate::{Wanted, first_candidate, has_candidate};
@@ -37,7 +38,8 @@ fn demanded_shape(
     demand: Demand,
 ) -> Option<Shape>
     requires { IsStrictlySortedBy shape_order bins.now }
-    ensures { let cell = drawing_of wire.now size bins.now labels.now in let d = plain_demand demand in MatchOption result (IsMet cell d → ⊥) (IsFirstCandidate (IsDemanded cell d) cell.shapes cell.labels d.pin) }
+    ensures { let cell = drawing_of wire.now size bins.now labels.now in let d = plain_demand demand in MatchOption
+        result (IsMet cell d → ⊥) (IsFirstCandidate (IsDemanded cell d) cell.shapes cell.labels d.pin) }
 {
     let Demand(pin, metal, fit) = demand;
     let wanted = Wanted::Fitting {
@@ -79,7 +81,8 @@ fn demand_at(demands: &[Demand], index: usize) -> Demand
 /// Whether for one of the pin's demands none of the shapes that its labels bind is on the layer.
 fn is_off_layer(wire: &Wire, bins: &Bins, labels: &[Label], pin: &str, demands: &[Demand]) -> bool
     requires { IsStrictlySortedBy shape_order bins.now }
-    ensures { IsTrue result ↔ SomeHas (LacksLayer wire.now bins.now (map plain_label labels.now) pin.now) (map plain_demand demands.now) }
+    ensures { IsTrue result ↔ SomeHas (LacksLayer wire.now bins.now (map plain_label labels.now) pin.now)
+        (map plain_demand demands.now) }
 {
     for index in 0..demands.len() {
         if lacks_layer(wire, bins, labels, pin, demand_at(demands, index)) {
@@ -99,7 +102,9 @@ fn pin_fault(
     pin: &str,
 ) -> PinFault
     requires { IsStrictlySortedBy shape_order bins.now }
-    ensures { (size : CellSize) → FirstLacks (drawing_of wire.now size bins.now labels.now) (map plain_demand demands.now) pin.now → IsPinFault (drawing_of wire.now size bins.now labels.now) (map plain_demand demands.now) result }
+    ensures { (size : CellSize) → FirstLacks (drawing_of wire.now size bins.now labels.now)
+        (map plain_demand demands.now) pin.now
+        → IsPinFault (drawing_of wire.now size bins.now labels.now) (map plain_demand demands.now) result }
 {
     let Ok(name) = Name::from_bytes(alloc, pin.as_bytes()) else {
         return PinFault::Memory;
@@ -123,9 +128,9 @@ fn leaf_pin(alloc: Global, demand: Demand, shape: Shape) -> Result<LeafPin, Memo
     })
 }
 
-/// The shapes of the pins of a cell of the role, one for each of its demands, in order. `bins` has the cell's flat shapes
-/// and `labels` are its flat labels in order. The first pin that lacks one is refused: `PinMissing` where its labels bind
-/// no shape, else `PinLayer` where for one of its demands none of these is on the layer, else `EdgePin`.
+/// The shapes of the pins of a cell of the role, one for each of its demands, in order. `bins` has the cell's flat
+/// shapes and `labels` are its flat labels in order. The first pin that lacks one is refused: `PinMissing` where its
+/// labels bind no shape, else `PinLayer` where for one of its demands none of these is on the layer, else `EdgePin`.
 pub fn pin_shapes(
     alloc: Global,
     role: Role,

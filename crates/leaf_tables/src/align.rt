@@ -1,7 +1,9 @@
 ghost use Rattle.std.specs.Prelude.{◌≡◌, ◌↔◌, ◌<◌, IsTrue, IfErr, MatchOption, OnOk, Some, length, slice_get};
 ghost use Rattle.std.specs.List.{AllByRecursion};
 ghost use Rattle.std.specs.Option.{option_copied};
-ghost use Rattle.leaf_tables.specs.Alignment.{AreAligned, Face, IsFirstOdd, IsMisaligned, IsOfFacing, SameHeight, SameWidth, end_in, end_of, end_of_pin, height_in, heights_equal, leaf_in, pins_face, plain_facing, width_in, widths_equal};
+ghost use Rattle.leaf_tables.specs.Alignment.{AreAligned, Face, IsFirstOdd, IsMisaligned, IsOfFacing, SameHeight};
+ghost use Rattle.leaf_tables.specs.Alignment.{SameWidth, end_in, end_of, end_of_pin, height_in, heights_equal, leaf_in};
+ghost use Rattle.leaf_tables.specs.Alignment.{pins_face, plain_facing, width_in, widths_equal};
 
 use crate::alignment::{Facing, PinEdge, facing_pins, height_pairs, width_pairs};
 use crate::fault::KitFault;
@@ -102,7 +104,8 @@ fn pair_at(all: &[(Role, Role)], index: usize) -> (Role, Role)
 
 /// The first role whose cell isn't as high as the other of its pair.
 fn first_height(leaves: &[Leaf]) -> Option<(Role, Role)>
-    ensures { MatchOption result (AllByRecursion (SameHeight leaves.now) heights_equal) (IsFirstOdd (SameHeight leaves.now) heights_equal) }
+    ensures { MatchOption result (AllByRecursion (SameHeight leaves.now) heights_equal)
+        (IsFirstOdd (SameHeight leaves.now) heights_equal) }
 {
     let all = height_pairs();
     for index in 0..all.len() {
@@ -116,7 +119,8 @@ fn first_height(leaves: &[Leaf]) -> Option<(Role, Role)>
 
 /// The first role whose cell isn't as wide as the other of its pair.
 fn first_width(leaves: &[Leaf]) -> Option<(Role, Role)>
-    ensures { MatchOption result (AllByRecursion (SameWidth leaves.now) widths_equal) (IsFirstOdd (SameWidth leaves.now) widths_equal) }
+    ensures { MatchOption result (AllByRecursion (SameWidth leaves.now) widths_equal)
+        (IsFirstOdd (SameWidth leaves.now) widths_equal) }
 {
     let all = width_pairs();
     for index in 0..all.len() {
@@ -138,7 +142,8 @@ fn facing_at(all: &[Facing], index: usize) -> Facing
 
 /// The first pin that doesn't face the other of its pair.
 fn first_facing(leaves: &[Leaf]) -> Option<Facing>
-    ensures { MatchOption result (AllByRecursion (Face leaves.now) pins_face) (λ facing. IsFirstOdd (Face leaves.now) pins_face (plain_facing facing)) }
+    ensures { MatchOption result (AllByRecursion (Face leaves.now) pins_face)
+        (λ facing. IsFirstOdd (Face leaves.now) pins_face (plain_facing facing)) }
 {
     let all = facing_pins();
     for index in 0..all.len() {

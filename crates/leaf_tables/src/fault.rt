@@ -4,7 +4,8 @@ use or_geom::Name;
 use role_tables::TableFault;
 use spice_text::SpiceFault;
 
-/// Why files are no kit: the first of these in the order in which a kit is read. A `role` is named as in the technology.
+/// Why files are no kit: the first of these in the order in which a kit is read. A `role` is named as in the
+/// technology.
 #[derive(Debug, Drop)]
 pub enum KitFault {
     /// The leaf cells' layouts are no library.
@@ -17,8 +18,8 @@ pub enum KitFault {
     Table(TableFault),
     /// A role's cell has no flat layout.
     Flatten(FlattenFault),
-    /// The layer of outlines has not just one shape, from the origin and with sides of at most 65,536 nanometres; or a shape
-    /// on a metal or a cut lies outside it.
+    /// The layer of outlines has not just one shape, from the origin and with sides of at most 65,536 nanometres; or a
+    /// shape on a metal or a cut lies outside it.
     Outline { role: Name },
     /// No subcircuit is named as the cell is, in lower case.
     UnknownSubckt { name: Name },

@@ -12,8 +12,8 @@ pub struct Leaf {
     pub pins: Items<LeafPin>,
 }
 
-/// A technology and its leaf cells: the library that draws them, their subcircuits, the bytes of these, and a leaf for each
-/// role, in the order of roles.
+/// A technology and its leaf cells: the library that draws them, their subcircuits, the bytes of these, and a leaf for
+/// each role, in the order of roles.
 #[derive(Debug, Drop)]
 pub struct Kit {
     pub tech: Tech,

@@ -12,7 +12,8 @@ ghost use Rattle.leaf_shapes.specs.Demands.{role_demands};
 ghost use Rattle.leaf_shapes.specs.Outline.{IsCellOutline};
 ghost use Rattle.leaf_shapes.specs.Pins.{AreLeafPins, drawing_of};
 ghost use Rattle.leaf_tables.specs.Leaves.{AreLeaves, HasPorts, IsLeaf, IsLeafFault, cell_named_for};
-ghost use Rattle.leaf_tables.specs.Steps.{IsLayoutFault, IsOfPin, IsOutlineFault, IsLeavesFault, IsPortFault, LacksPins, source_in};
+ghost use Rattle.leaf_tables.specs.Steps.{IsLayoutFault, IsOfPin, IsOutlineFault, IsLeavesFault, IsPortFault};
+ghost use Rattle.leaf_tables.specs.Steps.{LacksPins, source_in};
 
 use crate::fault::KitFault;
 use crate::kit::Leaf;
@@ -133,7 +134,8 @@ fn pins_of<'b>(
 ) -> Result<Items<LeafPin>, KitFault>
     requires rises { IsStrictlySortedBy shape_order flat.now.shapes.now }
     requires few { length flat.now.shapes.now ≤ 16777216 }
-    ensures pins { IfOk result (AreLeafPins (drawing_of wire.now size flat.now.shapes.now flat.now.labels.now) (role_demands (pin_role role))) }
+    ensures pins { IfOk result (AreLeafPins (drawing_of wire.now size flat.now.shapes.now flat.now.labels.now)
+        (role_demands (pin_role role))) }
     ensures fault { IfErr result (LacksPins (drawing_of wire.now size flat.now.shapes.now flat.now.labels.now) role) }
 {
     let Ok(bins) = index(alloc, bump, flat) else {
@@ -203,8 +205,8 @@ fn drawn_leaf(
     }
 }
 
-/// The leaf of a role that the technology names a cell for. What is refused is refused in this order: the cell's flat layout, its
-/// outline, its subcircuit, the ports of that, and its pins. `Memory` may come in place of each.
+/// The leaf of a role that the technology names a cell for. What is refused is refused in this order: the cell's flat
+/// layout, its outline, its subcircuit, the ports of that, and its pins. `Memory` may come in place of each.
 pub fn read_leaf(
     alloc: Global,
     tech: &Tech,

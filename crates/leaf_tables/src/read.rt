@@ -22,9 +22,9 @@ fn copied(alloc: Global, bytes: &[u8]) -> Result<Items<u8>, Memory>
 }
 
 /// Reads a kit: the technology's leaf cells from a GDSII file and from a SPICE text. What is refused is refused in this
-/// order: the GDSII file; the SPICE text; a technology without wires; its roles and tables; then role by role its cell's
-/// flat layout, outline, subcircuit, ports and pins; then, over all roles, heights, widths, and pins that don't face each
-/// other. `Memory` may come in place of each.
+/// order: the GDSII file; the SPICE text; a technology without wires; its roles and tables; then role by role its
+/// cell's flat layout, outline, subcircuit, ports and pins; then, over all roles, heights, widths, and pins that don't
+/// face each other. `Memory` may come in place of each.
 pub fn read_kit(alloc: Global, tech: Tech, gds: &[u8], sp: &[u8]) -> Result<Kit, KitFault>
     requires { IsTech tech }
     ensures kit { IfOk result (IsKitOf tech gds.now sp.now) }

@@ -1,5 +1,5 @@
-//! Laws of reports: what breaks a rule is seen near a shape, so that a layout whose every part stands in a layout without
-//! violations has none.
+//! Laws of reports: what breaks a rule is seen near a shape, so that a layout whose every part stands in a layout
+//! without violations has none.
 #![tactic(auto)]
 
 ghost use Rattle.local_report.specs.Alike.{AlikeKeepsEnclose, AlikeKeepsSpace, AlikeKeepsWidth};

@@ -1,5 +1,6 @@
 ghost use Rattle.macro_bounds.specs.Library.{MacroCellsHaveLayers, MacroLibrariesAreWritable, MacroLibrariesAreMacros};
-ghost use Rattle.macro_bounds.specs.Near.{RoutedShapesAreNear, TracksAreFew, RailShapesAreNear, NearWiresAreWritable, ListedShapesAreNear, GreaterBoundsHold, NearShapesHaveLayers};
+ghost use Rattle.macro_bounds.specs.Near.{RoutedShapesAreNear, TracksAreFew, RailShapesAreNear, NearWiresAreWritable};
+ghost use Rattle.macro_bounds.specs.Near.{ListedShapesAreNear, GreaterBoundsHold, NearShapesHaveLayers};
 ghost use Rattle.macro_bounds.specs.Complete.{FlatCellsAreComplete, FlatCellsAreSound, LeafCellsAreFlat};
 ghost use Rattle.macro_bounds.specs.Counts.{LogicCellsAreFew, ChannelNetsAreFew};
 ghost use Rattle.macro_bounds.specs.Floorplans.{FloorplansAreNear};
@@ -37,8 +38,8 @@ pub fn macro_cells_are_writable()
     ensures { MacroCellsAreWritable }
 {}
 
-/// A law for proofs: the names of a macro's cells differ, and so do those of all structures where theirs are free among the
-/// adopted ones.
+/// A law for proofs: the names of a macro's cells differ, and so do those of all structures where theirs are free among
+/// the adopted ones.
 pub fn macro_names_differ()
     ensures names { MacroNamesDiffer }
     ensures made { MadeNamesDiffer }
@@ -54,8 +55,8 @@ pub fn floorplans_are_near()
     ensures { FloorplansAreNear }
 {}
 
-/// A law for proofs: a cell that has flat lists is complete, and its chains have at most 32 references; and the leaf cells of a
-/// macro have flat lists.
+/// A law for proofs: a cell that has flat lists is complete, and its chains have at most 32 references; and the leaf
+/// cells of a macro have flat lists.
 pub fn kit_leaves_are_complete()
     ensures complete { FlatCellsAreComplete }
     ensures sound { FlatCellsAreSound }
@@ -74,8 +75,8 @@ pub fn labels_are_writable()
     ensures layers { LabelsHaveLayers }
 {}
 
-/// A law for proofs: what is near shape by shape is near as a list, also within a greater bound, and is on layers that are
-/// there.
+/// A law for proofs: what is near shape by shape is near as a list, also within a greater bound, and is on layers that
+/// are there.
 pub fn near_shapes_are_listed()
     ensures listed { ListedShapesAreNear }
     ensures greater { GreaterBoundsHold }
@@ -87,8 +88,8 @@ pub fn output_names_are_short()
     ensures { OutputNamesAreShort }
 {}
 
-/// A law for proofs: a macro's library over structures with other names can be written, and is the macro's where the leaf
-/// cells are complete; its cells are on layers that are there.
+/// A law for proofs: a macro's library over structures with other names can be written, and is the macro's where the
+/// leaf cells are complete; its cells are on layers that are there.
 pub fn macro_libraries_are_writable()
     ensures layers { MacroCellsHaveLayers }
     ensures writable { MacroLibrariesAreWritable }

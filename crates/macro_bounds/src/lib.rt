@@ -1,4 +1,5 @@
-//! Laws that bound what a memory's layout is made of: coordinates, names and counts, so that its library can be written.
+//! Laws that bound what a memory's layout is made of: coordinates, names and counts, so that its library can be
+//! written.
 #![tactic(auto)]
 
 mod laws;

@@ -1,5 +1,5 @@
-//! Laws of macros: a kit, a plan and what is held have one macro under a name or one fault of a part, and are built in one way or
-//! refused in one way.
+//! Laws of macros: a kit, a plan and what is held have one macro under a name or one fault of a part, and are built in
+//! one way or refused in one way.
 #![tactic(auto)]
 
 ghost use Rattle.macro_laws.specs.OneBuild.{BuildFaultsAreUnique, BuildFaultsExcludeBuilds, BuildsAreUnique};

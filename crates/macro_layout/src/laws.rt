@@ -19,12 +19,14 @@ pub fn flat_lists_are_stated()
     ensures { FlatListsAreStated }
 {}
 
-/// A law for proofs: a macro over sound leaf cells is sound, and its chains have at most four references more than theirs.
+/// A law for proofs: a macro over sound leaf cells is sound, and its chains have at most four references more than
+/// theirs.
 pub fn macros_are_sound()
     ensures { MacrosAreSound }
 {}
 
-/// A law for proofs: the column channel and the main channel have the wires of a routed channel that stands elsewhere, moved.
+/// A law for proofs: the column channel and the main channel have the wires of a routed channel that stands elsewhere,
+/// moved.
 pub fn channels_are_drawn()
     ensures column { ColumnChannelsAreDrawn }
     ensures main { MainChannelsAreDrawn }

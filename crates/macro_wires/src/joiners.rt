@@ -27,9 +27,9 @@ pub fn columns_x(sides: &LeafSides, floorplan: &FloorplanNumbers) -> i64
     floorplan.row_x + (sides.gate_width + sides.driver_width) as i64
 }
 
-/// Adds a bank's joiners on the first metal: where something is written one along the upper rails of the write cells, and one
-/// along those of the columns' ends and on to the left end of the rows. The bank begins at its lower edge: that of
-/// the write cells, or else of the sense cells.
+/// Adds a bank's joiners on the first metal: where something is written one along the upper rails of the write cells,
+/// and one along those of the columns' ends and on to the left end of the rows. The bank begins at its lower edge: that
+/// of the write cells, or else of the sense cells.
 pub fn add_bank_joiners(
     plan: &Plan,
     sides: &LeafSides,
@@ -42,7 +42,11 @@ pub fn add_bank_joiners(
     requires sizes { AreSizes wire.now }
     requires metals { 0 < length wire.now.metals }
     requires near { IsNearFloorplan floorplan.now }
-    ensures { OnOk result ((kit : LayoutKit) → AreSidesOf (organization plan.now) kit sides.now → Adds shapes.old.items shapes.new.items (IsLowered floorplan.now.write_y (λ s. IsWriteJoiner (organization plan.now) kit wire.now (floorplan_of floorplan.now) s ⊎ IsCornerJoiner (organization plan.now) kit wire.now (floorplan_of floorplan.now) s))) }
+    ensures { OnOk result ((kit : LayoutKit) → AreSidesOf (organization plan.now) kit sides.now
+        → Adds shapes.old.items shapes.new.items
+        (IsLowered floorplan.now.write_y (λ s. IsWriteJoiner (organization plan.now) kit wire.now
+        (floorplan_of floorplan.now) s ⊎ IsCornerJoiner (organization plan.now) kit wire.now
+        (floorplan_of floorplan.now) s))) }
 {
     let left = columns_x(sides, floorplan);
     let right = left + extent(plan.columns, sides.bit_width) as i64;

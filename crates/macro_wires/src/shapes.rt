@@ -44,7 +44,8 @@ pub(crate) fn add_bar(
     Ok(())
 }
 
-/// Adds a bar along the lower edge of a row, where the row is one of those that have it: the odd ones, or the even ones.
+/// Adds a bar along the lower edge of a row, where the row is one of those that have it: the odd ones, or the even
+/// ones.
 fn add_row_bar(
     trunk: i64,
     from: Point,
@@ -62,7 +63,8 @@ fn add_row_bar(
     requires few { row ≤ 256 }
     requires height { height ≤ 65536 }
     requires before { from.x <ℤ (trunk +ℤ wire.now.width) }
-    ensures { OnOk result (Adds shapes.old.items shapes.new.items (IsBarOfRow wire.now trunk from.x from.y height odd row)) }
+    ensures { OnOk result (Adds shapes.old.items shapes.new.items
+        (IsBarOfRow wire.now trunk from.x from.y height odd row)) }
 {
     if row % 2 != odd {
         return Ok(());
@@ -90,7 +92,8 @@ pub(crate) fn add_row_bars(
     requires few { rows ≤ 256 }
     requires height { height ≤ 65536 }
     requires before { from.x <ℤ (trunk +ℤ wire.now.width) }
-    ensures { OnOk result (Adds shapes.old.items shapes.new.items (IsRowBar wire.now trunk from.x from.y height odd rows)) }
+    ensures { OnOk result (Adds shapes.old.items shapes.new.items
+        (IsRowBar wire.now trunk from.x from.y height odd rows)) }
 {
     for row in 0..rows {
         add_row_bar(trunk, from, row, height, odd, wire, shapes)?;

@@ -24,7 +24,8 @@ fn add_trunk(x: i64, upper: i64, wire: &Wire, shapes: &mut Vec<Shape>) -> Result
     requires metals { 1 < length wire.now.metals }
     requires room { LeavesRoom x }
     requires tall { pos 0 <ℤ upper }
-    ensures { OnOk result (Adds shapes.old.items shapes.new.items (IsBox (slice_index wire.now.metals 1) x (pos 0) (x +ℤ wire.now.width) upper)) }
+    ensures { OnOk result (Adds shapes.old.items shapes.new.items
+        (IsBox (slice_index wire.now.metals 1) x (pos 0) (x +ℤ wire.now.width) upper)) }
 {
     let rect = Rect {
         x1: x,
@@ -36,8 +37,8 @@ fn add_trunk(x: i64, upper: i64, wire: &Wire, shapes: &mut Vec<Shape>) -> Result
     Ok(())
 }
 
-/// Adds the trunk of vdd and its bars, which run along the supply rails of the cells: those of the write cells where something is
-/// written.
+/// Adds the trunk of vdd and its bars, which run along the supply rails of the cells: those of the write cells where
+/// something is written.
 pub fn add_power_wires(
     plan: &Plan,
     sides: &LeafSides,
@@ -53,7 +54,10 @@ pub fn add_power_wires(
     requires cuts { 0 < length wire.now.cuts }
     requires near { IsNearFloorplan floorplan.now }
     requires behind { IsBehind sides.now floorplan.now trunk }
-    ensures { OnOk result ((kit : LayoutKit) → AreSidesOf (organization plan.now) kit sides.now → trunk ≡ trunk_x (organization plan.now) kit wire.now (floorplan_of floorplan.now) → Adds shapes.old.items shapes.new.items (IsPowerWire (organization plan.now) kit wire.now (floorplan_of floorplan.now))) }
+    ensures { OnOk result ((kit : LayoutKit) → AreSidesOf (organization plan.now) kit sides.now
+        → trunk ≡ trunk_x (organization plan.now) kit wire.now (floorplan_of floorplan.now)
+        → Adds shapes.old.items shapes.new.items
+        (IsPowerWire (organization plan.now) kit wire.now (floorplan_of floorplan.now))) }
 {
     let columns = columns_x(sides, floorplan);
     let upper = floorplan.precharge_y + sides.precharge_height as i64;
@@ -109,7 +113,10 @@ pub fn add_ground_wires(
     requires cuts { 0 < length wire.now.cuts }
     requires near { IsNearFloorplan floorplan.now }
     requires behind { IsBehind sides.now floorplan.now trunk }
-    ensures { OnOk result ((kit : LayoutKit) → AreSidesOf (organization plan.now) kit sides.now → trunk ≡ ground_x (organization plan.now) kit wire.now (floorplan_of floorplan.now) → Adds shapes.old.items shapes.new.items (IsGroundWire (organization plan.now) kit wire.now (floorplan_of floorplan.now))) }
+    ensures { OnOk result ((kit : LayoutKit) → AreSidesOf (organization plan.now) kit sides.now
+        → trunk ≡ ground_x (organization plan.now) kit wire.now (floorplan_of floorplan.now)
+        → Adds shapes.old.items shapes.new.items
+        (IsGroundWire (organization plan.now) kit wire.now (floorplan_of floorplan.now))) }
 {
     let columns = columns_x(sides, floorplan);
     let upper = floorplan.precharge_y + sides.precharge_height as i64;

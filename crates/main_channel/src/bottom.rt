@@ -29,8 +29,10 @@ pub fn add_row_pins(
     requires fit { FitRoles gates.now roles.now }
     requires few { length gates.now ≤ 3000 }
     requires x { IsUpTo (2 ^ 17) logic_x }
-    ensures is { OnOk result (pins.new.items ≡ pins.old.items ++ row_pins (pin_begin kit.now) (leaf_width kit.now) (found_number numbers.now) gates.now roles.now logic_x) }
-    ensures main { OnOk result ((nets : ℕ) → IsNetNumbering nets (found_number numbers.now) → AreMainPins nets pins.old.items → AreMainPins nets pins.new.items) }
+    ensures is { OnOk result (pins.new.items ≡ pins.old.items ++ row_pins (pin_begin kit.now) (leaf_width kit.now)
+        (found_number numbers.now) gates.now roles.now logic_x) }
+    ensures main { OnOk result ((nets : ℕ) → IsNetNumbering nets (found_number numbers.now)
+        → AreMainPins nets pins.old.items → AreMainPins nets pins.new.items) }
 {
     let mut x = logic_x;
     for cell in 0..gates.len() {
@@ -54,8 +56,10 @@ fn add_cell_pins(
     requires ports { 2 ≤ length gate.now.nodes }
     requires nodes { length gate.now.nodes ≡ length (role_demands role) }
     requires x { IsUpTo (2 ^ 28 - 65536) x }
-    ensures is { OnOk result (pins.new.items ≡ pins.old.items ++ cell_channel_pins (pin_begin kit.now) (found_number numbers.now) role gate.now x) }
-    ensures main { OnOk result ((nets : ℕ) → IsNetNumbering nets (found_number numbers.now) → AreMainPins nets pins.old.items → AreMainPins nets pins.new.items) }
+    ensures is { OnOk result (pins.new.items ≡ pins.old.items ++ cell_channel_pins (pin_begin kit.now)
+        (found_number numbers.now) role gate.now x) }
+    ensures main { OnOk result ((nets : ℕ) → IsNetNumbering nets (found_number numbers.now)
+        → AreMainPins nets pins.old.items → AreMainPins nets pins.new.items) }
 {
     for port in 0..gate.nodes.as_slice().len() - 2 {
         let node = gate.nodes.as_slice()[port].as_bytes();

@@ -22,7 +22,8 @@ pub fn add_pin(
 ) -> Result<(), Memory>
     requires { IsMacroCoordinate x }
     ensures is { OnOk result (pins.new.items ≡ pins.old.items ++ numbered_net (found_number numbers.now) name.now x) }
-    ensures main { OnOk result ((nets : ℕ) → IsNetNumbering nets (found_number numbers.now) → AreMainPins nets pins.old.items → AreMainPins nets pins.new.items) }
+    ensures main { OnOk result ((nets : ℕ) → IsNetNumbering nets (found_number numbers.now)
+        → AreMainPins nets pins.old.items → AreMainPins nets pins.new.items) }
 {
     if let Some(net) = numbers.find(name) {
         pins.push(ChannelPin { x, net })?;
@@ -43,8 +44,10 @@ pub fn add_leaf_pin(
     requires kit { IsKit kit.now }
     requires there { pin < length (role_demands role) }
     requires x { IsUpTo (2 ^ 28 - 65536) x }
-    ensures is { OnOk result (pins.new.items ≡ pins.old.items ++ numbered_net (found_number numbers.now) name.now (x +ℤ pin_begin kit.now role pin)) }
-    ensures main { OnOk result ((nets : ℕ) → IsNetNumbering nets (found_number numbers.now) → AreMainPins nets pins.old.items → AreMainPins nets pins.new.items) }
+    ensures is { OnOk result (pins.new.items ≡ pins.old.items ++ numbered_net (found_number numbers.now) name.now
+        (x +ℤ pin_begin kit.now role pin)) }
+    ensures main { OnOk result ((nets : ℕ) → IsNetNumbering nets (found_number numbers.now)
+        → AreMainPins nets pins.old.items → AreMainPins nets pins.new.items) }
 {
     add_pin(numbers, name, x + pin_left(kit, role, pin), pins)?;
     Ok(())

@@ -1,4 +1,5 @@
-ghost use Rattle.std.specs.Prelude.{◌≡◌, ◌++◌, ◌-◌, ◌≤◌, ◌^◌, ℕ, ℤ, pos, ◌+ℤ◌, ◌*ℤ◌, ◌≤ℤ◌, Some, length, codes, IfOk, OnOk};
+ghost use Rattle.std.specs.Prelude.{◌≡◌, ◌++◌, ◌-◌, ◌≤◌, ◌^◌, ℕ, ℤ, pos, ◌+ℤ◌, ◌*ℤ◌, ◌≤ℤ◌, Some, length, codes, IfOk};
+ghost use Rattle.std.specs.Prelude.{OnOk};
 ghost use Rattle.cell_roles.specs.declared.role.Role.TheVariants.{Sense};
 ghost use Rattle.tech_rules.specs.declared.tech.Wire.{Wire};
 ghost use Rattle.tech_rules.specs.Drawing.{pitch};
@@ -10,7 +11,8 @@ ghost use Rattle.sram_plan.specs.PlanNumbers.{numbers_of, organization};
 ghost use Rattle.port_lists.specs.Spelled.{spelled};
 ghost use Rattle.macro_cells.specs.LeafSides.{leaf_width};
 ghost use Rattle.macro_wires.specs.FloorplanNumbers.{IsUpTo, IsNearFloorplan};
-ghost use Rattle.main_channel.specs.Banks.{bank_rail_pins, write_pins, written_pins, slice_pins, bank_pins, columns_begin};
+ghost use Rattle.main_channel.specs.Banks.{bank_rail_pins, write_pins, written_pins, slice_pins, bank_pins};
+ghost use Rattle.main_channel.specs.Banks.{columns_begin};
 ghost use Rattle.leaf_tables.specs.NearLeaf.{IsLeafLength};
 ghost use Rattle.main_channel.specs.Leaves.{pin_begin};
 ghost use Rattle.main_channel.specs.Names.{rail_names, enable_name};
@@ -41,8 +43,12 @@ pub fn add_bank_pins(
     requires kit { IsKit kit.now }
     requires plan { ArePlanNumbers (numbers_of plan.now) }
     requires near { IsNearFloorplan floorplan.now }
-    ensures is { OnOk result ((wire : Wire) → kit.now.tech.wire ≡ Some wire → pins.new.items ≡ pins.old.items ++ tabulate_lists plan.now.banks (bank_pins (pin_begin kit.now) (leaf_width kit.now) (found_number numbers.now) (organization plan.now) (pitch wire) floorplan.now.row_x floorplan.now.bank_width)) }
-    ensures main { OnOk result ((nets : ℕ) → IsNetNumbering nets (found_number numbers.now) → AreMainPins nets pins.old.items → AreMainPins nets pins.new.items) }
+    ensures is { OnOk result ((wire : Wire) → kit.now.tech.wire ≡ Some wire
+        → pins.new.items ≡ pins.old.items ++ tabulate_lists plan.now.banks
+        (bank_pins (pin_begin kit.now) (leaf_width kit.now) (found_number numbers.now) (organization plan.now)
+        (pitch wire) floorplan.now.row_x floorplan.now.bank_width)) }
+    ensures main { OnOk result ((nets : ℕ) → IsNetNumbering nets (found_number numbers.now)
+        → AreMainPins nets pins.old.items → AreMainPins nets pins.new.items) }
 {
     let pitch = pitch_of(kit);
     let columns_x = columns_of(alloc, kit, plan, floorplan)?;
@@ -123,8 +129,10 @@ fn add_rail_pins(
     requires few { length names.now ≤ 64 }
     requires x { IsUpTo (2 ^ 27) x }
     requires pitch { IsUpTo (2 ^ 17) pitch }
-    ensures is { OnOk result (pins.new.items ≡ pins.old.items ++ bank_rail_pins (found_number numbers.now) names.now x pitch) }
-    ensures main { OnOk result ((nets : ℕ) → IsNetNumbering nets (found_number numbers.now) → AreMainPins nets pins.old.items → AreMainPins nets pins.new.items) }
+    ensures is { OnOk result (pins.new.items
+        ≡ pins.old.items ++ bank_rail_pins (found_number numbers.now) names.now x pitch) }
+    ensures main { OnOk result ((nets : ℕ) → IsNetNumbering nets (found_number numbers.now)
+        → AreMainPins nets pins.old.items → AreMainPins nets pins.new.items) }
 {
     for rail in 0..names.len() {
         let left = x + pitches(rail as u32 + 1, pitch);
@@ -157,8 +165,10 @@ fn add_slice_pins(
     requires kit { IsKit kit.now }
     requires plan { ArePlanNumbers (numbers_of plan.now) }
     requires x { IsUpTo (2 ^ 27) x }
-    ensures is { OnOk result (pins.new.items ≡ pins.old.items ++ slice_pins (pin_begin kit.now) (leaf_width kit.now) (found_number numbers.now) (organization plan.now) bank x) }
-    ensures main { OnOk result ((nets : ℕ) → IsNetNumbering nets (found_number numbers.now) → AreMainPins nets pins.old.items → AreMainPins nets pins.new.items) }
+    ensures is { OnOk result (pins.new.items ≡ pins.old.items ++ slice_pins (pin_begin kit.now) (leaf_width kit.now)
+        (found_number numbers.now) (organization plan.now) bank x) }
+    ensures main { OnOk result ((nets : ℕ) → IsNetNumbering nets (found_number numbers.now)
+        → AreMainPins nets pins.old.items → AreMainPins nets pins.new.items) }
 {
     let width = leaf_of(kit, Role::Bitcell).width;
     for bit in 0..plan.word_size {
@@ -194,8 +204,10 @@ fn add_write_pins(
     requires kit { IsKit kit.now }
     requires plan { ArePlanNumbers (numbers_of plan.now) }
     requires x { IsUpTo (2 ^ 28 - 65536) x }
-    ensures is { OnOk result (pins.new.items ≡ pins.old.items ++ written_pins plan.now.write_size (write_pins (pin_begin kit.now) (found_number numbers.now) (organization plan.now) bank bit x)) }
-    ensures main { OnOk result ((nets : ℕ) → IsNetNumbering nets (found_number numbers.now) → AreMainPins nets pins.old.items → AreMainPins nets pins.new.items) }
+    ensures is { OnOk result (pins.new.items ≡ pins.old.items ++ written_pins plan.now.write_size
+        (write_pins (pin_begin kit.now) (found_number numbers.now) (organization plan.now) bank bit x)) }
+    ensures main { OnOk result ((nets : ℕ) → IsNetNumbering nets (found_number numbers.now)
+        → AreMainPins nets pins.old.items → AreMainPins nets pins.new.items) }
 {
     if plan.write_size == 0 {
         return Ok(());
@@ -218,8 +230,10 @@ fn add_sense_pin(
 ) -> Result<(), Memory>
     requires kit { IsKit kit.now }
     requires x { IsUpTo (2 ^ 28 - 65536) x }
-    ensures is { OnOk result (pins.new.items ≡ pins.old.items ++ numbered_net (found_number numbers.now) (with_index (codes "dout0") bit) (x +ℤ pin_begin kit.now Sense 2)) }
-    ensures main { OnOk result ((nets : ℕ) → IsNetNumbering nets (found_number numbers.now) → AreMainPins nets pins.old.items → AreMainPins nets pins.new.items) }
+    ensures is { OnOk result (pins.new.items ≡ pins.old.items ++ numbered_net (found_number numbers.now)
+        (with_index (codes "dout0") bit) (x +ℤ pin_begin kit.now Sense 2)) }
+    ensures main { OnOk result ((nets : ℕ) → IsNetNumbering nets (found_number numbers.now)
+        → AreMainPins nets pins.old.items → AreMainPins nets pins.new.items) }
 {
     let output = spell(alloc, Spelling::Indexed(b"dout0", bit))?;
     add_leaf_pin(kit, numbers, output.as_bytes(), Role::Sense, 2, x, pins)?;

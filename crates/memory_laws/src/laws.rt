@@ -1,5 +1,6 @@
 ghost use Rattle.memory_laws.specs.Examples.{ExamplesAnswer};
-ghost use Rattle.memory_laws.specs.Laws.{AddressesSplit, CommandsObey, PhasesAgree, PortsFit, RunsAnswer, RunsExist, RunsObey};
+ghost use Rattle.memory_laws.specs.Laws.{AddressesSplit, CommandsObey, PhasesAgree, PortsFit, RunsAnswer, RunsExist};
+ghost use Rattle.memory_laws.specs.Laws.{RunsObey};
 ghost use Rattle.memory_laws.specs.NumberArray.{RunsAnswerNumbers};
 ghost use Rattle.memory_laws.specs.Numbers.{NumbersAgree};
 
@@ -13,7 +14,8 @@ pub fn runs_answer()
     ensures { RunsAnswer }
 {}
 
-/// The same with words, masks and addresses as numbers: every run from a start gives the answers of an array of numbers.
+/// The same with words, masks and addresses as numbers: every run from a start gives the answers of an array of
+/// numbers.
 pub fn runs_answer_numbers()
     ensures { RunsAnswerNumbers }
 {}

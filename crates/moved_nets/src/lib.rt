@@ -1,5 +1,5 @@
-//! Laws of the reference netlist: the nets of an instance, moved by slices, data bits or masks, are the moved nets of its counterpart in
-//! a smaller memory.
+//! Laws of the reference netlist: the nets of an instance, moved by slices, data bits or masks, are the moved nets of
+//! its counterpart in a smaller memory.
 #![tactic(auto)]
 
 ghost use Rattle.moved_nets.specs.Moved.{SlicesMove, LogicMoves};

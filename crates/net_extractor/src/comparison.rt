@@ -25,7 +25,8 @@ fn pin_name(alloc: Global, pin: &RowPin) -> Result<PinName, Memory>
 /// The name of the label at the place, as it stands.
 fn label_name(alloc: Global, labels: &[NetLabel], place: usize) -> Result<PinName, Memory>
     requires { place < length labels.now }
-    ensures { IfOk result (λ name. (label : NetLabel) → slice_get labels.now place ≡ Some label → name ≡ name_of_label label) }
+    ensures { IfOk result (λ name. (label : NetLabel) → slice_get labels.now place ≡ Some label
+        → name ≡ name_of_label label) }
 {
     let label = &labels[place];
     Ok(PinName {
@@ -79,8 +80,8 @@ fn first_difference(
     Ok(Some(difference))
 }
 
-/// The first difference of the labels of a layout and the rows of a netlist, or None exactly where there is none. First comes
-/// the first pin without a bound label, then the first stranger; then pin by pin what is open or short.
+/// The first difference of the labels of a layout and the rows of a netlist, or None exactly where there is none. First
+/// comes the first pin without a bound label, then the first stranger; then pin by pin what is open or short.
 pub fn compare(alloc: Global, nets: &Nets, rows: &Rows) -> Result<Option<NetDiff>, Memory>
     ensures none { IfOk result (λ found. (found ≡ None) ↔ AreAlike nets.now.labels rows.now.pins) }
     ensures first { IfOk result (λ found. IfSome found (IsFirstDifference nets.now.labels rows.now.pins)) }

@@ -14,8 +14,8 @@ use or_geom::Memory;
 use std::alloc::Global;
 use std::collections::BTreeMap;
 
-/// The places of two pins that are on one net in the rows or in the layout alone; or of one pin, twice, that has labels on
-/// two nets.
+/// The places of two pins that are on one net in the rows or in the layout alone; or of one pin, twice, that has labels
+/// on two nets.
 #[derive(Clone, Copy)]
 pub enum Conflict {
     Open { first: usize, second: usize },
@@ -124,7 +124,8 @@ pub fn first_conflict(
     nets: &[PinNet],
 ) -> Result<Option<Conflict>, Memory>
     requires { ArePinNets labels.now pins.now nets.now }
-    ensures { IfOk result (λ found. MatchOption found (AreRightBefore labels.now pins.now (length pins.now)) (IsConflict labels.now pins.now)) }
+    ensures { IfOk result (λ found. MatchOption found (AreRightBefore labels.now pins.now (length pins.now))
+        (IsConflict labels.now pins.now)) }
 {
     let mut matching = Matching {
         layouts: BTreeMap::new(alloc),

@@ -28,7 +28,8 @@ fn give_joined(
     out: &mut Vec<usize>,
 ) -> Result<(), Memory>
     ensures shapes { numbers.new.shapes ≡ numbers.old.shapes }
-    ensures gives { OnOk result (GivesAll (TouchesOnLayerAt connections.now numbers.old.shapes shape) number numbers.old.given numbers.new.given out.old.items out.new.items) }
+    ensures gives { OnOk result (GivesAll (TouchesOnLayerAt connections.now numbers.old.shapes shape) number
+        numbers.old.given numbers.new.given out.old.items out.new.items) }
 {
     if !is_conductor(connections, shape.layer) {
         return Ok(());
@@ -45,7 +46,8 @@ fn give_overlapping(
     out: &mut Vec<usize>,
 ) -> Result<(), Memory>
     ensures shapes { numbers.new.shapes ≡ numbers.old.shapes }
-    ensures gives { OnOk result (GivesAll (IsHitOnSome numbers.old.shapes (Overlaps shape.rect) layers.now) number numbers.old.given numbers.new.given out.old.items out.new.items) }
+    ensures gives { OnOk result (GivesAll (IsHitOnSome numbers.old.shapes (Overlaps shape.rect) layers.now) number
+        numbers.old.given numbers.new.given out.old.items out.new.items) }
 {
     for layer in layers {
         numbers.give(*layer, Query::Overlaps(shape.rect), number, out)?;
@@ -63,7 +65,8 @@ fn give_touching(
     out: &mut Vec<usize>,
 ) -> Result<(), Memory>
     ensures shapes { numbers.new.shapes ≡ numbers.old.shapes }
-    ensures gives { OnOk result (GivesAll (TouchesAt connections.now numbers.old.shapes shape) number numbers.old.given numbers.new.given out.old.items out.new.items) }
+    ensures gives { OnOk result (GivesAll (TouchesAt connections.now numbers.old.shapes shape) number numbers.old.given
+        numbers.new.given out.old.items out.new.items) }
 {
     layers.clear();
     add_links(connections, shape.layer, layers)?;
@@ -95,7 +98,8 @@ pub fn flood(
     requires none { slice_index_or numbers.old.given place None ≡ None }
     requires unused { IsUnused numbers.old.given number }
     ensures same { numbers.new.shapes ≡ shapes.now }
-    ensures flooded { OnOk result (IsFlooded connections.now shapes.now place number numbers.old.given numbers.new.given) }
+    ensures flooded { OnOk result (IsFlooded connections.now shapes.now place number numbers.old.given
+        numbers.new.given) }
 {
     numbers.set(place, number);
     scratch.pending.clear();

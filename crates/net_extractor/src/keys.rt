@@ -1,5 +1,6 @@
 ghost use Rattle.std.specs.Prelude.{◌≡◌, ◌<◌, ℕ, List, length, map, IfOk, IsTrue};
-ghost use Rattle.net_extractor.specs.KeyPlaces.{AreMixed, IsFirstFor, IsMixedAt, IsOnNetAt, KeepsMarks, first_place, path_name_key, label_key, pin_key, place_under};
+ghost use Rattle.net_extractor.specs.KeyPlaces.{AreMixed, IsFirstFor, IsMixedAt, IsOnNetAt, KeepsMarks, first_place};
+ghost use Rattle.net_extractor.specs.KeyPlaces.{path_name_key, label_key, pin_key, place_under};
 
 use crate::key_places::KeyPlaces;
 use crate::label::NetLabel;

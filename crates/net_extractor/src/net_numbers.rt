@@ -10,9 +10,9 @@ use shape_bins::{Bins, ShapeNumbers};
 use std::alloc::Global;
 use tech_rules::Connect;
 
-/// The number of the net of each shape, in the order of the shapes: two have one number exactly where they are on one net
-/// under these connections, and the numbers run from 0 by first appearance. The shapes are in order and distinct, and there
-/// are fewer than 2^32.
+/// The number of the net of each shape, in the order of the shapes: two have one number exactly where they are on one
+/// net under these connections, and the numbers run from 0 by first appearance. The shapes are in order and distinct,
+/// and there are fewer than 2^32.
 pub fn shape_nets(alloc: Global, connections: &[Connect], bins: &Bins) -> Result<Items<u32>, Memory>
     requires rises { IsStrictlySortedBy shape_order bins.now }
     requires few { length bins.now < 2 ^ 32 }

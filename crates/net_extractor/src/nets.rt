@@ -90,11 +90,12 @@ fn nets_of(
     Ok(Nets { labels: entries })
 }
 
-/// The nets of the labels: one entry for each label, in order. The net is none exactly where the label binds no shape, two
-/// nets are equal exactly where the bound shapes are on one net, and the numbers run from 0 by first appearance. The
-/// shapes are in order and distinct, `bins` is their index, and there are at most 2^22 labels.
+/// The nets of the labels: one entry for each label, in order. The net is none exactly where the label binds no shape,
+/// two nets are equal exactly where the bound shapes are on one net, and the numbers run from 0 by first appearance.
+/// The shapes are in order and distinct, `bins` is their index, and there are at most 2^22 labels.
 ///
-/// Each shape is looked at once. The memory grows with the shapes and labels, and not with the pairs of shapes that touch.
+/// Each shape is looked at once. The memory grows with the shapes and labels, and not with the pairs of shapes that
+/// touch.
 pub fn extract<R: Threads + Sync>(
     _rt: &R,
     alloc: Global,
@@ -105,7 +106,8 @@ pub fn extract<R: Threads + Sync>(
     requires rises { IsStrictlySortedBy shape_order flat.now.shapes.now }
     requires bins { bins.now ≡ flat.now.shapes.now }
     requires few { length flat.now.labels.now ≤ 2 ^ 22 }
-    ensures { IfOk result (λ nets. AreNets tech.now flat.now.shapes.now (map plain_label flat.now.labels.now) nets.labels) }
+    ensures { IfOk result (λ nets. AreNets tech.now flat.now.shapes.now
+        (map plain_label flat.now.labels.now) nets.labels) }
 {
     nets_of(alloc, tech.connects.as_slice(), bins, flat.labels)
 }

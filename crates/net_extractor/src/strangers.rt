@@ -10,7 +10,8 @@ use std::alloc::Global;
 
 /// What stands in the text after this front.
 fn rest_after<'a>(front: &[u8], text: &'a [u8]) -> Option<&'a [u8]>
-    ensures { MatchOption result ((rest : List ℕ) → text.now ≢ front.now ++ rest) (λ rest. text.now ≡ front.now ++ rest.now) }
+    ensures { MatchOption result ((rest : List ℕ) → text.now ≢ front.now ++ rest) (λ rest. text.now
+        ≡ front.now ++ rest.now) }
 {
     text.strip_prefix(front)
 }
@@ -54,8 +55,8 @@ fn is_placed_among(path: &[u8], pins: &[RowPin]) -> bool
     false
 }
 
-/// The paths of the pins' instances in order, each with the place of a pin. Of pins that follow one another at one instance
-/// the first stands for all.
+/// The paths of the pins' instances in order, each with the place of a pin. Of pins that follow one another at one
+/// instance the first stands for all.
 fn instances_of<'a>(alloc: Global, pins: &'a [RowPin]) -> Result<Vec<(&'a [u8], usize)>, Memory> {
     let mut instances = Vec::new(alloc);
     let mut last: &[u8] = &[];
@@ -71,8 +72,8 @@ fn instances_of<'a>(alloc: Global, pins: &'a [RowPin]) -> Result<Vec<(&'a [u8], 
     Ok(instances)
 }
 
-/// The place of a pin whose instance has this path, or else the first path behind it. Nothing is claimed of it: the pin is
-/// looked at.
+/// The place of a pin whose instance has this path, or else the first path behind it. Nothing is claimed of it: the pin
+/// is looked at.
 fn likely_pin(instances: &[(&[u8], usize)], path: &[u8]) -> usize {
     let at = match instances.binary_search(&(path, 0)) {
         Ok(at) => at,
@@ -98,8 +99,8 @@ fn stands_at(path: &[u8], pins: &[RowPin], place: usize) -> bool
     is_along(path, instance)
 }
 
-/// Whether a pin is found by the path, or by a path above it, at whose instance the path stands. The pin at the place `likely`
-/// is looked at first, and the pin that the path leads to is left there for the next path.
+/// Whether a pin is found by the path, or by a path above it, at whose instance the path stands. The pin at the place
+/// `likely` is looked at first, and the pin that the path leads to is left there for the next path.
 fn is_found(path: &[u8], pins: &[RowPin], instances: &[(&[u8], usize)], likely: &mut usize) -> bool
     ensures { IsTrue result → IsPlaced pins.now path.now }
 {
@@ -144,7 +145,8 @@ pub fn first_stranger(
     labels: &[NetLabel],
     pins: &[RowPin],
 ) -> Result<Option<usize>, Memory>
-    ensures { IfOk result (λ found. MatchOption found (AreNoStrangers labels.now pins.now) (IsStrangerAt labels.now pins.now)) }
+    ensures { IfOk result (λ found. MatchOption found (AreNoStrangers labels.now pins.now)
+        (IsStrangerAt labels.now pins.now)) }
 {
     let instances = instances_of(alloc, pins)?;
     // Labels of one instance mostly follow one another.

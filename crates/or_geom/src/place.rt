@@ -1,7 +1,8 @@
 ghost use Rattle.std.specs.Prelude.{◌≡◌, ◌≢◌, ℕ, ◌+◌};
 ghost use Rattle.or_geom.specs.declared.shape.Point.{Point};
 ghost use Rattle.or_geom.specs.Distance.{IsReachable};
-ghost use Rattle.or_geom.specs.Place.{IsNearPoint, IsWithin, quarter, reflected, turned, placed, low_corner, high_corner, IsBetween, IsImage};
+ghost use Rattle.or_geom.specs.Place.{IsNearPoint, IsWithin, quarter, reflected, turned, placed, low_corner};
+ghost use Rattle.or_geom.specs.Place.{high_corner, IsBetween, IsImage};
 
 use crate::shape::{Point, Rect};
 

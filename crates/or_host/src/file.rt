@@ -26,7 +26,8 @@ fn place_of(files: &[MemFile], name: &str) -> Option<usize>
 
 /// What the first file of this name holds.
 pub fn bytes_under<'a>(files: &'a [MemFile], name: &str) -> Option<&'a [u8]>
-    ensures { MatchOption result (files_of files.now name.now ≡ None) (λ bytes. files_of files.now name.now ≡ Some bytes.now) }
+    ensures { MatchOption result (files_of files.now name.now ≡ None) (λ bytes. files_of files.now name.now
+        ≡ Some bytes.now) }
 {
     match place_of(files, name) {
         Some(i) => Some(files[i].bytes.as_slice()),

@@ -9,8 +9,8 @@ use std::io::{self, ErrorKind, Read};
 use std::rt::Runtime;
 
 /// Files of the file system, of which nothing is told. This is the trusted edge: that a read gives what the file holds,
-/// and that a write keeps the bytes, is the system's promise. A write replaces a file whole or not at all, whatever ends
-/// the program meanwhile (`whole_file`).
+/// and that a write keeps the bytes, is the system's promise. A write replaces a file whole or not at all, whatever
+/// ends the program meanwhile (`whole_file`).
 #[derive(Drop)]
 pub struct FileStore<R: Runtime<File = File> + AllocGlobal> {
     rt: R,

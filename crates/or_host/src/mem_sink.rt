@@ -49,7 +49,8 @@ impl Sink for MemSink {
         ensures next { IsNextCall (calls_of self.old) (calls_of self.new) }
         ensures failed { IsErrOf result PutFail.Failed → fails_next (calls_of self.old) ≡ true }
         ensures done { OnOk result (fails_next (calls_of self.old) ≡ false) }
-        ensures half { IsErrOf result PutFail.Failed → text_of self.new ≡ text_of self.old ++ take (length bytes.now / 2) bytes.now }
+        ensures half { IsErrOf result PutFail.Failed
+            → text_of self.new ≡ text_of self.old ++ take (length bytes.now / 2) bytes.now }
     {
         if self.schedule.next() {
             self.text.extend_from_slice(&bytes[..bytes.len() / 2])?;

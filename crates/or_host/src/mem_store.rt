@@ -1,4 +1,5 @@
-ghost use Rattle.std.specs.Prelude.{◌≡◌, ◌/◌, true, false, Some, IfOk, IfSome, OnOk, IsErrOf, MatchOption, length, take};
+ghost use Rattle.std.specs.Prelude.{◌≡◌, ◌/◌, true, false, Some, IfOk, IfSome, OnOk, IsErrOf, MatchOption, length};
+ghost use Rattle.std.specs.Prelude.{take};
 ghost use Rattle.or_host.specs.Fault.{HasCause, NamesLast, name_if};
 ghost use Rattle.or_host.specs.Files.{Reads, Writes, Holds, IsNoLonger, read_failed, write_failed};
 ghost use Rattle.or_host.specs.FileList.{files_of};
@@ -48,7 +49,8 @@ impl MemStore {
 
     /// What a file holds now. It isn't counted as a call.
     pub fn contents(&self, name: &str) -> Option<&[u8]>
-        ensures { MatchOption result (held self.now name.now ≡ None) (λ bytes. held self.now name.now ≡ Some bytes.now) }
+        ensures { MatchOption result (held self.now name.now ≡ None) (λ bytes. held self.now name.now
+            ≡ Some bytes.now) }
     {
         bytes_under(&self.files, name)
     }
@@ -91,7 +93,8 @@ impl Store for MemStore {
         ensures counted { IsNextCall (schedule_of self.old) (schedule_of self.new) }
         ensures failed { IsErrOf result WriteFail.Failed → fails_next (schedule_of self.old) ≡ true }
         ensures done { OnOk result (fails_next (schedule_of self.old) ≡ false) }
-        ensures half { IsErrOf result WriteFail.Failed → Holds (held self.old) (held self.new) name.now (take (length bytes.now / 2) bytes.now) }
+        ensures half { IsErrOf result WriteFail.Failed
+            → Holds (held self.old) (held self.new) name.now (take (length bytes.now / 2) bytes.now) }
     {
         if self.schedule.next() {
             put_bytes(self.alloc, &mut self.files, name, &bytes[..bytes.len() / 2])?;

@@ -1,6 +1,7 @@
 ghost use Rattle.std.specs.Prelude.{◌≡◌};
 
-/// Which calls of a store or a sink in memory fail: calls are numbered from 1, and those whose numbers stand in `fail` do.
+/// Which calls of a store or a sink in memory fail: calls are numbered from 1, and those whose numbers stand in `fail`
+/// do.
 #[derive(Debug, Drop)]
 pub struct Schedule {
     pub fail: Vec<u64>,

@@ -46,8 +46,9 @@ impl From<Memory> for WriteFail {
 
 /// Files that are read and written by name: those of the file system, or those of a store in memory.
 ///
-/// A store may tell what its files hold, and then its contract ties each answer to them; the file system's tells nothing.
-/// In any store a call fails only if the count of faults rises, so that a caller can't report a fault that didn't happen.
+/// A store may tell what its files hold, and then its contract ties each answer to them; the file system's tells
+/// nothing. In any store a call fails only if the count of faults rises, so that a caller can't report a fault that
+/// didn't happen.
 pub trait Store {
     /// The files, the count of faults, and the name in the last call that failed.
     ghost state: { Self → StoreState };
@@ -58,11 +59,13 @@ pub trait Store {
         ensures bound { IfOk result (IsNoLonger limit) }
         ensures same { (state self.new).files ≡ (state self.old).files }
         ensures cause { HasCause (state self.old).faults (state self.new).faults (read_failed result) }
-        ensures named { NamesLast (name_if (read_failed result) name.now) (state self.old).failed (state self.new).failed };
+        ensures named { NamesLast (name_if (read_failed result) name.now) (state self.old).failed
+            (state self.new).failed };
 
     /// Puts the bytes in the place of what the file holds, or makes the file.
     fn write(&mut self, name: &str, bytes: &[u8]) -> Result<(), WriteFail>
         ensures written { Writes (state self.old).files (state self.new).files name.now bytes.now result }
         ensures cause { HasCause (state self.old).faults (state self.new).faults (write_failed result) }
-        ensures named { NamesLast (name_if (write_failed result) name.now) (state self.old).failed (state self.new).failed };
+        ensures named { NamesLast (name_if (write_failed result) name.now) (state self.old).failed
+            (state self.new).failed };
 }

@@ -24,7 +24,8 @@ impl SureStore {
 
     /// What a file holds now.
     pub fn contents(&self, name: &str) -> Option<&[u8]>
-        ensures { MatchOption result (kept self.now name.now ≡ None) (λ bytes. kept self.now name.now ≡ Some bytes.now) }
+        ensures { MatchOption result (kept self.now name.now ≡ None) (λ bytes. kept self.now name.now
+            ≡ Some bytes.now) }
     {
         bytes_under(&self.files, name)
     }

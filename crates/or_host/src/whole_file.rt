@@ -1,9 +1,9 @@
 //! Writing a file whole or not at all, whatever ends the program meanwhile.
 //!
-//! The bytes are written beside the file, under its name with `.unfinished` behind it, and handed to the disk. Only then
-//! does that file take the name of the old one, in one step of the file system. So under the final name stands the old file
-//! or the whole new one; what a program that was ended leaves behind says by its name what it is, and the next write of
-//! that name removes it.
+//! The bytes are written beside the file, under its name with `.unfinished` behind it, and handed to the disk. Only
+//! then does that file take the name of the old one, in one step of the file system. So under the final name stands the
+//! old file or the whole new one; what a program that was ended leaves behind says by its name what it is, and the next
+//! write of that name removes it.
 
 ghost use Rattle.std.specs.Prelude.{◌≤◌, IfOk, length};
 
@@ -66,8 +66,8 @@ fn remove_left<R: Runtime<File = File>>(rt: &R, path: &str) -> io::Result<()> {
     Ok(())
 }
 
-/// The file beside, made anew, so that it has the permissions of any new file. No other program that writes the same name
-/// has it until it is closed. Where the file system has no locks, two such programs are not kept apart.
+/// The file beside, made anew, so that it has the permissions of any new file. No other program that writes the same
+/// name has it until it is closed. Where the file system has no locks, two such programs are not kept apart.
 fn claimed<R: Runtime<File = File>>(rt: &R, path: &str) -> io::Result<File> {
     for _ in 0..MOST_TRIES {
         match OpenOptions::new()
@@ -89,8 +89,8 @@ fn claimed<R: Runtime<File = File>>(rt: &R, path: &str) -> io::Result<File> {
     Err(io::Error::from(ErrorKind::ResourceBusy))
 }
 
-/// Puts the bytes into the file beside, until the disk has them: what closing a file could tell later, as a full disk behind
-/// a network, the sync tells before.
+/// Puts the bytes into the file beside, until the disk has them: what closing a file could tell later, as a full disk
+/// behind a network, the sync tells before.
 fn fill(file: &mut File, permissions: Option<Permissions>, bytes: &[u8]) -> io::Result<()> {
     if let Some(permissions) = permissions {
         file.set_permissions(permissions)?;
@@ -131,8 +131,8 @@ fn write_some(device: &mut File, bytes: &[u8]) -> io::Result<usize>
     Err(io::Error::from(ErrorKind::Interrupted))
 }
 
-/// Writes to what is no file of a disk, as a device or a pipe, and can't be replaced. Once it took bytes, a lack of memory
-/// is a failed write like any other, since something changed.
+/// Writes to what is no file of a disk, as a device or a pipe, and can't be replaced. Once it took bytes, a lack of
+/// memory is a failed write like any other, since something changed.
 fn pour(mut device: File, bytes: &[u8]) -> io::Result<()> {
     let taken = write_some(&mut device, bytes)?;
     match device.write_all(&bytes[taken..]) {
@@ -143,8 +143,8 @@ fn pour(mut device: File, bytes: &[u8]) -> io::Result<()> {
     }
 }
 
-/// Puts the bytes in the place of what the file holds, or makes the file. Links are followed, and a file that is replaced
-/// leaves its permissions to the new one; one that may not be written is not replaced.
+/// Puts the bytes in the place of what the file holds, or makes the file. Links are followed, and a file that is
+/// replaced leaves its permissions to the new one; one that may not be written is not replaced.
 pub fn write_whole<R: Runtime<File = File> + AllocGlobal>(
     rt: &R,
     name: &str,

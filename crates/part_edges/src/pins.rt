@@ -5,7 +5,8 @@ ghost use Rattle.or_geom.specs.Place.{IsNearPoint};
 ghost use Rattle.cell_roles.specs.Roles.{role_ports};
 ghost use Rattle.leaf_shapes.specs.Demands.{plain_demand};
 ghost use Rattle.leaf_tables.specs.Kits.{IsKit};
-ghost use Rattle.part_edges.specs.PartPins.{placed_pin, port_place, net_of, side_pins, leaf_pins, part_pins, edges_at, AreInOrder, AreEdgesOf};
+ghost use Rattle.part_edges.specs.PartPins.{placed_pin, port_place, net_of, side_pins, leaf_pins, part_pins, edges_at};
+ghost use Rattle.part_edges.specs.PartPins.{AreInOrder, AreEdgesOf};
 
 use crate::edge::{edge_at, sorted_edges};
 use crate::side::{Side, is_at_side};
@@ -58,7 +59,8 @@ fn add_pin_edge(
 ) -> Result<(), Memory>
     requires place { IsNearPoint place.at }
     requires pin { IsReachable pin.now.rect }
-    ensures { OnOk result (edges.new.items ≡ edges.old.items ++ edges_at side (placed_pin net.now place pin.now.rect ∷ [])) }
+    ensures { OnOk result (edges.new.items
+        ≡ edges.old.items ++ edges_at side (placed_pin net.now place pin.now.rect ∷ [])) }
 {
     let rect = place.apply(pin.rect);
     if side.is_met(rect) {
@@ -67,8 +69,8 @@ fn add_pin_edge(
     Ok(())
 }
 
-/// Adds the edges of a leaf cell's pins at a side, where these are demanded of them. The cell stands at the place, with its
-/// ports on the nets.
+/// Adds the edges of a leaf cell's pins at a side, where these are demanded of them. The cell stands at the place, with
+/// its ports on the nets.
 fn add_side_edges(
     alloc: Global,
     role: Role,
@@ -81,7 +83,8 @@ fn add_side_edges(
 ) -> Result<(), Memory>
     requires place { IsNearPoint place.at }
     requires pins { AllByRecursion (λ pin. IsReachable pin.rect) pins.now }
-    ensures { OnOk result (edges.new.items ≡ edges.old.items ++ edges_at side (side_pins role nets.now place (map plain_demand demands.now) pins.now)) }
+    ensures { OnOk result (edges.new.items
+        ≡ edges.old.items ++ edges_at side (side_pins role nets.now place (map plain_demand demands.now) pins.now)) }
 {
     let mut rest = demands;
     let mut pins = pins;
@@ -111,7 +114,8 @@ fn add_leaf_edges(
 ) -> Result<(), Memory>
     requires kit { IsKit kit.now }
     requires place { IsNearPoint place.at }
-    ensures { OnOk result (edges.new.items ≡ edges.old.items ++ edges_at side (leaf_pins kit.now.leaves role nets.now place)) }
+    ensures { OnOk result (edges.new.items
+        ≡ edges.old.items ++ edges_at side (leaf_pins kit.now.leaves role nets.now place)) }
 {
     let pins = leaf_of(kit, role).pins.as_slice();
     add_side_edges(alloc, role, nets, place, demands(role), pins, side, edges)
@@ -129,7 +133,8 @@ fn add_part_edges(
 ) -> Result<(), Memory>
     requires kit { IsKit kit.now }
     requires near { AllByRecursion (λ cell. IsNearPoint cell.place.at) placed.now }
-    ensures { OnOk result (edges.new.items ≡ edges.old.items ++ edges_at side (part_pins kit.now.leaves roles.now instances.now placed.now)) }
+    ensures { OnOk result (edges.new.items
+        ≡ edges.old.items ++ edges_at side (part_pins kit.now.leaves roles.now instances.now placed.now)) }
 {
     let mut rest = roles;
     let mut instances = instances;
@@ -150,8 +155,9 @@ fn add_part_edges(
     Ok(())
 }
 
-/// The edges at a side of a part that is made of leaf cells, in the order of the cells: the roles that they play, their instances
-/// in the part's subcircuit, and their places in the part's cell, each list in the same order. Lengths are nanometres.
+/// The edges at a side of a part that is made of leaf cells, in the order of the cells: the roles that they play, their
+/// instances in the part's subcircuit, and their places in the part's cell, each list in the same order. Lengths are
+/// nanometres.
 pub fn side_edges(
     alloc: Global,
     kit: &Kit,
@@ -162,7 +168,8 @@ pub fn side_edges(
 ) -> Result<Vec<Edge>, Memory>
     requires kit { IsKit kit.now }
     requires near { AllByRecursion (λ cell. IsNearPoint cell.place.at) placed.now }
-    ensures { IfOk result (λ edges. edges.items ≡ edges_at side (part_pins kit.now.leaves roles.now instances.now placed.now)) }
+    ensures { IfOk result (λ edges. edges.items
+        ≡ edges_at side (part_pins kit.now.leaves roles.now instances.now placed.now)) }
 {
     let mut edges = Vec::new(alloc);
     add_part_edges(alloc, kit, roles, instances, placed, side, &mut edges)?;

@@ -12,7 +12,8 @@ use leaf_tables::{Kit, leaf_of};
 pub fn pin_left(kit: &Kit, role: Role, index: usize) -> i64
     requires kit { IsKit kit.now }
     requires demand { index < length (role_demands role) }
-    ensures is { (port metal : ℕ) → IsDemandOf role port metal index → result ≡ ((layout_kit kit.now).pin role port metal).x1 }
+    ensures is { (port metal : ℕ) → IsDemandOf role port metal index
+        → result ≡ ((layout_kit kit.now).pin role port metal).x1 }
     ensures near { IsLeafLength result }
 {
     leaf_of(kit, role).pins.as_slice()[index].rect.x1

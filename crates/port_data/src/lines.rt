@@ -23,7 +23,8 @@ pub fn pin_in(net: u32, x: u32, left: i64) -> ChannelPin
     }
 }
 
-/// Adds the pins of the two lines of a bit, in a cell that begins at x. So many column choices are numbered before them.
+/// Adds the pins of the two lines of a bit, in a cell that begins at x. So many column choices are numbered before
+/// them.
 pub fn add_lines(
     choices: u32,
     ends: LineEnds,

@@ -43,15 +43,16 @@ fn column_channel(alloc: Global, kit: &Kit, plan: &Plan, wire: &Wire) -> Result<
     })
 }
 
-/// Routes the channel between the sense cells and the multiplexers, or ties where a row has one word. The lines of each bit
-/// lead from its columns down to its sense cell, and the column choices from the multiplexers to their rails. x counts from
-/// the left end of the columns and y from the lower edge of the data, in nanometres. `Close`: two pins of one side are
-/// nearer to each other than the pitch; `Memory`. Nothing else is refused.
+/// Routes the channel between the sense cells and the multiplexers, or ties where a row has one word. The lines of each
+/// bit lead from its columns down to its sense cell, and the column choices from the multiplexers to their rails. x
+/// counts from the left end of the columns and y from the lower edge of the data, in nanometres. `Close`: two pins of
+/// one side are nearer to each other than the pitch; `Memory`. Nothing else is refused.
 pub fn channel(alloc: Global, kit: &Kit, plan: &Plan) -> Result<Routed, PartFault>
     requires kit { IsKit kit.now }
     requires plan { ArePlanNumbers (numbers_of plan.now) }
     ensures column { IfOk result (IsColumnOf kit.now (organization plan.now)) }
-    ensures fault { IfErr result (λ fault. (wire : Wire) → kit.now.tech.wire ≡ Some wire → IsColumnFault (organization plan.now) (layout_kit kit.now) wire fault) }
+    ensures fault { IfErr result (λ fault. (wire : Wire) → kit.now.tech.wire ≡ Some wire
+        → IsColumnFault (organization plan.now) (layout_kit kit.now) wire fault) }
 {
     let wire = wire_of(kit);
     let meant = column_channel(alloc, kit, plan, wire)?;

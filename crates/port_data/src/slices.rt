@@ -31,8 +31,8 @@ fn name_of(alloc: Global, role: Role) -> Result<Name, Memory>
     Ok(Name::from_bytes(alloc, role.name().as_bytes())?)
 }
 
-/// Refuses a sense cell that is wider than the columns of a bit, or else, where something is written, such a write cell, by the
-/// role's name.
+/// Refuses a sense cell that is wider than the columns of a bit, or else, where something is written, such a write
+/// cell, by the role's name.
 pub fn refuse_narrow_slices(alloc: Global, kit: &Kit, plan: &Plan) -> Result<(), PartFault>
     requires kit { IsKit kit.now }
     requires plan { ArePlanNumbers (numbers_of plan.now) }

@@ -3,7 +3,8 @@ ghost use Rattle.leaf_tables.specs.Kits.{IsKit};
 ghost use Rattle.sram_netlist.specs.InstanceList.{tabulate, tabulate_lists};
 ghost use Rattle.macro_cells.specs.LayoutOfKit.{layout_kit};
 ghost use Rattle.leaf_tables.specs.NearLeaf.{IsLeafLength};
-ghost use Rattle.port_data.specs.Pins.{AreFewColumns, AreNearEnds, column_ends, column_lines, column_choice, choice_pins, top_pins};
+ghost use Rattle.port_data.specs.Pins.{AreFewColumns, AreNearEnds, column_ends, column_lines, column_choice};
+ghost use Rattle.port_data.specs.Pins.{choice_pins, top_pins};
 
 use crate::columns::Columns;
 use crate::leaves::pin_left;
@@ -40,7 +41,8 @@ fn add_column_lines(
 ) -> Result<(), Memory>
     requires few { AreFewColumns columns.now }
     requires ends { AreNearEnds ends }
-    ensures { OnOk result (pins.new.items ≡ pins.old.items ++ tabulate_lists columns.now.count (column_lines columns.now ends)) }
+    ensures { OnOk result (pins.new.items ≡ pins.old.items ++ tabulate_lists columns.now.count
+        (column_lines columns.now ends)) }
 {
     for column in 0..columns.count {
         let bit = column / columns.words;
@@ -57,7 +59,8 @@ fn add_column_choices(
 ) -> Result<(), Memory>
     requires few { AreFewColumns columns.now }
     requires left { IsLeafLength left }
-    ensures { OnOk result (pins.new.items ≡ pins.old.items ++ tabulate columns.now.count (column_choice columns.now left)) }
+    ensures { OnOk result (pins.new.items ≡ pins.old.items ++ tabulate columns.now.count
+        (column_choice columns.now left)) }
 {
     for column in 0..columns.count {
         let choice = column % columns.words;

@@ -3,7 +3,8 @@ ghost use Rattle.or_geom.specs.Distance.{IsNear};
 ghost use Rattle.tech_rules.specs.Facts.{AreSizes};
 ghost use Rattle.tech_rules.specs.Drawing.{pitch};
 ghost use Rattle.tech_rules.specs.Spacing.{AreClose, IsFirstClose};
-ghost use Rattle.rail_bus.specs.Rails.{tap_ys, AreNearTaps, AreOfRails, EndBeyondRails, AreTapped, AreRails, IsTapFault};
+ghost use Rattle.rail_bus.specs.Rails.{tap_ys, AreNearTaps, AreOfRails, EndBeyondRails, AreTapped, AreRails};
+ghost use Rattle.rail_bus.specs.Rails.{IsTapFault};
 
 use crate::highest::highest_taps;
 use crate::shapes::{add_rails, add_taps};
@@ -11,9 +12,9 @@ use or_geom::{Memory, Shape};
 use std::alloc::{AllocError, Global};
 use tech_rules::{RouteFault, Tap, Wire, first_close};
 
-/// The wires of vertical rails that begin at `low`, one at each x, and of their taps. A tap is a wire on the third metal
-/// from its rail to its end, and a cut to the fourth metal. A rail stands on the fourth metal, up to its highest tap. Taps
-/// that are nearer to each other than the pitch are refused.
+/// The wires of vertical rails that begin at `low`, one at each x, and of their taps. A tap is a wire on the third
+/// metal from its rail to its end, and a cut to the fourth metal. A rail stands on the fourth metal, up to its highest
+/// tap. Taps that are nearer to each other than the pitch are refused.
 pub fn rails(
     alloc: Global,
     low: i64,

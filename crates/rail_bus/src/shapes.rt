@@ -53,7 +53,8 @@ pub fn add_rails(
     requires near_xs { All IsNear xs.now }
     requires near { All IsNear highest.now }
     requires from_low { AreFrom low highest.now }
-    ensures { OnOk result (Adds shapes.old.items shapes.new.items (λ s. IsRailBelow low xs.now highest.now wire.now (length xs.now) s)) }
+    ensures { OnOk result (Adds shapes.old.items shapes.new.items
+        (λ s. IsRailBelow low xs.now highest.now wire.now (length xs.now) s)) }
 {
     for rail in 0..xs.len() {
         let x = xs[rail];

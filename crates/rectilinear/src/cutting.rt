@@ -43,7 +43,8 @@ fn box_of(first: End, second: End, band: Band) -> Rect
 fn add_pairs(ends: &[End], band: Band, out: &mut Vec<Rect>) -> Result<(), Memory>
     requires rise { Rise ends.now }
     requires even { is_odd ends.now ≡ false }
-    ensures { OnOk result ((added : List Rect) × (out.new.items ≡ out.old.items ++ added) × ArePairs ends.now band.low band.high added) }
+    ensures { OnOk result ((added : List Rect) × (out.new.items ≡ out.old.items ++ added)
+        × ArePairs ends.now band.low band.high added) }
 {
     let mut rest = ends;
     while let Some((first, others)) = rest.split_first() {
@@ -59,8 +60,8 @@ fn add_pairs(ends: &[End], band: Band, out: &mut Vec<Rect>) -> Result<(), Memory
 /// The slabs of the ring with these corners, each once: for each two neighbouring heights of the corners, the stretches
 /// inside it that are as long as can be. The ring needn't be simple.
 ///
-/// The ring is swept from its lowest height up. The ends of a row are those of the row below but for the sides that begin
-/// or end between them, so a side is looked at twice and not once for each height.
+/// The ring is swept from its lowest height up. The ends of a row are those of the row below but for the sides that
+/// begin or end between them, so a side is looked at twice and not once for each height.
 pub fn slabs(alloc: Global, corners: &[Point]) -> Result<Vec<Rect>, Memory>
     ensures { IfOk result (λ rects. IsSlabList corners.now rects.items) }
 {

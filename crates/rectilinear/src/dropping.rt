@@ -1,5 +1,6 @@
 ghost use Rattle.std.specs.Prelude.{◌≡◌, ◌++◌, IfOk, OnOk};
-ghost use Rattle.rectilinear.specs.Corners.{is_zero, is_up, is_down, is_right, is_left, is_run, steps, turns_after, last_of, corners_of};
+ghost use Rattle.rectilinear.specs.Corners.{is_zero, is_up, is_down, is_right, is_left, is_run, steps, turns_after};
+ghost use Rattle.rectilinear.specs.Corners.{last_of, corners_of};
 
 use crate::ring::{Side, sides};
 use or_geom::{Memory, Point};

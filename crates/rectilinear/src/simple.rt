@@ -1,5 +1,6 @@
 ghost use Rattle.std.specs.Prelude.{◌≡◌, ◌∷◌, ◌↔◌, ◌≤ℤ◌, IsTrue, IfOk};
-ghost use Rattle.rectilinear.specs.Simple.{IsOn, IsStraight, MeetAtMostThere, MeetAsNeighbours, MeetAcross, AllStraight, PairsMeet, IsSimple};
+ghost use Rattle.rectilinear.specs.Simple.{IsOn, IsStraight, MeetAtMostThere, MeetAsNeighbours, MeetAcross};
+ghost use Rattle.rectilinear.specs.Simple.{AllStraight, PairsMeet, IsSimple};
 ghost use Rattle.rectilinear.specs.Extents.{IsExtentOf, IsCommon, IsExtentAround, IsEmpty, HoldsSides, IsAtMostPoint};
 
 use crate::ring::{Side, sides};
@@ -143,8 +144,8 @@ fn is_empty(extent: Extent) -> bool
     extent.high.x < extent.low.x || extent.high.y < extent.low.y
 }
 
-/// Whether each of some sides meets each of others only as a neighbour. Sides whose boxes are apart don't meet; else the
-/// longer list is halved. Of a ring in its order most halves are soon apart.
+/// Whether each of some sides meets each of others only as a neighbour. Sides whose boxes are apart don't meet; else
+/// the longer list is halved. Of a ring in its order most halves are soon apart.
 fn meet_across(sides: &[Side], others: &[Side]) -> bool
     ensures { IsTrue result ↔ MeetAcross sides.now others.now }
 {

@@ -51,7 +51,8 @@ fn lowered(entry: Entry, least: usize) -> Entry
 fn next_unseen(references: &[usize], from: usize, standings: &[Standing]) -> Option<usize>
     requires within { All (λ node. node < length standings.now) references.now }
     requires done { AreSeen standings.now references.now from }
-    ensures { MatchOption result (AreSeen standings.now references.now (length references.now)) (IsNextUnseen standings.now references.now) }
+    ensures { MatchOption result (AreSeen standings.now references.now (length references.now))
+        (IsNextUnseen standings.now references.now) }
 {
     for place in from..references.len() {
         if let Standing::Unseen = standings[references[place]] {
@@ -64,7 +65,8 @@ fn next_unseen(references: &[usize], from: usize, standings: &[Standing]) -> Opt
 /// The least place at which one of the references waits.
 fn least_waiting(references: &[usize], standings: &[Standing]) -> Option<usize>
     requires { All (λ node. node < length standings.now) references.now }
-    ensures { MatchOption result (NoneWaits standings.now references.now) (IsLeastWaiting standings.now references.now) }
+    ensures { MatchOption result (NoneWaits standings.now references.now)
+        (IsLeastWaiting standings.now references.now) }
 {
     let mut least = None;
     for node in references {
@@ -86,13 +88,13 @@ fn settle(waiting: &[usize], place: usize, standings: &mut [Standing])
     }
 }
 
-/// For each node whether `start` reaches it and it reaches itself by a path that is not empty. `graph` has for each node
-/// the nodes that it refers to. The time is in proportion to the nodes and references, and the stack does not grow with
-/// them.
+/// For each node whether `start` reaches it and it reaches itself by a path that is not empty. `graph` has for each
+/// node the nodes that it refers to. The time is in proportion to the nodes and references, and the stack does not grow
+/// with them.
 ///
-/// It searches in depth first, and all nodes that wait reach the one that it is at. So a node is on a cycle where one of
-/// its references waits as the search leaves it. Where neither it nor a node that waits after it leads to a place below
-/// its own, all of these are settled.
+/// It searches in depth first, and all nodes that wait reach the one that it is at. So a node is on a cycle where one
+/// of its references waits as the search leaves it. Where neither it nor a node that waits after it leads to a place
+/// below its own, all of these are settled.
 pub fn cyclic_nodes(
     alloc: Global,
     graph: &[Items<usize>],
@@ -133,8 +135,8 @@ pub fn cyclic_nodes(
 }
 
 /// The least node that `start` reaches, itself among them, and that reaches itself by a path that is not empty; None
-/// where there is none. `graph` has for each node the nodes that it refers to. The time is in proportion to the nodes and
-/// references, and the stack does not grow with them.
+/// where there is none. `graph` has for each node the nodes that it refers to. The time is in proportion to the nodes
+/// and references, and the stack does not grow with them.
 pub fn least_cyclic(
     alloc: Global,
     graph: &[Items<usize>],

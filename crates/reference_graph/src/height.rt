@@ -20,7 +20,8 @@ fn height_of(references: &[usize], heights: &[u32]) -> u32
 
 /// For each node of the order the length of the longest path from it, in references: 0 for a node that refers to none,
 /// and `u32::MAX` where it is more than that. `graph` has for each node the nodes that it refers to, and each node of
-/// the order comes after all that it refers to, as `order` gives it. The result has a number for each node of the graph.
+/// the order comes after all that it refers to, as `order` gives it. The result has a number for each node of the
+/// graph.
 pub fn heights(alloc: Global, graph: &[Items<usize>], order: &[usize]) -> Result<Vec<u32>, Memory>
     requires { IsBottomUp graph.now order.now }
     ensures { IfOk result (λ heights. AreHeights graph.now order.now heights.items) }

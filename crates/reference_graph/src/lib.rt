@@ -1,4 +1,5 @@
-//! Who refers to whom: what is reached along references, cycles, and orders in which each node comes after all that it refers to.
+//! Who refers to whom: what is reached along references, cycles, and orders in which each node comes after all that it
+//! refers to.
 #![tactic(auto)]
 
 mod cycle;

@@ -25,7 +25,8 @@ fn mark_references(
 }
 
 /// Marks the nodes that `start` reaches along references, itself among them. `graph` has for each node the nodes that
-/// it refers to. The time is in proportion to the number of nodes and references, and the stack does not grow with them.
+/// it refers to. The time is in proportion to the number of nodes and references, and the stack does not grow with
+/// them.
 pub fn reached(alloc: Global, graph: &[Items<usize>], start: usize) -> Result<Vec<bool>, Memory>
     requires within { AreWithin graph.now }
     requires inside { start < length graph.now }

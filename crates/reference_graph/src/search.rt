@@ -26,7 +26,8 @@ struct Visit {
 fn next_unplaced(references: &[usize], from: usize, stages: &[Stage]) -> Option<usize>
     requires within { All (λ node. node < length stages.now) references.now }
     requires done { ArePlaced stages.now references.now from }
-    ensures { MatchOption result (ArePlaced stages.now references.now (length references.now)) (IsNext stages.now references.now) }
+    ensures { MatchOption result (ArePlaced stages.now references.now (length references.now))
+        (IsNext stages.now references.now) }
 {
     for place in from..references.len() {
         if stages[references[place]] != Stage::Placed {

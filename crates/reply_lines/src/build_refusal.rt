@@ -75,7 +75,8 @@ pub fn kit_line(alloc: Global, fault: &KitFault) -> Result<ReplyLine, Memory>
 
 /// The line of two pins of a channel: its side and their x.
 fn close_line(alloc: Global, side: u8, first: i64, second: i64) -> Result<ReplyLine, Memory>
-    ensures { IfOk result (λ line. line ≡ reply_line (headed 71 (codes "Close") (decimal side ∷ signed_decimal first ∷ signed_decimal second ∷ []))) }
+    ensures { IfOk result (λ line. line ≡ reply_line
+        (headed 71 (codes "Close") (decimal side ∷ signed_decimal first ∷ signed_decimal second ∷ []))) }
 {
     let mut line = heading(alloc, 71, b"Close")?;
     line.number(u64::from(side))?;
@@ -118,7 +119,8 @@ fn add_shapes(
     first: Shape,
     second: Option<Shape>,
 ) -> Result<(), Memory>
-    ensures { OnOk result (line.new ≡ line.old ++ spaced (shape_words layers.now first ++ second_words layers.now second)) }
+    ensures { OnOk result (line.new ≡ line.old ++ spaced
+        (shape_words layers.now first ++ second_words layers.now second)) }
 {
     add_shape(line, layers, first)?;
     if let Some(second) = second {
@@ -133,7 +135,8 @@ pub fn broken_line(
     layers: &[Layer],
     violation: Violation,
 ) -> Result<ReplyLine, Memory>
-    ensures { IfOk result (λ line. line ≡ reply_line (headed 81 (codes "RuleBroken") (violation_words layers.now violation))) }
+    ensures { IfOk result (λ line. line ≡ reply_line
+        (headed 81 (codes "RuleBroken") (violation_words layers.now violation))) }
 {
     let mut line = heading(alloc, 81, b"RuleBroken")?;
     line.number(u64::from(violation.rule))?;
@@ -149,7 +152,8 @@ fn pins_line(
     first: &PinName,
     second: &PinName,
 ) -> Result<ReplyLine, Memory>
-    ensures { IfOk result (λ line. line ≡ reply_line (headed 82 (codes "NetsDiffer") (kind.now ∷ pin_word first.now ∷ pin_word second.now ∷ []))) }
+    ensures { IfOk result (λ line. line ≡ reply_line
+        (headed 82 (codes "NetsDiffer") (kind.now ∷ pin_word first.now ∷ pin_word second.now ∷ []))) }
 {
     let mut line = heading(alloc, 82, b"NetsDiffer")?;
     line.word(kind)?;

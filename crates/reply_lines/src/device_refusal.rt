@@ -10,7 +10,8 @@ use std::alloc::Global;
 
 /// The line of a subcircuit's line that is no whole transistor.
 pub fn bad_device_line(alloc: Global, role: &Name, line: u64) -> Result<ReplyLine, Memory>
-    ensures { IfOk result (λ reply. reply ≡ reply_line (headed 101 (codes "BadDevice") (role.now ∷ decimal line ∷ []))) }
+    ensures { IfOk result (λ reply. reply
+        ≡ reply_line (headed 101 (codes "BadDevice") (role.now ∷ decimal line ∷ []))) }
 {
     let mut reply = heading(alloc, 101, b"BadDevice")?;
     reply.word(role.as_bytes())?;

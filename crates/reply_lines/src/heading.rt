@@ -59,7 +59,8 @@ pub fn counted(alloc: Global, number: u64, name: &[u8], a: u64, b: u64) -> Resul
 
 /// A line with a point's coordinates as its fields.
 pub fn pointed(alloc: Global, number: u64, name: &[u8], p: Point) -> Result<ReplyLine, Memory>
-    ensures { IfOk result (λ line. line ≡ reply_line (headed number name.now (signed_decimal p.x ∷ signed_decimal p.y ∷ []))) }
+    ensures { IfOk result (λ line. line ≡ reply_line
+        (headed number name.now (signed_decimal p.x ∷ signed_decimal p.y ∷ []))) }
 {
     let mut line = heading(alloc, number, name)?;
     line.signed(p.x)?;

@@ -7,7 +7,8 @@ use or_geom::Memory;
 use std::alloc::Global;
 use std::marker::Model;
 
-/// A printed line in the making: words with single spaces between them, in one buffer. Contracts see it as its bytes so far.
+/// A printed line in the making: words with single spaces between them, in one buffer. Contracts see it as its bytes so
+/// far.
 #[derive(Debug, Drop)]
 pub struct ReplyLine {
     text: Vec<u8>,

@@ -12,8 +12,8 @@ use tile_checker::Violation;
 pub enum LineSource {
     /// The lines themselves.
     Made(Items<ReplyLine>),
-    /// The violations of a report over the layers of a technology. A report may have millions, so each line is made when it is
-    /// printed.
+    /// The violations of a report over the layers of a technology. A report may have millions, so each line is made
+    /// when it is printed.
     Report {
         layers: Items<Layer>,
         violations: Items<Violation>,

@@ -1,6 +1,7 @@
 ghost use Rattle.std.specs.Prelude.{◌≡◌, IfOk};
 ghost use Rattle.reply_lines.specs.Lines.{reply_line};
-ghost use Rattle.reply_lines.specs.Refusals.{refusal_words, gds_words, tech_words, spice_words, flatten_words, rows_words};
+ghost use Rattle.reply_lines.specs.Refusals.{refusal_words, gds_words, tech_words, spice_words, flatten_words};
+ghost use Rattle.reply_lines.specs.Refusals.{rows_words};
 ghost use Rattle.reply_lines.specs.Statuses.{is_memory, is_read_failure, refusal_status};
 
 use crate::build_refusal::{broken_line, config_line, differs_line, kit_line, part_line};
@@ -75,8 +76,8 @@ pub enum Refusal {
     Nested {
         role: Name,
     },
-    /// The line of a transistor with this number, from 0 among the lines of the role's subcircuit that are no instances, has
-    /// fewer than six words.
+    /// The line of a transistor with this number, from 0 among the lines of the role's subcircuit that are no
+    /// instances, has fewer than six words.
     BadDevice {
         role: Name,
         line: u64,

@@ -36,8 +36,8 @@ fn texts_of(tables: &[RoleRows], role: LeafRole) -> &[Name]
     &[]
 }
 
-/// Whether the technology names a cell for the role, and has a table that says at each point what such a cell does: first whether
-/// it is there, then all rows, then all points.
+/// Whether the technology names a cell for the role, and has a table that says at each point what such a cell does:
+/// first whether it is there, then all rows, then all points.
 pub fn read_table(alloc: Global, tech: &Tech, role: LeafRole) -> Result<(), TableFault>
     ensures ok { OnOk result (HasTable tech.now role) }
     ensures err { IfErr result (IsRoleFault tech.now role) }

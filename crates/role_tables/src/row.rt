@@ -125,7 +125,8 @@ fn fit_one(a: &[u8], b: &[u8]) -> bool
 }
 
 fn all_become_same(a: &[u8], b: &[u8], stored: &[bool]) -> bool
-    ensures { result ≡ list_all (λ p. beq (next_bit p.0.0 p.1) (next_bit p.0.1 p.1)) (zip (zip a.now b.now) stored.now) }
+    ensures { result ≡ list_all (λ p. beq (next_bit p.0.0 p.1) (next_bit p.0.1 p.1))
+        (zip (zip a.now b.now) stored.now) }
 {
     let mut triples = a.iter().zip(b).zip(stored);
     triples.all(|((x, y), bit)| next_bit(*x, *bit) == next_bit(*y, *bit))

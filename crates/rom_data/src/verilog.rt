@@ -37,8 +37,8 @@ const CLOCK_EDGES: &[u8] = b"  always @(posedge clk0) begin
 endmodule
 ";
 
-/// The Verilog module of a read-only macro, by its template. It is meant as a memory that holds these words, by address, takes
-/// a command where its clock rises and answers where the clock falls.
+/// The Verilog module of a read-only macro, by its template. It is meant as a memory that holds these words, by
+/// address, takes a command where its clock rises and answers where the clock falls.
 pub fn rom_verilog(
     alloc: Global,
     plan: &Plan,

@@ -1,13 +1,14 @@
 ghost use Rattle.std.specs.Prelude.{◌≡◌, ◌*◌, ◌<◌, ◌≤◌, ◌↔◌, length, IfErr, IfOk, IsTrue};
-ghost use Rattle.rom_data.specs.Words.{bytes_per_word, data_length, little_endian, FitsWord, AreRomWords, AreWordsOf, IsRomFault};
+ghost use Rattle.rom_data.specs.Words.{bytes_per_word, data_length, little_endian, FitsWord, AreRomWords, AreWordsOf};
+ghost use Rattle.rom_data.specs.Words.{IsRomFault};
 
 use crate::fault::RomFault;
 use or_geom::Items;
 use sram_plan::Plan;
 use std::alloc::Global;
 
-/// The words of a read-only macro, by address. The bytes are those of the words in order, each word's lowest byte first, and a
-/// word has no bit at or above the plan's word size.
+/// The words of a read-only macro, by address. The bytes are those of the words in order, each word's lowest byte
+/// first, and a word has no bit at or above the plan's word size.
 pub fn rom_words(alloc: Global, plan: &Plan, bytes: &[u8]) -> Result<Vec<u64>, RomFault>
     requires { plan.now.word_size ≤ 64 }
     ensures words { IfOk result (λ words. AreWordsOf plan.now bytes.now words.items) }
@@ -30,8 +31,8 @@ fn bytes_per_word(word_size: u32) -> usize
     (word_size as usize + 7) / 8
 }
 
-/// Splits a data file of the right length into words, or tells the address of the first word that has a bit at or above the
-/// word size.
+/// Splits a data file of the right length into words, or tells the address of the first word that has a bit at or above
+/// the word size.
 fn split_words(alloc: Global, plan: &Plan, bytes: &[u8]) -> Result<Vec<u64>, RomFault>
     requires bits { plan.now.word_size ≤ 64 }
     requires whole { length bytes.now ≡ data_length plan.now }

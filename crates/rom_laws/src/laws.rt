@@ -1,8 +1,8 @@
 ghost use Rattle.rom_laws.specs.Example.{RomExampleAnswers};
 ghost use Rattle.rom_laws.specs.Laws.{RomsHoldWords};
 
-/// The reference netlist of a read-only memory has a run from every state for each list of commands, every run from a start
-/// answers each read with the word at its address, and at each command its nets say what is selected.
+/// The reference netlist of a read-only memory has a run from every state for each list of commands, every run from a
+/// start answers each read with the word at its address, and at each command its nets say what is selected.
 pub fn roms_hold_words()
     ensures { RomsHoldWords }
 {}

@@ -7,9 +7,9 @@ use crate::shared::check_shared;
 use leaf_tables::{Kit, KitFault, Role, leaf_of, wire_of};
 use std::alloc::Global;
 
-/// Whether the kit has the two leaf cells of a read-only memory. What is refused is refused in this order: of the cell for 0 and
-/// then of the one for 1 its name and table, its flat layout, outline, subcircuit, ports and pins; then, of both, heights, widths,
-/// and pins that don't begin where the bitcell's do. `Memory` may come in place of each.
+/// Whether the kit has the two leaf cells of a read-only memory. What is refused is refused in this order: of the cell
+/// for 0 and then of the one for 1 its name and table, its flat layout, outline, subcircuit, ports and pins; then, of
+/// both, heights, widths, and pins that don't begin where the bitcell's do. `Memory` may come in place of each.
 pub fn rom_leaves(alloc: Global, kit: &Kit) -> Result<(), KitFault>
     requires { IsKit kit.now }
     ensures leaves { OnOk result (HasRomLeaves kit.now) }

@@ -1,7 +1,8 @@
 ghost use Rattle.std.specs.Prelude.{◌≡◌, ◌↔◌, ◌⊎◌, IsTrue, IfErr, MatchOption, OnOk};
 ghost use Rattle.leaf_tables.specs.Alignment.{IsFirstOdd};
 ghost use Rattle.leaf_tables.specs.declared.fault.KitFault.TheVariants as kit_fault;
-ghost use Rattle.rom_leaves.specs.Shared.{cell_with, shared_sides, AreAllShared, IsShared, IsSideFault, IsFirstSideFault};
+ghost use Rattle.rom_leaves.specs.Shared.{cell_with, shared_sides, AreAllShared, IsShared, IsSideFault};
+ghost use Rattle.rom_leaves.specs.Shared.{IsFirstSideFault};
 
 use crate::side::{SharedSide, measure_of, shared_sides, side_at};
 use leaf_tables::{KitFault, Leaf, LeafRole};
@@ -25,7 +26,8 @@ fn is_shared(bitcell: &Leaf, zero: &Leaf, one: &Leaf, pair: (bool, SharedSide)) 
 
 /// The first that isn't as the bitcell has it.
 fn first_unshared(bitcell: &Leaf, zero: &Leaf, one: &Leaf) -> Option<(bool, SharedSide)>
-    ensures { MatchOption result (AreAllShared bitcell.now (cell_with zero.now one.now)) (IsFirstOdd (IsShared bitcell.now (cell_with zero.now one.now)) shared_sides) }
+    ensures { MatchOption result (AreAllShared bitcell.now (cell_with zero.now one.now))
+        (IsFirstOdd (IsShared bitcell.now (cell_with zero.now one.now)) shared_sides) }
 {
     let all = shared_sides();
     for index in 0..all.len() {

@@ -18,8 +18,8 @@ use sram_macro::assemble_with;
 use sram_plan::{Abstract, Plan, read_only};
 use std::alloc::Global;
 
-/// A read-only macro: its library, the subcircuits behind those of the leaf cells, its abstract view, and how many tracks its main
-/// channel has.
+/// A read-only macro: its library, the subcircuits behind those of the leaf cells, its abstract view, and how many
+/// tracks its main channel has.
 #[derive(Debug, Drop)]
 pub struct RomMacro {
     pub lib: Library,
@@ -28,8 +28,9 @@ pub struct RomMacro {
     pub tracks: u32,
 }
 
-/// Assembles the read-only macro of this name, which holds these words by address, from leaf cells. It is refused as `assemble`
-/// refuses, where nothing is written: `NameTaken`, `SliceTooNarrow` of the sense cell alone, `Close`, `TapsClose`.
+/// Assembles the read-only macro of this name, which holds these words by address, from leaf cells. It is refused as
+/// `assemble` refuses, where nothing is written: `NameTaken`, `SliceTooNarrow` of the sense cell alone, `Close`,
+/// `TapsClose`.
 pub fn rom_assemble(
     alloc: Global,
     kit: &Kit,
@@ -44,7 +45,8 @@ pub fn rom_assemble(
     requires name { IsTrue (is_output_name name.now) }
     requires words { AreRomWords plan.now words.now }
     requires cells { HasRomLeaves kit.now }
-    ensures ok { IfOk result (λ made. IsMacro kit.now (read_only_plan plan.now) (Fixed words.now) name.now (macro_of made)) }
+    ensures ok { IfOk result (λ made. IsMacro kit.now (read_only_plan plan.now) (Fixed words.now) name.now
+        (macro_of made)) }
     ensures fault { IfErr result (IsMacroFault kit.now (read_only_plan plan.now) (Fixed words.now) name.now) }
 {
     let made = assemble_with(alloc, kit, &read_only(plan), name, Contents::Fixed(words))?;

@@ -1,4 +1,5 @@
-//! A read-only macro: the leaf cells that it needs, the words that it holds, its layout and netlist, and its Verilog module.
+//! A read-only macro: the leaf cells that it needs, the words that it holds, its layout and netlist, and its Verilog
+//! module.
 #![tactic(auto)]
 
 mod assembly;

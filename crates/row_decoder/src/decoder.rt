@@ -17,7 +17,8 @@ use tech_rules::RoleName;
 /// The gates of the column choices and then of the predecode lines, group by group, in the order of the logic row.
 pub fn gates(alloc: Global, kit: &Kit, plan: &Plan) -> Result<Vec<LogicGate>, Memory>
     requires { ArePlanNumbers (numbers_of plan.now) }
-    ensures { IfOk result (λ gates. gates.items ≡ map (logic_gate (organization plan.now) (cell_in kit.now.tech.roles)) (choice_gates plan.now.col_bits ++ groups_gates (organization plan.now).groups plan.now.col_bits)) }
+    ensures { IfOk result (λ gates. gates.items ≡ map (logic_gate (organization plan.now) (cell_in kit.now.tech.roles))
+        (choice_gates plan.now.col_bits ++ groups_gates (organization plan.now).groups plan.now.col_bits)) }
 {
     let roles = kit.tech.roles.as_slice();
     let groups = groups_of(alloc, plan)?;
@@ -35,7 +36,9 @@ fn add_column_lines(
     row: &mut Vec<LogicGate>,
 ) -> Result<(), Memory>
     requires { ArePlanNumbers (numbers_of plan.now) }
-    ensures { OnOk result (row.new.items ≡ row.old.items ++ map (logic_gate (organization plan.now) (cell_in roles.now)) (choice_gates plan.now.col_bits)) }
+    ensures { OnOk result (row.new.items
+        ≡ row.old.items ++ map (logic_gate (organization plan.now) (cell_in roles.now))
+        (choice_gates plan.now.col_bits)) }
 {
     if plan.col_bits == 0 {
         return Ok(());
@@ -59,7 +62,9 @@ fn add_group_lines(
 ) -> Result<(), Memory>
     requires numbers { ArePlanNumbers (numbers_of plan.now) }
     requires groups { groups.now ≡ (organization plan.now).groups }
-    ensures { OnOk result (row.new.items ≡ row.old.items ++ map (logic_gate (organization plan.now) (cell_in roles.now)) (groups_gates groups.now plan.now.col_bits)) }
+    ensures { OnOk result (row.new.items
+        ≡ row.old.items ++ map (logic_gate (organization plan.now) (cell_in roles.now))
+        (groups_gates groups.now plan.now.col_bits)) }
 {
     let mut group = 0;
     let mut low = plan.col_bits;

@@ -26,7 +26,8 @@ pub fn add_gate(
     nodes: &[Spelling],
     row: &mut Vec<LogicGate>,
 ) -> Result<(), Memory>
-    ensures { OnOk result (row.new.items ≡ row.old.items ++ gate_of_role (cell_in roles.now) role (spelled name) (map spelled nodes.now) ∷ []) }
+    ensures { OnOk result (row.new.items ≡ row.old.items ++ gate_of_role (cell_in roles.now) role (spelled name)
+        (map spelled nodes.now) ∷ []) }
 {
     let instance = leaf_instance(alloc, roles, role, name, nodes)?;
     row.push(LogicGate { role, instance })?;

@@ -87,7 +87,8 @@ impl LineChoice {
 fn add_picks(nodes: &mut NameList, low: u32, bits: u32, number: u32) -> Result<(), Memory>
     requires low { low ≤ 32 }
     requires bits { bits ≤ 8 }
-    ensures { OnOk result ((plan : Organization) → nodes.new ≡ nodes.old ++ map (net_name plan) (picks low bits number)) }
+    ensures { OnOk result ((plan : Organization)
+        → nodes.new ≡ nodes.old ++ map (net_name plan) (picks low bits number)) }
 {
     let mut rest = number;
     for bit in 0..bits {
@@ -127,7 +128,8 @@ fn add_line_gate(
     requires low { lines.low ≤ 32 }
     requires bits { lines.bits ≤ 8 }
     requires choice { line_kind (organization plan.now) lines.low ≡ chosen_by lines.choice }
-    ensures { OnOk result (row.new.items ≡ row.old.items ++ logic_gate (organization plan.now) (cell_in roles.now) (Pn lines.low lines.bits number) ∷ []) }
+    ensures { OnOk result (row.new.items ≡ row.old.items ++ logic_gate (organization plan.now) (cell_in roles.now)
+        (Pn lines.low lines.bits number) ∷ []) }
 {
     let role = gate_role(lines.bits);
     let mut nodes = NameList::new(alloc);
@@ -153,7 +155,8 @@ fn add_line_inverter(
     row: &mut Vec<LogicGate>,
 ) -> Result<(), Memory>
     requires choice { line_kind (organization plan.now) lines.low ≡ chosen_by lines.choice }
-    ensures { OnOk result (row.new.items ≡ row.old.items ++ logic_gate (organization plan.now) (cell_in roles.now) (Pi lines.low lines.bits number) ∷ []) }
+    ensures { OnOk result (row.new.items ≡ row.old.items ++ logic_gate (organization plan.now) (cell_in roles.now)
+        (Pi lines.low lines.bits number) ∷ []) }
 {
     let nodes = [lines.choice.complement(number), lines.choice.line(number)];
     let name = lines.choice.inverter(number);
@@ -172,7 +175,9 @@ fn add_line(
     requires low { lines.low ≤ 32 }
     requires bits { lines.bits ≤ 8 }
     requires choice { line_kind (organization plan.now) lines.low ≡ chosen_by lines.choice }
-    ensures { OnOk result (row.new.items ≡ row.old.items ++ map (logic_gate (organization plan.now) (cell_in roles.now)) (line_gates lines.low lines.bits number)) }
+    ensures { OnOk result (row.new.items
+        ≡ row.old.items ++ map (logic_gate (organization plan.now) (cell_in roles.now))
+        (line_gates lines.low lines.bits number)) }
 {
     add_line_gate(alloc, plan, roles, lines, number, row)?;
     add_line_inverter(alloc, plan, roles, lines, number, row)
@@ -189,7 +194,8 @@ pub fn add_lines(
     requires low { lines.low ≤ 32 }
     requires bits { lines.bits ≤ 8 }
     requires choice { line_kind (organization plan.now) lines.low ≡ chosen_by lines.choice }
-    ensures { OnOk result (row.new.items ≡ row.old.items ++ map (logic_gate (organization plan.now) (cell_in roles.now)) (gates lines.low lines.bits)) }
+    ensures { OnOk result (row.new.items
+        ≡ row.old.items ++ map (logic_gate (organization plan.now) (cell_in roles.now)) (gates lines.low lines.bits)) }
 {
     for number in 0..lines_of(lines.bits) {
         add_line(alloc, plan, roles, lines, number, row)?;

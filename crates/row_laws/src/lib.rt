@@ -1,7 +1,8 @@
 //! Laws of flat rows, level by level: what a subcircuit flattens to, by what its instances flatten to.
 #![tactic(auto)]
 
-ghost use Rattle.row_laws.specs.Laws.{CaseIsForgotten, InstancesFlatten, InstancesOfSubcktsFlatten, NamesAreNew, RowsAreNumbered};
+ghost use Rattle.row_laws.specs.Laws.{CaseIsForgotten, InstancesFlatten, InstancesOfSubcktsFlatten, NamesAreNew};
+ghost use Rattle.row_laws.specs.Laws.{RowsAreNumbered};
 
 /// A law for proofs: an instance of a subcircuit flattens to what the subcircuit does, seen from further up.
 pub fn instances_of_subckts_flatten()
@@ -23,7 +24,8 @@ pub fn rows_are_numbered()
     ensures { RowsAreNumbered }
 {}
 
-/// A law for proofs: names that are not found in a deck are new to it, as is asked of subcircuits that are written after it.
+/// A law for proofs: names that are not found in a deck are new to it, as is asked of subcircuits that are written
+/// after it.
 pub fn names_are_new()
     ensures { NamesAreNew }
 {}

@@ -1,4 +1,5 @@
-//! A law of labels: those of leaf instances' pins stay on their nets in a memory whose parts are seen in a small memory where they do.
+//! A law of labels: those of leaf instances' pins stay on their nets in a memory whose parts are seen in a small memory
+//! where they do.
 #![tactic(auto)]
 
 ghost use Rattle.seen_labels.specs.Stay.{SeenLabelsStay};

@@ -9,7 +9,8 @@ ghost use Rattle.spice_netlist.specs.Tables.{IsSubcktOrder};
 ghost use Rattle.spice_netlist.specs.LowerCase.{AreLow};
 ghost use Rattle.spice_netlist.specs.Descent.{AreSubcktSizes};
 ghost use Rattle.spice_netlist.specs.Numbers.{AreNumberedRows};
-ghost use Rattle.spice_netlist.specs.Faults.{AreAllThere, IsHierarchy, IsFaultAt, AreRowsAt, IsSmall, AreFlatRows, IsFlatFault};
+ghost use Rattle.spice_netlist.specs.Faults.{AreAllThere, IsHierarchy, IsFaultAt, AreRowsAt, IsSmall, AreFlatRows};
+ghost use Rattle.spice_netlist.specs.Faults.{IsFlatFault};
 
 use crate::cycle::least_cyclic;
 use crate::fault::FlatFault;
@@ -57,7 +58,8 @@ fn order_of(
     requires graph { references.now ≡ graph subckts.now }
     requires within { AreWithin references.now }
     requires inside { top < length references.now }
-    ensures { MatchResult result (λ order. IsHierarchy subckts.now top × IsOrder references.now top order.items) (IsFaultAt subckts.now top) }
+    ensures { MatchResult result (λ order. IsHierarchy subckts.now top × IsOrder references.now top order.items)
+        (IsFaultAt subckts.now top) }
 {
     check_names(alloc, subckts, references, top)?;
     if let Some(order) = order(alloc, references, top)? {
@@ -79,7 +81,8 @@ fn check_ports(
     requires hierarchy { IsHierarchy subckts.now top }
     requires order { IsOrder (graph subckts.now) top order.now }
     requires upward { IsSubcktOrder subckts.now order.now }
-    ensures { MatchResult result (λ _. first_bad subckts.now (walk_at subckts.now top) ≡ None) (IsFaultAt subckts.now top) }
+    ensures { MatchResult result (λ _. first_bad subckts.now (walk_at subckts.now top) ≡ None)
+        (IsFaultAt subckts.now top) }
 {
     match bad_path(alloc, subckts, order, top)? {
         Some(path) => Err(FlatFault::PortCount {
@@ -89,8 +92,8 @@ fn check_ports(
     }
 }
 
-/// How many leaf instances and pins there are below each subcircuit of the order. Err where there are too many below the
-/// top.
+/// How many leaf instances and pins there are below each subcircuit of the order. Err where there are too many below
+/// the top.
 fn check_size(
     alloc: Global,
     subckts: &[ResolvedSubckt],
@@ -101,7 +104,8 @@ fn check_size(
     requires good { first_bad subckts.now (walk_at subckts.now top) ≡ None }
     requires order { IsOrder (graph subckts.now) top order.now }
     requires upward { IsSubcktOrder subckts.now order.now }
-    ensures { MatchResult result (λ sizes. IsSmall subckts.now top × AreSubcktSizes subckts.now top sizes.items) (IsFaultAt subckts.now top) }
+    ensures { MatchResult result (λ sizes. IsSmall subckts.now top × AreSubcktSizes subckts.now top sizes.items)
+        (IsFaultAt subckts.now top) }
 {
     let sizes = sizes(alloc, subckts, order)?;
     let size = *entry(&sizes, top);
@@ -162,8 +166,8 @@ fn rows_at(alloc: Global, subckts: &[ResolvedSubckt], top: usize) -> Result<Vec<
 /// depth-first walk. Nets are numbered from 0 by first appearance.
 ///
 /// A subcircuit other than the top is a leaf where it is named in `leaves` or has no instances. Names are compared
-/// without regard to ASCII case, and rows have them in lower case. Of several subcircuits, or several ports of one, that
-/// have one name the first counts.
+/// without regard to ASCII case, and rows have them in lower case. Of several subcircuits, or several ports of one,
+/// that have one name the first counts.
 pub fn flat_rows(alloc: Global, deck: &Deck, top: &Name, leaves: &[Name]) -> Result<Rows, FlatFault>
     ensures rows { IfOk result (λ rows. AreFlatRows deck.now.subckts top.now leaves.now rows.pins) }
     ensures fault { IfErr result (IsFlatFault deck.now.subckts top.now leaves.now) }

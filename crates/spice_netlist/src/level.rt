@@ -6,8 +6,8 @@ use crate::resolved::ResolvedInstance;
 use or_geom::{Memory, Name};
 use std::alloc::Global;
 
-/// A net, seen from the top: the first bytes of the path, as nets have it, and a name behind them. So a net takes no more
-/// memory where the path is long.
+/// A net, seen from the top: the first bytes of the path, as nets have it, and a name behind them. So a net takes no
+/// more memory where the path is long.
 #[derive(Clone, Copy)]
 pub struct LevelNet<'a> {
     /// How many bytes of the path stand before the name.
@@ -60,7 +60,8 @@ pub fn nets_in<'a>(
 ) -> Result<Vec<LevelNet<'a>>, Memory>
     requires { AreWithinPath level.now.prefix level.now.nets.items }
     ensures near { IfOk result (λ nets. AreWithinPath level.now.prefix nets.items) }
-    ensures seen { IfOk result (λ nets. (path net : List ℕ) → map (level_key net) nets.items ≡ map (seen_name (view_of path net level.now)) names.now) }
+    ensures seen { IfOk result (λ nets. (path net : List ℕ)
+        → map (level_key net) nets.items ≡ map (seen_name (view_of path net level.now)) names.now) }
 {
     let mut nets = Vec::new(alloc);
     for name in names {

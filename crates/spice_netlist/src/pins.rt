@@ -65,8 +65,10 @@ pub fn add_pins(
 ) -> Result<(), Memory>
     requires within { index < length subckts.now }
     requires near { AreWithinPath (length instance_path.now.net.items) nets.now }
-    requires few { net_count rows.old + length (pins_in subckts.now (own_visit instance_path.now instance.now index nets.now)) ≤ most_pins }
-    ensures { OnOk result (AddsRows rows.old rows.new (map (pin_row subckts.now) (pins_in subckts.now (own_visit instance_path.now instance.now index nets.now)))) }
+    requires few { net_count rows.old + length
+        (pins_in subckts.now (own_visit instance_path.now instance.now index nets.now)) ≤ most_pins }
+    ensures { OnOk result (AddsRows rows.old rows.new
+        (map (pin_row subckts.now) (pins_in subckts.now (own_visit instance_path.now instance.now index nets.now)))) }
 {
     let subckt = subckt_at(subckts, index);
     if !subckt.leaf {

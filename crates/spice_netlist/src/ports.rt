@@ -20,8 +20,8 @@ enum BadInstance<'a> {
     },
 }
 
-/// The first of the instances that has not as many nodes as its subcircuit has ports, or has such an instance inside it.
-/// `below` says for each subcircuit that they refer to whether there is one below it.
+/// The first of the instances that has not as many nodes as its subcircuit has ports, or has such an instance inside
+/// it. `below` says for each subcircuit that they refer to whether there is one below it.
 fn bad_instance<'a>(
     subckts: &[ResolvedSubckt],
     instances: &'a [ResolvedInstance],
@@ -66,8 +66,8 @@ fn bad_marks(
     Ok(marks)
 }
 
-/// The path of the first instance below the top that has not as many nodes as its subcircuit has ports; None where there
-/// is none. `order` has the top, and each subcircuit after all that it refers to.
+/// The path of the first instance below the top that has not as many nodes as its subcircuit has ports; None where
+/// there is none. `order` has the top, and each subcircuit after all that it refers to.
 pub fn bad_path(
     alloc: Global,
     subckts: &[ResolvedSubckt],

@@ -72,7 +72,8 @@ fn resolved_subckt(
     subckt_index: &NameIndex,
     subckt: &Subckt,
 ) -> Result<ResolvedSubckt, Memory>
-    ensures { IfOk result (λ resolved. resolved ≡ resolved_subckt top.now (found leaves.now) (found subckt_index.now) subckt.now) }
+    ensures { IfOk result (λ resolved. resolved ≡ resolved_subckt top.now (found leaves.now)
+        (found subckt_index.now) subckt.now) }
 {
     let name = lower_name(alloc, &subckt.name)?;
     let ports = lower_names(alloc, subckt.ports.as_slice())?;
@@ -98,7 +99,8 @@ fn resolved_subckts(
     subckt_index: &NameIndex,
     subckts: &[Subckt],
 ) -> Result<Items<ResolvedSubckt>, Memory>
-    ensures { IfOk result (λ resolved. resolved ≡ map (resolved_subckt top.now (found leaves.now) (found subckt_index.now)) subckts.now) }
+    ensures { IfOk result (λ resolved. resolved
+        ≡ map (resolved_subckt top.now (found leaves.now) (found subckt_index.now)) subckts.now) }
 {
     let mut resolved = Vec::new(alloc);
     for subckt in subckts {

@@ -37,7 +37,8 @@ impl RowList {
         net: &[u8],
     ) -> Result<(), Memory>
         requires { net_count self.old < most_pins }
-        ensures { OnOk result (AddsRows self.old self.new (record { path = path.now; leaf = leaf.now; pin = pin.now; net = local net.now } ∷ [])) }
+        ensures { OnOk result (AddsRows self.old self.new
+            (record { path = path.now; leaf = leaf.now; pin = pin.now; net = local net.now } ∷ [])) }
     {
         let path = Name::from_bytes(alloc, path)?;
         let leaf = Name::from_bytes(alloc, leaf)?;

@@ -37,7 +37,8 @@ fn both(first: Size, second: Size) -> Size
 /// refer to.
 fn walk_size(subckts: &[ResolvedSubckt], instances: &[ResolvedInstance], below: &[Size]) -> Size
     requires sized { length below.now ≡ length subckts.now }
-    requires known { HoldsForReferences (λ index. walk_size subckts.now (walk_at subckts.now index)) below.now instances.now }
+    requires known { HoldsForReferences (λ index. walk_size subckts.now (walk_at subckts.now index)) below.now
+        instances.now }
     ensures { result ≡ walk_size subckts.now (visits_by subckts.now (walk_at subckts.now) instances.now) }
 {
     let mut size = Size { leaves: 0, pins: 0 };
@@ -61,7 +62,8 @@ pub fn sizes(
     order: &[usize],
 ) -> Result<Vec<Size>, Memory>
     requires { IsSubcktOrder subckts.now order.now }
-    ensures { IfOk result (λ sizes. IsTable (λ index. walk_size subckts.now (walk_at subckts.now index)) order.now sizes.items) }
+    ensures { IfOk result (λ sizes. IsTable (λ index. walk_size subckts.now (walk_at subckts.now index)) order.now
+        sizes.items) }
 {
     let mut sizes = vec![in alloc; Size { leaves: 0, pins: 0 }; subckts.len()]?;
     for node in order {

@@ -1,4 +1,5 @@
-ghost use Rattle.std.specs.Prelude.{◌≡◌, List, [], ℕ, Option, None, Some, ◌<◌, ◌≤◌, ◌+◌, length, map, slice_index_or, IfOk, OnOk, MatchOption};
+ghost use Rattle.std.specs.Prelude.{◌≡◌, List, [], ℕ, Option, None, Some, ◌<◌, ◌≤◌, ◌+◌, length, map, slice_index_or};
+ghost use Rattle.std.specs.Prelude.{IfOk, OnOk, MatchOption};
 ghost use Rattle.spice_netlist.specs.Limits.{most_pins};
 ghost use Rattle.spice_netlist.specs.declared.name_index.NameIndex.{NameIndex};
 ghost use Rattle.spice_netlist.specs.Found.{found};
@@ -51,7 +52,9 @@ fn port_tables<'a>(
 /// The indices of the ports of the subcircuit at the index, if there are pins below it.
 fn table_at<'a, 't>(tables: &'t [Option<NameIndex<'a>>], index: usize) -> Option<&'t NameIndex<'a>>
     requires { index < length tables.now }
-    ensures { (other : Option NameIndex) → MatchOption result (slice_index_or tables.now index other ≡ None) (λ table. slice_index_or tables.now index other ≡ Some table.now) }
+    ensures { (other : Option NameIndex)
+        → MatchOption result (slice_index_or tables.now index other ≡ None)
+        (λ table. slice_index_or tables.now index other ≡ Some table.now) }
 {
     match entry(tables, index) {
         Some(table) => Some(table),
@@ -83,8 +86,8 @@ fn top_level<'a, 't>(
 /// Adds the rows of the pins of the leaf instances below the top, in the order of a depth-first walk. `tables` has the
 /// indices of the ports of each subcircuit with pins below it, and `none` has no names.
 ///
-/// The walk keeps its place in a vector, so that the stack doesn't grow with the depth. It goes only where there are pins,
-/// and writes each once.
+/// The walk keeps its place in a vector, so that the stack doesn't grow with the depth. It goes only where there are
+/// pins, and writes each once.
 fn walk<'a, 't>(
     alloc: Global,
     subckts: &'a [ResolvedSubckt],
@@ -98,7 +101,8 @@ fn walk<'a, 't>(
     requires tables { ArePortTables subckts.now top tables.now }
     requires none { (name : List ℕ) → found none.now name ≡ None }
     requires few { net_count rows.old + length (pins_of subckts.now (walk_at subckts.now top)) ≤ most_pins }
-    ensures { OnOk result (AddsRows rows.old rows.new (map (pin_row subckts.now) (pins_of subckts.now (walk_at subckts.now top)))) }
+    ensures { OnOk result (AddsRows rows.old rows.new
+        (map (pin_row subckts.now) (pins_of subckts.now (walk_at subckts.now top)))) }
 {
     let mut instance_path = InstancePath::new(alloc);
     let mut trail = Vec::new(alloc);
@@ -145,7 +149,8 @@ pub fn add_rows_below(
     requires walkable { IsWalkable subckts.now top }
     requires sizes { AreSubcktSizes subckts.now top sizes.now }
     requires few { net_count rows.old + length (pins_of subckts.now (walk_at subckts.now top)) ≤ most_pins }
-    ensures { OnOk result (AddsRows rows.old rows.new (map (pin_row subckts.now) (pins_of subckts.now (walk_at subckts.now top)))) }
+    ensures { OnOk result (AddsRows rows.old rows.new
+        (map (pin_row subckts.now) (pins_of subckts.now (walk_at subckts.now top)))) }
 {
     let tables = port_tables(alloc, subckts, sizes)?;
     let none = index_names(alloc, &[])?;

@@ -5,8 +5,8 @@ use thiserror::Error;
 /// the number of its first line.
 #[derive(Clone, Copy, Debug, PartialEq, Eq, Error)]
 pub enum SpiceFault {
-    /// The first byte above 7E, or below 20 that isn't tab, CR or LF. No line is looked at before it is known that there
-    /// is none.
+    /// The first byte above 7E, or below 20 that isn't tab, CR or LF. No line is looked at before it is known that
+    /// there is none.
     #[error("byte {at} isn't ASCII text")]
     NotAscii { at: u64 },
     /// A line outside every subcircuit that is no command.

@@ -99,7 +99,8 @@ fn is_counted(line: SourceLine<'_>) -> bool
 
 /// The next line that is neither blank nor a comment, and what follows it.
 pub fn next_line(source: Source<'_>) -> Option<(SourceLine<'_>, Source<'_>)>
-    ensures next { MatchOption result (lines_after source.entry ≡ []) (λ p. lines_after source.entry ≡ line_of p.0 ∷ lines_after p.1) }
+    ensures next { MatchOption result (lines_after source.entry ≡ []) (λ p. lines_after source.entry
+        ≡ line_of p.0 ∷ lines_after p.1) }
     ensures shorter { IfSome result (λ p. length p.1.rest.now < length source.entry.rest.now) }
 {
     let mut left = source;

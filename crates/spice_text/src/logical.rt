@@ -53,7 +53,8 @@ pub fn next_logical(
     alloc: Global,
     source: Source<'_>,
 ) -> Result<Option<(LogicalLine, Source<'_>)>, Memory>
-    ensures next { IfOk result (λ next. MatchOption next (join (lines_after source.entry) ≡ []) (λ p. join (lines_after source.entry) ≡ logical_of p.0 ∷ join (lines_after p.1))) }
+    ensures next { IfOk result (λ next. MatchOption next (join (lines_after source.entry) ≡ [])
+        (λ p. join (lines_after source.entry) ≡ logical_of p.0 ∷ join (lines_after p.1))) }
     ensures shorter { IfOk result (λ next. IfSome next (λ p. length p.1.rest.now < length source.entry.rest.now)) }
 {
     let Some((first, after)) = next_line(source) else {

@@ -46,7 +46,8 @@ fn is_stop(reading: &Reading, statement: &Statement) -> bool
 
 /// Where the text ends, unless a subcircuit is still open there.
 fn ended(reading: &Reading, used: u64) -> Result<u64, SpiceFault>
-    ensures { IsSpiceAnswer (deck_of reading.now) result (finished used reading.now.done (current_of reading.now.current)) }
+    ensures { IsSpiceAnswer (deck_of reading.now) result
+        (finished used reading.now.done (current_of reading.now.current)) }
 {
     match &reading.current {
         None => Ok(used),
@@ -68,7 +69,8 @@ fn whole(bytes: &[u8]) -> Source<'_>
 /// Reads the lines of a text without foreign bytes, and tells where it ends.
 fn read_lines(alloc: Global, reading: &mut Reading, bytes: &[u8]) -> Result<u64, SpiceFault>
     requires { HasNames reading.old }
-    ensures { IsSpiceAnswer (deck_of reading.new) result (deck_after (length bytes.now) (so_far reading.old) (logical_lines (lines_of bytes.now))) }
+    ensures { IsSpiceAnswer (deck_of reading.new) result
+        (deck_after (length bytes.now) (so_far reading.old) (logical_lines (lines_of bytes.now))) }
 {
     let mut left = whole(bytes);
     'lines: while let Some((line, after)) = next_logical(alloc, left)? {
@@ -101,9 +103,9 @@ fn read_deck(alloc: Global, bytes: &[u8]) -> Result<Deck, SpiceFault>
 /// Reads the subcircuits of a SPICE text.
 ///
 /// Lines end by LF or CRLF. Blank lines and lines that begin with `*` are dropped, and a line that begins with `+`
-/// continues the one before. Names are kept in lower case. `.SUBCKT` begins a subcircuit and `.ENDS` ends it; a line in it
-/// whose first word begins with x is an instance, and other lines are kept as they stand. A word that holds `=` is dropped
-/// with all after it. Outside subcircuits `.END` ends the text, and other commands are ignored.
+/// continues the one before. Names are kept in lower case. `.SUBCKT` begins a subcircuit and `.ENDS` ends it; a line in
+/// it whose first word begins with x is an instance, and other lines are kept as they stand. A word that holds `=` is
+/// dropped with all after it. Outside subcircuits `.END` ends the text, and other commands are ignored.
 ///
 /// A text that is no deck is refused by its first byte that isn't ASCII text, and else by the first line that breaks
 /// these rules. `Memory` says that memory ran out, whatever the text is.

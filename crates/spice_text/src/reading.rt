@@ -1,6 +1,7 @@
 ghost use Rattle.std.specs.Prelude.{◌≡◌, ◌<◌, ◌∷◌, ◌++◌, [], IfOk, OnOk, MatchOption, length};
 ghost use Rattle.spice_text.specs.Views.{logical_of};
-ghost use Rattle.spice_text.specs.ReaderViews.{said, begun_of, current_of, so_far, is_ended_by, closed, HasInstanceNames, HasNames};
+ghost use Rattle.spice_text.specs.ReaderViews.{said, begun_of, current_of, so_far, is_ended_by, closed};
+ghost use Rattle.spice_text.specs.ReaderViews.{HasInstanceNames, HasNames};
 ghost use Rattle.spice_text.specs.Statements as says;
 ghost use Rattle.spice_text.specs.Subcircuits.{has_repeat, opened, with_current, instance_added, kept_raw, closed_by};
 ghost use Rattle.spice_text.specs.Steps.{step};
@@ -68,8 +69,8 @@ fn opening(alloc: Global, line: u64, heading: Heading) -> OpenSubckt
     }
 }
 
-/// The heading that these words are, if a subcircuit can begin with it: none is open, and its name and those of its ports
-/// are new.
+/// The heading that these words are, if a subcircuit can begin with it: none is open, and its name and those of its
+/// ports are new.
 fn check_begin(
     alloc: Global,
     reading: &Reading,
@@ -77,7 +78,9 @@ fn check_begin(
     words: Items<Name>,
 ) -> Result<Heading, SpiceFault>
     requires { HasNames reading.now }
-    ensures { IsSpiceAnswer (λ heading. with_current (so_far reading.now) (opened line.now.number heading.name heading.ports)) result (step (so_far reading.now) (logical_of line.now) (says.Begin words)) }
+    ensures { IsSpiceAnswer (λ heading. with_current (so_far reading.now)
+        (opened line.now.number heading.name heading.ports)) result
+        (step (so_far reading.now) (logical_of line.now) (says.Begin words)) }
 {
     let line = line.number;
     let None = &reading.current else {
@@ -103,7 +106,8 @@ fn begin(
     words: Items<Name>,
 ) -> Result<(), SpiceFault>
     requires { HasNames reading.old }
-    ensures read { IsSpiceAnswer (λ _. so_far reading.new) result (step (so_far reading.old) (logical_of line.now) (says.Begin words)) }
+    ensures read { IsSpiceAnswer (λ _. so_far reading.new) result
+        (step (so_far reading.old) (logical_of line.now) (says.Begin words)) }
     ensures named { OnOk result (HasNames reading.new) }
 {
     let heading = check_begin(alloc, reading, line, words)?;
@@ -113,7 +117,8 @@ fn begin(
 
 /// The instance of these words: its name, its nodes, and the name of its subcircuit.
 fn instance_in(words: Items<Name>) -> Option<Instance>
-    ensures { MatchOption result (length words < 2) (λ instance. words ≡ instance.name ∷ (instance.nodes ++ instance.of ∷ [])) }
+    ensures { MatchOption result (length words < 2) (λ instance. words
+        ≡ instance.name ∷ (instance.nodes ++ instance.of ∷ [])) }
 {
     let mut nodes = words.into_vec();
     let of = nodes.pop()?;
@@ -136,7 +141,8 @@ fn add_instance(
     words: Items<Name>,
 ) -> Result<(), SpiceFault>
     requires { HasInstanceNames current.old }
-    ensures added { IsSpiceAnswer (λ _. begun_of current.new) result (instance_added (begun_of current.old) line words) }
+    ensures added { IsSpiceAnswer (λ _. begun_of current.new) result
+        (instance_added (begun_of current.old) line words) }
     ensures named { OnOk result (HasInstanceNames current.new) }
 {
     let Some(instance) = instance_in(words) else {
@@ -157,7 +163,8 @@ fn read_instance(
     words: Items<Name>,
 ) -> Result<(), SpiceFault>
     requires { HasNames reading.old }
-    ensures read { IsSpiceAnswer (λ _. so_far reading.new) result (step (so_far reading.old) (logical_of line.now) (says.Instance words)) }
+    ensures read { IsSpiceAnswer (λ _. so_far reading.new) result
+        (step (so_far reading.old) (logical_of line.now) (says.Instance words)) }
     ensures named { OnOk result (HasNames reading.new) }
 {
     match &mut reading.current {
@@ -178,7 +185,8 @@ fn keep_raw(alloc: Global, current: &mut OpenSubckt, text: &[u8]) -> Result<(), 
 /// A command that has no meaning in a subcircuit, and none outside.
 fn read_command(alloc: Global, reading: &mut Reading, line: &LogicalLine) -> Result<(), SpiceFault>
     requires { HasNames reading.old }
-    ensures read { IsSpiceAnswer (λ _. so_far reading.new) result (step (so_far reading.old) (logical_of line.now) says.Command) }
+    ensures read { IsSpiceAnswer (λ _. so_far reading.new) result
+        (step (so_far reading.old) (logical_of line.now) says.Command) }
     ensures named { OnOk result (HasNames reading.new) }
 {
     if let Some(current) = &mut reading.current {
@@ -190,7 +198,8 @@ fn read_command(alloc: Global, reading: &mut Reading, line: &LogicalLine) -> Res
 /// Another line. It has no meaning in a subcircuit, and may not stand outside.
 fn read_other(alloc: Global, reading: &mut Reading, line: &LogicalLine) -> Result<(), SpiceFault>
     requires { HasNames reading.old }
-    ensures read { IsSpiceAnswer (λ _. so_far reading.new) result (step (so_far reading.old) (logical_of line.now) says.Other) }
+    ensures read { IsSpiceAnswer (λ _. so_far reading.new) result
+        (step (so_far reading.old) (logical_of line.now) says.Other) }
     ensures named { OnOk result (HasNames reading.new) }
 {
     let Some(current) = &mut reading.current else {
@@ -253,7 +262,8 @@ fn end(
     words: &[Name],
 ) -> Result<(), SpiceFault>
     requires { HasNames reading.old }
-    ensures read { IsSpiceAnswer (λ _. so_far reading.new) result (step (so_far reading.old) (logical_of line.now) (says.End words.now)) }
+    ensures read { IsSpiceAnswer (λ _. so_far reading.new) result
+        (step (so_far reading.old) (logical_of line.now) (says.End words.now)) }
     ensures named { OnOk result (HasNames reading.new) }
 {
     if !is_ended(&reading.current, words) {
@@ -271,7 +281,8 @@ pub fn read_line(
     statement: Statement,
 ) -> Result<(), SpiceFault>
     requires { HasNames reading.old }
-    ensures read { IsSpiceAnswer (λ _. so_far reading.new) result (step (so_far reading.old) (logical_of line.now) (said statement)) }
+    ensures read { IsSpiceAnswer (λ _. so_far reading.new) result
+        (step (so_far reading.old) (logical_of line.now) (said statement)) }
     ensures named { OnOk result (HasNames reading.new) }
 {
     match statement {

@@ -103,9 +103,9 @@ fn write_subckt(writer: &mut LineWriter, subckt: &Subckt) -> Result<(), Memory>
 }
 
 /// The text of subcircuits: a line `.SUBCKT` with the name and the ports, a line for each instance with its name, its
-/// nodes and the name of its subcircuit, and a line `.ENDS` with the name. Names stand as given, one space apart. A line
-/// has twelve words, and each further twelve, or what is left, stand on a line that begins with `+ `. `are_writable` tells
-/// whether it may be called.
+/// nodes and the name of its subcircuit, and a line `.ENDS` with the name. Names stand as given, one space apart. A
+/// line has twelve words, and each further twelve, or what is left, stand on a line that begins with `+ `.
+/// `are_writable` tells whether it may be called.
 pub fn write_spice(alloc: Global, subckts: &[Subckt]) -> Result<Vec<u8>, Memory>
     requires { AreWritable subckts.now }
     ensures text { IfOk result (λ text. text.items ≡ deck_text subckts.now) }

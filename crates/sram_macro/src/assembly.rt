@@ -53,8 +53,8 @@ use sram_rows::rows_equal_netlist;
 use std::alloc::Global;
 use tech_rules::Wire;
 
-/// A macro: its library, the subcircuits behind those of the leaf cells, its abstract view, and how many tracks its main
-/// channel has.
+/// A macro: its library, the subcircuits behind those of the leaf cells, its abstract view, and how many tracks its
+/// main channel has.
 #[derive(Debug, Drop)]
 pub struct Macro {
     pub lib: Library,
@@ -76,7 +76,9 @@ fn signals_of(
     requires wire { IsWire kit.now.tech.layers wire.now }
     requires low { low ≤ 65536 }
     requires main { IsMainRouted (organization plan.now) (layout_kit kit.now) wire.now main.now }
-    ensures are { IfOk result (λ pins. pins.items ≡ signals_on_tracks wire.now (pos low) (input_count (organization plan.now)) (signal_names (organization plan.now)) main.now.track) }
+    ensures are { IfOk result (λ pins. pins.items
+        ≡ signals_on_tracks wire.now (pos low) (input_count (organization plan.now))
+        (signal_names (organization plan.now)) main.now.track) }
     ensures writable { IfOk result (λ pins. AllByRecursion IsWritablePin pins.items) }
 {
     let names = signal_names(alloc, plan)?;
@@ -133,7 +135,8 @@ fn wires_of(
     requires signals { AllByRecursion IsWritablePin signals.now }
     ensures are { IfOk result (AreWiresOf (organization plan.now) (layout_kit kit.now) wire.now layout signals.now) }
     ensures layers { IfOk result (AreOnLayers kit.now.tech.layers) }
-    ensures writable { IfOk result (λ wires. (bits : BitCells) → HaveTexts bits → IsWritableDrawing (drawing_with bits layout.floorplan wires)) }
+    ensures writable { IfOk result (λ wires. (bits : BitCells) → HaveTexts bits
+        → IsWritableDrawing (drawing_with bits layout.floorplan wires)) }
 {
     // That all wires fit 32 bits and are on layers follows by these laws.
     routed_shapes_are_near();
@@ -174,8 +177,11 @@ fn written_library(
     requires near { IsNearFloorplan frame.now.floorplan }
     requires row { IsLogicRow (organization plan.now) (cell_in kit.now.tech.roles) frame.now.row }
     requires layers { AreOnLayers kit.now.tech.layers wires }
-    requires drawing { IsWritableDrawing (drawing_with (macro_bits kit.now plan.now (held_of contents)) frame.now.floorplan wires) }
-    ensures library { IfOk result (IsLibraryOf kit.now.tech.layers (macro_list kit.now (organization plan.now) name.now (drawing_with (macro_bits kit.now plan.now (held_of contents.entry)) frame.now.floorplan wires)) name.now) }
+    requires drawing { IsWritableDrawing
+        (drawing_with (macro_bits kit.now plan.now (held_of contents)) frame.now.floorplan wires) }
+    ensures library { IfOk result (IsLibraryOf kit.now.tech.layers
+        (macro_list kit.now (organization plan.now) name.now
+        (drawing_with (macro_bits kit.now plan.now (held_of contents.entry)) frame.now.floorplan wires)) name.now) }
     ensures named { IfOk result (λ lib. lib.name ≡ name.now) }
     ensures writable { IfOk result IsWritable }
 {
@@ -239,12 +245,12 @@ fn column_of(alloc: Global, kit: &Kit, plan: &Plan) -> Result<Routed, PartFault>
     channel(alloc, kit, plan)
 }
 
-/// Assembles the macro of this name from leaf cells. `NameTaken`: a structure or subcircuit of the leaf cells has the name of
-/// one of the macro's; `SliceTooNarrow`: the sense or the write cell is wider than the columns of a bit; `Close`: pins of a
-/// channel are nearer to each other than the pitch, first of a bank's and then of the main channel; `TapsClose`: taps of a
-/// bank's rails are. x and y of the first channel's pins count from the left end of the columns, those of taps from the lower
-/// edge of the bank, and those of the main channel in the macro. Where the plan writes something, the netlist of the macro is a
-/// memory (clause `memory`).
+/// Assembles the macro of this name from leaf cells. `NameTaken`: a structure or subcircuit of the leaf cells has the
+/// name of one of the macro's; `SliceTooNarrow`: the sense or the write cell is wider than the columns of a bit;
+/// `Close`: pins of a channel are nearer to each other than the pitch, first of a bank's and then of the main channel;
+/// `TapsClose`: taps of a bank's rails are. x and y of the first channel's pins count from the left end of the columns,
+/// those of taps from the lower edge of the bank, and those of the main channel in the macro. Where the plan writes
+/// something, the netlist of the macro is a memory (clause `memory`).
 pub fn assemble(alloc: Global, kit: &Kit, plan: &Plan, name: &Name) -> Result<Macro, PartFault>
     requires kit { IsKit kit.now }
     requires plan { ArePlanNumbers (numbers_of plan.now) }
@@ -271,8 +277,8 @@ fn is_memory(_kit: &Kit, _plan: &Plan, _name: &Name, _made: &Macro)
     runs_obey();
 }
 
-/// Assembles a macro that holds these contents, refused as by `assemble`. A plan that writes nothing has no write cells, so that
-/// none is too wide.
+/// Assembles a macro that holds these contents, refused as by `assemble`. A plan that writes nothing has no write
+/// cells, so that none is too wide.
 pub fn assemble_with(
     alloc: Global,
     kit: &Kit,

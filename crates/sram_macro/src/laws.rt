@@ -7,7 +7,8 @@ use macro_layout::{channels_are_drawn, flat_lists_are_stated};
 pub fn macros_are_stated()
     ensures { MacrosAreStated }
 {
-    // These calls do nothing when the program runs: their contracts are the laws of channels and cells that this one rests on.
+    // These calls do nothing when the program runs: their contracts are the laws of channels and cells that this one
+    // rests on.
     channels_are_drawn();
     flat_lists_are_stated();
     macro_libraries_are_writable();

@@ -32,8 +32,8 @@ use sram_plan::Plan;
 use std::alloc::Global;
 use tech_rules::{RouteFault, Wire};
 
-/// How a macro is laid out: the sides of its leaf cells, where its parts stand and where it ends, the wires of a bank from
-/// its lower edge, each once and in order, and the main channel.
+/// How a macro is laid out: the sides of its leaf cells, where its parts stand and where it ends, the wires of a bank
+/// from its lower edge, each once and in order, and the main channel.
 #[derive(Drop)]
 pub struct Layout {
     pub sides: LeafSides,
@@ -58,7 +58,8 @@ fn route_main(
     requires wire { IsWire kit.now.tech.layers wire.now }
     requires wired { kit.now.tech.wire ≡ Some wire.now }
     requires near { IsNearFloorplan floorplan.now }
-    requires stands { (tracks : Tracks) × IsFloorplan (organization plan.now) (layout_kit kit.now) wire.now tracks (floorplan_of floorplan.now) }
+    requires stands { (tracks : Tracks) × IsFloorplan (organization plan.now) (layout_kit kit.now) wire.now tracks
+        (floorplan_of floorplan.now) }
     ensures routed { IfOk result (IsMainRouted (organization plan.now) (layout_kit kit.now) wire.now) }
     ensures fault { IfErr result (IsMainFault (organization plan.now) (layout_kit kit.now) wire.now) }
 {
@@ -131,8 +132,12 @@ pub fn top_wires(
     requires ends { AreNearExtents ends.now }
     requires power { IsBehind sides.now floorplan.now ends.now.power_x }
     requires ground { IsBehind sides.now floorplan.now ends.now.ground_x }
-    ensures { IfOk result (λ shapes. (kit : LayoutKit) → AreSidesOf (organization plan.now) kit sides.now → AreExtents (organization plan.now) kit wire.now (floorplan_of floorplan.now) ends.now
-        → (s : Shape) → Contains shapes.items s ↔ (Contains main.shapes s ⊎ (IsPowerWire (organization plan.now) kit wire.now (floorplan_of floorplan.now) s ⊎ IsGroundWire (organization plan.now) kit wire.now (floorplan_of floorplan.now) s))) }
+    ensures { IfOk result (λ shapes. (kit : LayoutKit) → AreSidesOf (organization plan.now) kit sides.now
+        → AreExtents (organization plan.now) kit wire.now (floorplan_of floorplan.now) ends.now
+        → (s : Shape) → Contains shapes.items s
+        ↔ (Contains main.shapes s ⊎ (IsPowerWire (organization plan.now) kit wire.now
+        (floorplan_of floorplan.now) s
+        ⊎ IsGroundWire (organization plan.now) kit wire.now (floorplan_of floorplan.now) s))) }
 {
     let mut shapes = main.shapes.into_vec();
     add_power_wires(plan, sides, wire, floorplan, ends.power_x, &mut shapes)?;

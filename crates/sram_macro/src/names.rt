@@ -25,7 +25,10 @@ fn row_names(
     contents: Contents<'_>,
 ) -> Result<Vec<Name>, Memory>
     requires { ArePlanNumbers (numbers_of plan.now) }
-    ensures { IfOk result (λ names. names.items ≡ tabulate (row_kinds (macro_bits kit.now plan.now (held_of contents.entry)) (bank_rows (organization plan.now))) (row_name (macro_bits kit.now plan.now (held_of contents.entry)) name.now)) }
+    ensures { IfOk result (λ names. names.items
+        ≡ tabulate (row_kinds (macro_bits kit.now plan.now (held_of contents.entry))
+        (bank_rows (organization plan.now)))
+        (row_name (macro_bits kit.now plan.now (held_of contents.entry)) name.now)) }
 {
     let mut names = Vec::new(alloc);
     for row in 0..row_kinds(plan, contents) {
@@ -79,7 +82,8 @@ fn is_taken(kit: &Kit, name: &[u8]) -> bool
         || is_subckt_name(kit.deck.subckts.as_slice(), name)
 }
 
-/// Refuses the first name of the macro's cells that a structure or subcircuit of the leaf cells has, without regard to case.
+/// Refuses the first name of the macro's cells that a structure or subcircuit of the leaf cells has, without regard to
+/// case.
 pub fn refuse_taken_names(
     alloc: Global,
     kit: &Kit,
@@ -88,8 +92,10 @@ pub fn refuse_taken_names(
     contents: Contents<'_>,
 ) -> Result<(), PartFault>
     requires { ArePlanNumbers (numbers_of plan.now) }
-    ensures free { IfOk result (λ _. first_taken kit.now (names_of_macro kit.now plan.now (held_of contents.entry) name.now) ≡ None) }
-    ensures fault { IfErr result (IsTakenFault kit.now (names_of_macro kit.now plan.now (held_of contents.entry) name.now)) }
+    ensures free { IfOk result (λ _. first_taken kit.now
+        (names_of_macro kit.now plan.now (held_of contents.entry) name.now) ≡ None) }
+    ensures fault { IfErr result (IsTakenFault kit.now
+        (names_of_macro kit.now plan.now (held_of contents.entry) name.now)) }
 {
     let names = macro_names(alloc, kit, plan, name, contents)?;
     let mut rest = names.as_slice();

@@ -4,7 +4,8 @@ ghost use Rattle.channel_router.specs.Wires.{track_y};
 ghost use Rattle.sram_netlist.specs.Numbers.{ArePlanNumbers};
 ghost use Rattle.sram_plan.specs.PlanNumbers.{numbers_of, organization};
 ghost use Rattle.macro_wires.specs.FloorplanNumbers.{IsUpTo};
-ghost use Rattle.sram_macro.specs.Signals.{signal_names, AreOnTracks, signals_on_tracks, signal_label, supply_label, macro_labels};
+ghost use Rattle.sram_macro.specs.Signals.{signal_names, AreOnTracks, signals_on_tracks, signal_label, supply_label};
+ghost use Rattle.sram_macro.specs.Signals.{macro_labels};
 
 use crate::extents::Extents;
 use cell_builder::PlacedLabel;
@@ -54,7 +55,8 @@ fn name_at(alloc: Global, names: &[Name], number: usize) -> Result<Name, Memory>
     Ok(Name::from_bytes(alloc, names[number].as_bytes())?)
 }
 
-/// The signal ports of these names, each on its track of the main channel, which begins at `low`. So many of them go in.
+/// The signal ports of these names, each on its track of the main channel, which begins at `low`. So many of them go
+/// in.
 pub fn signal_pins(
     alloc: Global,
     names: &[Name],

@@ -1,15 +1,18 @@
-ghost use Rattle.std.specs.Prelude.{◌≡◌, ℕ, ◌+◌, ◌*◌, ◌<◌, ◌≤◌, ◌^◌, ◌↔◌, List, [], ◌∷◌, ◌++◌, IfOk, IfErr, IfSome, IfNone, IsTrue};
+ghost use Rattle.std.specs.Prelude.{◌≡◌, ℕ, ◌+◌, ◌*◌, ◌<◌, ◌≤◌, ◌^◌, ◌↔◌, List, [], ◌∷◌, ◌++◌, IfOk, IfErr, IfSome};
+ghost use Rattle.std.specs.Prelude.{IfNone, IsTrue};
 ghost use Rattle.sram_netlist.specs.Membership.{IsOneOf};
 ghost use Rattle.sram_netlist.specs.Numbers.{ArePlanNumbers};
 ghost use Rattle.sram_plan.specs.Config.{IsConfig};
-ghost use Rattle.sram_plan.specs.Plan.{FitsBank, distance, candidates, NearestAmong, AreSmaller, IsWordsPerRow, IsPlanWith, IsPlanOf, masks_of, row_groups};
+ghost use Rattle.sram_plan.specs.Plan.{FitsBank, distance, candidates, NearestAmong, AreSmaller, IsWordsPerRow};
+ghost use Rattle.sram_plan.specs.Plan.{IsPlanWith, IsPlanOf, masks_of, row_groups};
 ghost use Rattle.sram_plan.specs.PlanNumbers.{numbers_of};
 
 use crate::config::Config;
 use crate::numbers::{Plan, PlanFault};
 
-/// The plan of a configuration: a bank has 16 to 256 rows and at most 256 columns. Where the configuration gives no count of words
-/// in a row, it is the one that makes rows and columns as near each other as can be, the smaller of two that do.
+/// The plan of a configuration: a bank has 16 to 256 rows and at most 256 columns. Where the configuration gives no
+/// count of words in a row, it is the one that makes rows and columns as near each other as can be, the smaller of two
+/// that do.
 pub fn plan(config: &Config) -> Result<Plan, PlanFault>
     requires { IsConfig config.now }
     ensures planned { IfOk result (IsPlanOf config.now) }
@@ -34,7 +37,8 @@ fn words_per_row(config: &Config) -> Option<u32>
     }
 }
 
-/// Of the counts of words that a row may have, the one that fits and makes rows and columns as near each other as can be.
+/// Of the counts of words that a row may have, the one that fits and makes rows and columns as near each other as can
+/// be.
 fn nearest(config: &Config) -> Option<u32>
     requires { IsConfig config.now }
     ensures { NearestAmong config.now candidates result }
@@ -51,7 +55,8 @@ fn nearer(config: &Config, nearest: Option<u32>, wpr: u32) -> Option<u32>
     requires wpr { IsOneOf wpr candidates }
     requires nearest { IfSome nearest (λ w. IsOneOf w candidates) }
     ensures among { IfSome result (λ w. IsOneOf w candidates) }
-    ensures nearest { (ws : List ℕ) → AreSmaller ws wpr → NearestAmong config.now ws nearest → NearestAmong config.now (ws ++ wpr ∷ []) result }
+    ensures nearest { (ws : List ℕ) → AreSmaller ws wpr → NearestAmong config.now ws nearest
+        → NearestAmong config.now (ws ++ wpr ∷ []) result }
 {
     if !fits(config, wpr) {
         return nearest;

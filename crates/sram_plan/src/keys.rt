@@ -4,9 +4,11 @@ ghost use Rattle.sram_netlist.specs.Membership.{IsOneOf};
 ghost use Rattle.toml_keys.specs.Fault.{MatchesUnless};
 ghost use Rattle.toml_keys.specs.Keys.{optional};
 ghost use Rattle.toml_keys.specs.Section.{section_of};
-ghost use Rattle.sram_plan.specs.Config.{is_printable_byte, is_file_text, is_letter_byte, is_name_char, is_identifier, is_output_name, starts_with_letter};
+ghost use Rattle.sram_plan.specs.Config.{is_printable_byte, is_file_text, is_letter_byte, is_name_char, is_identifier};
+ghost use Rattle.sram_plan.specs.Config.{is_output_name, starts_with_letter};
 ghost use Rattle.sram_plan.specs.Fault.{config_faults};
-ghost use Rattle.sram_plan.specs.Keys.{natural_under, listed_under, listed_or, divisor_under, divisor_or_whole, file_text_under, output_name_under};
+ghost use Rattle.sram_plan.specs.Keys.{natural_under, listed_under, listed_or, divisor_under, divisor_or_whole};
+ghost use Rattle.sram_plan.specs.Keys.{file_text_under, output_name_under};
 ghost use Rattle.sram_plan.specs.declared.fault.ConfigFault.TheVariants.{Memory};
 
 use crate::fault::ConfigFault;
@@ -50,7 +52,8 @@ pub fn listed_or(
     absent: u32,
 ) -> Result<u32, ConfigFault>
     requires { IsOneOf absent values.now }
-    ensures given { MatchesUnless Memory result (listed_or absent values.now (section_of config_faults table.now) key.now) }
+    ensures given { MatchesUnless Memory result
+        (listed_or absent values.now (section_of config_faults table.now) key.now) }
     ensures among { IfOk result (λ n. IsOneOf n values.now) }
 {
     if table.has(key) {
@@ -65,7 +68,8 @@ pub fn listed_if(
     key: &str,
     values: &[u32],
 ) -> Result<Option<u32>, ConfigFault>
-    ensures given { MatchesUnless Memory result (optional (listed_under values.now) (section_of config_faults table.now) key.now) }
+    ensures given { MatchesUnless Memory result
+        (optional (listed_under values.now) (section_of config_faults table.now) key.now) }
     ensures among { IfOk result (λ found. IfSome found (λ n. IsOneOf n values.now)) }
 {
     if !table.has(key) {
@@ -122,7 +126,8 @@ pub fn file_text(table: &KeyTable<ConfigFault>, key: &str) -> Result<Name, Confi
 
 /// The same, or nothing where the key isn't there.
 pub fn file_text_if(table: &KeyTable<ConfigFault>, key: &str) -> Result<Option<Name>, ConfigFault>
-    ensures given { MatchesUnless Memory result (optional file_text_under (section_of config_faults table.now) key.now) }
+    ensures given { MatchesUnless Memory result
+        (optional file_text_under (section_of config_faults table.now) key.now) }
     ensures good { IfOk result (λ found. IfSome found (λ n. IsTrue (is_file_text n))) }
 {
     if !table.has(key) {

@@ -4,8 +4,8 @@ ghost use Rattle.sram_netlist.specs.Numbers.{ArePlanNumbers};
 ghost use Rattle.sram_netlist.specs.Organization.{inputs_of};
 ghost use Rattle.sram_plan.specs.PlanNumbers.{numbers_of, organization, read_only_plan};
 
-/// How a memory is laid out: the numbers of its words, banks, rows and columns, and how an address is cut. Rows and columns
-/// are those of one bank.
+/// How a memory is laid out: the numbers of its words, banks, rows and columns, and how an address is cut. Rows and
+/// columns are those of one bank.
 #[derive(Clone, Copy, Debug, Drop)]
 pub struct Plan {
     /// Bits of a word.

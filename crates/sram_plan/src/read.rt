@@ -41,8 +41,9 @@ const KNOWN_KEYS: [&str; 18] = [
     "check_lvsdrc",
 ];
 
-/// Reads a configuration, which is a TOML document. A key that no configuration has comes first, then the keys in a fixed
-/// order; at one key the fault is that it is missing, then that it is of another kind, then that it isn't allowed.
+/// Reads a configuration, which is a TOML document. A key that no configuration has comes first, then the keys in a
+/// fixed order; at one key the fault is that it is missing, then that it is of another kind, then that it isn't
+/// allowed.
 pub fn read_config(alloc: Global, bytes: &[u8]) -> Result<Config, ConfigFault>
     ensures read { IfOk result (λ config. configuration bytes.now ≡ Ok config) }
     ensures fault { IfErr result (λ e. e ≢ Memory → configuration bytes.now ≡ Err e) }

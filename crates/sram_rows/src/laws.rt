@@ -1,8 +1,8 @@
 ghost use Rattle.sram_rows.specs.Rows.{RowsEqualNetlist, SomeAreLeavesFor};
 ghost use Rattle.sram_rows.specs.Writing.{CellsAreNames, WrittenSubcktsAreRead, WrittenSubcktsAreWritable};
 
-/// Flat rows of the written subcircuits, behind those of the leaf cells, have the paths, cells and pins of the reference
-/// netlist, and one number exactly where it has one net; and they are refused for want of memory alone.
+/// Flat rows of the written subcircuits, behind those of the leaf cells, have the paths, cells and pins of the
+/// reference netlist, and one number exactly where it has one net; and they are refused for want of memory alone.
 pub fn rows_equal_netlist()
     ensures { RowsEqualNetlist }
 {}
@@ -22,7 +22,8 @@ pub fn written_subckts_are_read()
     ensures { WrittenSubcktsAreRead }
 {}
 
-/// The name of a leaf cell that is among subcircuits that were read can be written, if its characters are printed and no spaces.
+/// The name of a leaf cell that is among subcircuits that were read can be written, if its characters are printed and
+/// no spaces.
 pub fn cells_are_names()
     ensures { CellsAreNames }
 {}

@@ -3,7 +3,8 @@ ghost use Rattle.std.specs.List.{AllByRecursion};
 ghost use Rattle.sram_netlist.specs.InstanceList.{tabulate};
 ghost use Rattle.sram_netlist.specs.Numbers.{ArePlanNumbers};
 ghost use Rattle.sram_plan.specs.PlanNumbers.{numbers_of, organization};
-ghost use Rattle.sram_deck.specs.Deck.{made_subckt, array_ports, array_row, array_instances, pre_ports, pre_column, pre_instances};
+ghost use Rattle.sram_deck.specs.Deck.{made_subckt, array_ports, array_row, array_instances, pre_ports, pre_column};
+ghost use Rattle.sram_deck.specs.Deck.{pre_instances};
 ghost use Rattle.tech_rules.specs.declared.tech.RoleName.{RoleName};
 ghost use Rattle.port_lists.specs.Cells.{cell_in};
 ghost use Rattle.port_lists.specs.Contents.{bit_cells};
@@ -26,7 +27,9 @@ pub fn array_subckt(
     contents: Contents<'_>,
 ) -> Result<Subckt, Memory>
     requires { ArePlanNumbers (numbers_of plan.now) }
-    ensures { IfOk result (λ s. (roles : List RoleName) → s ≡ made_subckt (name.now ++ codes "_array") (array_ports (organization plan.now)) (array_instances (organization plan.now) (bit_cells roles (organization plan.now) contents.entry) name.now)) }
+    ensures { IfOk result (λ s. (roles : List RoleName)
+        → s ≡ made_subckt (name.now ++ codes "_array") (array_ports (organization plan.now))
+        (array_instances (organization plan.now) (bit_cells roles (organization plan.now) contents.entry) name.now)) }
 {
     let groups = groups_of(alloc, plan)?;
     let ports = array_port_list(alloc, plan, &groups)?;
@@ -60,7 +63,9 @@ fn add_rows(
 ) -> Result<(), Memory>
     requires numbers { ArePlanNumbers (numbers_of plan.now) }
     requires groups { groups.now ≡ (organization plan.now).groups }
-    ensures { OnOk result ((roles : List RoleName) → instances.new.items ≡ instances.old.items ++ array_instances (organization plan.now) (bit_cells roles (organization plan.now) contents.entry) name.now) }
+    ensures { OnOk result ((roles : List RoleName)
+        → instances.new.items ≡ instances.old.items ++ array_instances (organization plan.now)
+        (bit_cells roles (organization plan.now) contents.entry) name.now) }
 {
     for row in 0..plan.rows {
         instances.push(row_instance(alloc, plan, groups, name, contents, row)?)?;
@@ -79,7 +84,8 @@ fn row_instance(
 ) -> Result<Instance, Memory>
     requires numbers { ArePlanNumbers (numbers_of plan.now) }
     requires groups { groups.now ≡ (organization plan.now).groups }
-    ensures { IfOk result (λ i. (roles : List RoleName) → i ≡ array_row (organization plan.now) (bit_cells roles (organization plan.now) contents.entry) name.now row) }
+    ensures { IfOk result (λ i. (roles : List RoleName)
+        → i ≡ array_row (organization plan.now) (bit_cells roles (organization plan.now) contents.entry) name.now row) }
 {
     let mut nodes = NameList::new(alloc);
     nodes.add_row_lines(groups, row)?;
@@ -101,7 +107,8 @@ pub fn precharge_subckt(
     name: &Name,
 ) -> Result<Subckt, Memory>
     requires { ArePlanNumbers (numbers_of plan.now) }
-    ensures { IfOk result (λ s. s ≡ made_subckt (name.now ++ codes "_pre") (pre_ports (organization plan.now)) (pre_instances (organization plan.now) (cell_in roles.now))) }
+    ensures { IfOk result (λ s. s ≡ made_subckt (name.now ++ codes "_pre") (pre_ports (organization plan.now))
+        (pre_instances (organization plan.now) (cell_in roles.now))) }
 {
     let ports = precharge_port_list(alloc, plan)?;
     let mut instances = Vec::new(alloc);
@@ -129,7 +136,8 @@ fn add_precharges(
     instances: &mut Vec<Instance>,
 ) -> Result<(), Memory>
     requires { ArePlanNumbers (numbers_of plan.now) }
-    ensures { OnOk result (instances.new.items ≡ instances.old.items ++ pre_instances (organization plan.now) (cell_in roles.now)) }
+    ensures { OnOk result (instances.new.items ≡ instances.old.items ++ pre_instances (organization plan.now)
+        (cell_in roles.now)) }
 {
     for column in 0..plan.columns {
         let nodes = [

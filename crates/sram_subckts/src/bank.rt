@@ -14,7 +14,8 @@ use std::alloc::Global;
 /// The subcircuit of a bank: the array, the precharge and the data. `name` is the macro's.
 pub fn bank_subckt(alloc: Global, plan: &Plan, name: &Name) -> Result<Subckt, Memory>
     requires { ArePlanNumbers (numbers_of plan.now) }
-    ensures { IfOk result (λ s. s ≡ made_subckt (name.now ++ codes "_bank") (bank_ports (organization plan.now)) (bank_instances (organization plan.now) name.now)) }
+    ensures { IfOk result (λ s. s ≡ made_subckt (name.now ++ codes "_bank") (bank_ports (organization plan.now))
+        (bank_instances (organization plan.now) name.now)) }
 {
     let groups = groups_of(alloc, plan)?;
     let ports = bank_port_list(alloc, plan, &groups)?;

@@ -4,7 +4,8 @@ ghost use Rattle.sram_netlist.specs.Netlist.{mask_of};
 ghost use Rattle.sram_netlist.specs.InstanceList.{tabulate};
 ghost use Rattle.sram_netlist.specs.Numbers.{ArePlanNumbers};
 ghost use Rattle.sram_plan.specs.PlanNumbers.{numbers_of, organization};
-ghost use Rattle.sram_deck.specs.Deck.{made_subckt, lo_name, ro_name, enable_name, data_ports, data_write, data_sense, data_links, data_tie, data_mux, data_instances};
+ghost use Rattle.sram_deck.specs.Deck.{made_subckt, lo_name, ro_name, enable_name, data_ports, data_write, data_sense};
+ghost use Rattle.sram_deck.specs.Deck.{data_links, data_tie, data_mux, data_instances};
 ghost use Rattle.port_lists.specs.Cells.{cell_in};
 ghost use Rattle.port_lists.specs.Spelled.{spelled};
 
@@ -17,7 +18,8 @@ use std::alloc::Global;
 use tech_rules::RoleName;
 
 /// The subcircuit of the data: a write cell for each bit that is written, a sense cell for each bit of the word, and a
-/// multiplexer, or a tie where a row has one word, for each column. `roles` names the leaf cells, and `name` is the macro's.
+/// multiplexer, or a tie where a row has one word, for each column. `roles` names the leaf cells, and `name` is the
+/// macro's.
 pub fn data_subckt(
     alloc: Global,
     plan: &Plan,
@@ -25,7 +27,8 @@ pub fn data_subckt(
     name: &Name,
 ) -> Result<Subckt, Memory>
     requires { ArePlanNumbers (numbers_of plan.now) }
-    ensures { IfOk result (λ s. s ≡ made_subckt (name.now ++ codes "_data") (data_ports (organization plan.now)) (data_instances (organization plan.now) (cell_in roles.now))) }
+    ensures { IfOk result (λ s. s ≡ made_subckt (name.now ++ codes "_data") (data_ports (organization plan.now))
+        (data_instances (organization plan.now) (cell_in roles.now))) }
 {
     let ports = data_port_list(alloc, plan)?;
     let mut instances = Vec::new(alloc);
@@ -93,7 +96,8 @@ fn add_writes(
     instances: &mut Vec<Instance>,
 ) -> Result<(), Memory>
     requires { ArePlanNumbers (numbers_of plan.now) }
-    ensures { OnOk result (instances.new.items ≡ instances.old.items ++ tabulate (inputs_of (organization plan.now)) (data_write (organization plan.now) (cell_in roles.now))) }
+    ensures { OnOk result (instances.new.items ≡ instances.old.items ++ tabulate (inputs_of (organization plan.now))
+        (data_write (organization plan.now) (cell_in roles.now))) }
 {
     for bit in 0..inputs_of(plan) {
         let nodes = [
@@ -115,7 +119,8 @@ fn add_senses(
     roles: &[RoleName],
     instances: &mut Vec<Instance>,
 ) -> Result<(), Memory>
-    ensures { OnOk result (instances.new.items ≡ instances.old.items ++ tabulate plan.now.word_size (data_sense (organization plan.now) (cell_in roles.now))) }
+    ensures { OnOk result (instances.new.items ≡ instances.old.items ++ tabulate plan.now.word_size
+        (data_sense (organization plan.now) (cell_in roles.now))) }
 {
     for bit in 0..plan.word_size {
         let nodes = [
@@ -138,7 +143,8 @@ fn add_links(
     instances: &mut Vec<Instance>,
 ) -> Result<(), Memory>
     requires { ArePlanNumbers (numbers_of plan.now) }
-    ensures { OnOk result (instances.new.items ≡ instances.old.items ++ data_links (organization plan.now) (cell_in roles.now) plan.now.col_bits) }
+    ensures { OnOk result (instances.new.items ≡ instances.old.items ++ data_links (organization plan.now)
+        (cell_in roles.now) plan.now.col_bits) }
 {
     if plan.col_bits == 0 {
         return add_ties(alloc, plan, roles, instances);
@@ -154,7 +160,8 @@ fn add_ties(
     instances: &mut Vec<Instance>,
 ) -> Result<(), Memory>
     requires { ArePlanNumbers (numbers_of plan.now) }
-    ensures { OnOk result (instances.new.items ≡ instances.old.items ++ tabulate (columns_of (organization plan.now)) (data_tie (cell_in roles.now))) }
+    ensures { OnOk result (instances.new.items ≡ instances.old.items ++ tabulate (columns_of (organization plan.now))
+        (data_tie (cell_in roles.now))) }
 {
     for column in 0..plan.columns {
         let nodes = [
@@ -175,7 +182,8 @@ fn add_multiplexers(
     instances: &mut Vec<Instance>,
 ) -> Result<(), Memory>
     requires { ArePlanNumbers (numbers_of plan.now) }
-    ensures { OnOk result (instances.new.items ≡ instances.old.items ++ tabulate (columns_of (organization plan.now)) (data_mux (organization plan.now) (cell_in roles.now))) }
+    ensures { OnOk result (instances.new.items ≡ instances.old.items ++ tabulate (columns_of (organization plan.now))
+        (data_mux (organization plan.now) (cell_in roles.now))) }
 {
     for column in 0..plan.columns {
         instances.push(multiplexer(alloc, plan, roles, column)?)?;

@@ -1,4 +1,5 @@
-//! Makes the subcircuits of a memory but for its logic row: its rows, the array, the precharge, the data, a bank and the macro.
+//! Makes the subcircuits of a memory but for its logic row: its rows, the array, the precharge, the data, a bank and
+//! the macro.
 #![tactic(auto)]
 
 mod array;

@@ -20,8 +20,8 @@ use sram_plan::Plan;
 use std::alloc::Global;
 use tech_rules::RoleName;
 
-/// The subcircuit of a row: its gate, its driver and the cells of its bits. `roles` names the leaf cells, and `name` is the
-/// macro's.
+/// The subcircuit of a row: its gate, its driver and the cells of its bits. `roles` names the leaf cells, and `name` is
+/// the macro's.
 pub fn row_subckt(
     alloc: Global,
     plan: &Plan,
@@ -33,7 +33,8 @@ pub fn row_subckt(
     requires numbers { ArePlanNumbers (numbers_of plan.now) }
     requires contents { IsContents (organization plan.now) contents }
     requires row { row < bank_rows (organization plan.now) }
-    ensures { IfOk result (λ s. s ≡ row_subckt (organization plan.now) (cell_in roles.now) (bit_cells roles.now (organization plan.now) contents.entry) name.now row) }
+    ensures { IfOk result (λ s. s ≡ row_subckt (organization plan.now) (cell_in roles.now)
+        (bit_cells roles.now (organization plan.now) contents.entry) name.now row) }
 {
     let groups = groups_of(alloc, plan)?;
     let ports = row_port_list(alloc, plan, &groups)?;
@@ -62,7 +63,8 @@ fn row_port_list(alloc: Global, plan: &Plan, groups: &[u32]) -> Result<NameList,
 /// The gate of a row, over so many predecode lines as there are groups.
 fn row_gate_instance(alloc: Global, groups: &[u32], roles: &[RoleName]) -> Result<Instance, Memory>
     requires { (length groups.now ≡ 2) ⊎ (length groups.now ≡ 3) }
-    ensures { IfOk result (λ i. i ≡ subckt_instance (codes "xnand") (row_inputs 97 groups.now ++ (codes "zb" ∷ supplies)) (cell_in roles.now (row_gate groups.now))) }
+    ensures { IfOk result (λ i. i ≡ subckt_instance (codes "xnand")
+        (row_inputs 97 groups.now ++ (codes "zb" ∷ supplies)) (cell_in roles.now (row_gate groups.now))) }
 {
     let role = row_gate_role(groups);
     let mut nodes = NameList::new(alloc);
@@ -111,7 +113,8 @@ fn add_bits(
     requires numbers { ArePlanNumbers (numbers_of plan.now) }
     requires contents { IsContents (organization plan.now) contents }
     requires row { row < bank_rows (organization plan.now) }
-    ensures { OnOk result (instances.new.items ≡ instances.old.items ++ tabulate (columns_of (organization plan.now)) (row_bit (bit_cells roles.now (organization plan.now) contents.entry) row)) }
+    ensures { OnOk result (instances.new.items ≡ instances.old.items ++ tabulate (columns_of (organization plan.now))
+        (row_bit (bit_cells roles.now (organization plan.now) contents.entry) row)) }
 {
     for column in 0..plan.columns {
         let nodes = [

@@ -19,7 +19,8 @@ use std::alloc::Global;
 /// The subcircuit of the macro: the logic row and the banks.
 pub fn macro_subckt(alloc: Global, plan: &Plan, name: &Name) -> Result<Subckt, Memory>
     requires { ArePlanNumbers (numbers_of plan.now) }
-    ensures { IfOk result (λ s. s ≡ made_subckt name.now (top_ports (organization plan.now)) (top_instances (organization plan.now) name.now)) }
+    ensures { IfOk result (λ s. s ≡ made_subckt name.now (top_ports (organization plan.now))
+        (top_instances (organization plan.now) name.now)) }
 {
     let groups = groups_of(alloc, plan)?;
     let ports = macro_port_list(alloc, plan)?;
@@ -107,7 +108,8 @@ fn add_banks(
 ) -> Result<(), Memory>
     requires numbers { ArePlanNumbers (numbers_of plan.now) }
     requires groups { groups.now ≡ (organization plan.now).groups }
-    ensures { OnOk result (instances.new.items ≡ instances.old.items ++ tabulate (banks_of (organization plan.now)) (top_bank (organization plan.now) name.now)) }
+    ensures { OnOk result (instances.new.items ≡ instances.old.items ++ tabulate (banks_of (organization plan.now))
+        (top_bank (organization plan.now) name.now)) }
 {
     for bank in 0..plan.banks {
         instances.push(bank_instance(alloc, plan, groups, name, bank)?)?;

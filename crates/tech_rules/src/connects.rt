@@ -40,7 +40,8 @@ fn connects_in(
     tables: &[Value],
 ) -> Result<Items<Connect>, TechFault>
     requires { length layers.now ≤ 64 }
-    ensures { MatchesUnless Memory result (in_turn (connect_of layers.now (section_of tech_faults document.now)) [] (map view tables.now)) }
+    ensures { MatchesUnless Memory result (in_turn (connect_of layers.now (section_of tech_faults document.now)) []
+        (map view tables.now)) }
 {
     let mut connects = Items::new(document.alloc());
     for table in tables {
@@ -58,7 +59,8 @@ fn connect_after(
     table: &Value,
 ) -> Result<Connect, TechFault>
     requires { length layers.now ≤ 64 }
-    ensures { MatchesUnless Memory result (connect_of layers.now (section_of tech_faults document.now) before.now (view table.now)) }
+    ensures { MatchesUnless Memory result (connect_of layers.now (section_of tech_faults document.now) before.now
+        (view table.now)) }
 {
     let keys = document.item("connect", before.len(), table)?;
     connect_from(&keys, layers)

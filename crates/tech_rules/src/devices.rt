@@ -39,7 +39,8 @@ fn devices_in(
     tables: &[Value],
 ) -> Result<Items<Device>, TechFault>
     requires { length layers.now ≤ 64 }
-    ensures { MatchesUnless Memory result (in_turn (device_of layers.now (section_of tech_faults document.now)) [] (map view tables.now)) }
+    ensures { MatchesUnless Memory result (in_turn (device_of layers.now (section_of tech_faults document.now)) []
+        (map view tables.now)) }
 {
     let mut devices = Items::new(document.alloc());
     for table in tables {
@@ -57,7 +58,8 @@ fn device_after(
     table: &Value,
 ) -> Result<Device, TechFault>
     requires { length layers.now ≤ 64 }
-    ensures { MatchesUnless Memory result (device_of layers.now (section_of tech_faults document.now) before.now (view table.now)) }
+    ensures { MatchesUnless Memory result (device_of layers.now (section_of tech_faults document.now) before.now
+        (view table.now)) }
 {
     let keys = document.item("device", before.len(), table)?;
     device_from(&keys, layers)
@@ -99,7 +101,8 @@ fn third_name<'a>(
     gate: &str,
     active: &str,
 ) -> Result<&'a str, TechFault>
-    ensures { ViewMatchesUnless Memory (λ t. t.now) result (third_name gate.now active.now (section_of tech_faults keys.now)) }
+    ensures { ViewMatchesUnless Memory (λ t. t.now) result
+        (third_name gate.now active.now (section_of tech_faults keys.now)) }
 {
     let by = keys.text("by")?;
     if are_three(gate, active, by) {

@@ -4,7 +4,9 @@ ghost use Rattle.std.specs.Prelude.{◌≡◌, ◌≤◌, ◌<◌, [], map, leng
 ghost use Rattle.std.specs.List.{list_all, list_any};
 ghost use Rattle.toml.specs.View.{view};
 ghost use Rattle.toml_keys.specs.Fault.{MatchesUnless, in_turn};
-ghost use Rattle.tech_rules.specs.Layers.{is_word_byte, is_word, is_named, name_under, short_in, pair_of, numbers_under, text_numbers, layer_of, layers_under, layer_index_of, layer_under, layer_indices_of};
+ghost use Rattle.tech_rules.specs.Layers.{is_word_byte, is_word, is_named, name_under, short_in, pair_of};
+ghost use Rattle.tech_rules.specs.Layers.{numbers_under, text_numbers, layer_of, layers_under, layer_index_of};
+ghost use Rattle.tech_rules.specs.Layers.{layer_under, layer_indices_of};
 ghost use Rattle.toml_keys.specs.Section.{section_of};
 
 use crate::fault::TechFault;
@@ -40,7 +42,8 @@ pub fn layers_from(document: &KeyTable<TechFault>) -> Result<Items<Layer>, TechF
 
 fn layers_in(document: &KeyTable<TechFault>, tables: &[Value]) -> Result<Items<Layer>, TechFault>
     requires { length tables.now ≤ 64 }
-    ensures given { MatchesUnless Memory result (in_turn (layer_of (section_of tech_faults document.now)) [] (map view tables.now)) }
+    ensures given { MatchesUnless Memory result (in_turn (layer_of (section_of tech_faults document.now)) []
+        (map view tables.now)) }
     ensures few { IfOk result (λ l. length l ≤ 64) }
 {
     let mut layers = Items::new(document.alloc());
@@ -159,7 +162,8 @@ pub fn index_at(
     name: &[u8],
 ) -> Result<u16, TechFault>
     requires { length layers.now ≤ 64 }
-    ensures { MatchesUnless Memory result (layer_index_of layers.now (section_of tech_faults keys.now) key.now name.now) }
+    ensures { MatchesUnless Memory result
+        (layer_index_of layers.now (section_of tech_faults keys.now) key.now name.now) }
 {
     match index_named(layers, name) {
         Some(index) => Ok(index),
@@ -195,7 +199,8 @@ pub fn indices_at(
 ) -> Result<Items<u16>, TechFault>
     requires { length layers.now ≤ 64 }
     ensures as_many { IfOk result (λ p. length p ≡ length names.now) }
-    ensures given { MatchesUnless Memory result (layer_indices_of layers.now (section_of tech_faults keys.now) key.now names.now) }
+    ensures given { MatchesUnless Memory result
+        (layer_indices_of layers.now (section_of tech_faults keys.now) key.now names.now) }
 {
     let mut indices = Items::new(keys.alloc());
     for name in names {

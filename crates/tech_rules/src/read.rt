@@ -24,10 +24,10 @@ use std::alloc::Global;
 use toml::Value;
 use toml_keys::{KeyTable, document_from};
 
-/// Reads a technology file, which is a TOML document. Its keys are looked at in a fixed order, and the first that isn't as
-/// it has to be is the fault: one that is missing, then one of another kind, then one that isn't allowed, then one that
-/// names a layer which isn't there. Lengths are whole nanometres. Keys that have no meaning here are passed over. Last, the
-/// rules and connections have to allow the wires.
+/// Reads a technology file, which is a TOML document. Its keys are looked at in a fixed order, and the first that isn't
+/// as it has to be is the fault: one that is missing, then one of another kind, then one that isn't allowed, then one
+/// that names a layer which isn't there. Lengths are whole nanometres. Keys that have no meaning here are passed over.
+/// Last, the rules and connections have to allow the wires.
 pub fn read_tech(alloc: Global, bytes: &[u8]) -> Result<Tech, TechFault>
     ensures read { IfOk result (λ t. technology bytes.now ≡ Ok t) }
     ensures fault { IfErr result (λ e. e ≢ tech_fault.Memory → technology bytes.now ≡ Err e) }

@@ -5,7 +5,8 @@ ghost use Rattle.std.specs.List.{list_all};
 ghost use Rattle.toml_keys.specs.Fault.{MatchesUnless, in_turn};
 ghost use Rattle.toml_keys.specs.Keys.{has_key};
 ghost use Rattle.toml_keys.specs.Section.{section_of};
-ghost use Rattle.tech_rules.specs.Roles.{role_names, roles_in, is_cell_byte, is_cell_name, role_cell, role_rows, cells_of, rows_of, roles_under, rows_under};
+ghost use Rattle.tech_rules.specs.Roles.{role_names, roles_in, is_cell_byte, is_cell_name, role_cell, role_rows};
+ghost use Rattle.tech_rules.specs.Roles.{cells_of, rows_of, roles_under, rows_under};
 
 use crate::fault::TechFault;
 use crate::tech::{RoleName, RoleRows};
@@ -15,7 +16,8 @@ use toml_keys::KeyTable;
 /// The greatest length of a leaf cell's name.
 const MAX_CELL_LENGTH: usize = 32;
 
-/// The roles of leaf cells, in the order in which a technology's are looked at. The last two are those of a read-only memory.
+/// The roles of leaf cells, in the order in which a technology's are looked at. The last two are those of a read-only
+/// memory.
 const ROLES: [&str; 16] = [
     "bitcell",
     "precharge",

@@ -9,8 +9,8 @@ use or_geom::{Memory, Rect, Shape};
 use std::error::Error;
 use std::fmt;
 
-/// A place where a wire joins a vertical rail: the rail's place, from 0, in the list of rails, the lower edge of the wire,
-/// and the x at which the wire ends on the right.
+/// A place where a wire joins a vertical rail: the rail's place, from 0, in the list of rails, the lower edge of the
+/// wire, and the x at which the wire ends on the right.
 #[derive(Clone, Copy, Debug)]
 pub struct Tap {
     pub rail: u32,
@@ -64,8 +64,8 @@ impl From<Memory> for RouteFault {
     }
 }
 
-/// The cut between two metals, in the middle of the square of a wire's width with its lower left corner at (`x`, `y`). The
-/// cut at place `cut`, from 0, joins the metal at that place and the next.
+/// The cut between two metals, in the middle of the square of a wire's width with its lower left corner at (`x`, `y`).
+/// The cut at place `cut`, from 0, joins the metal at that place and the next.
 pub fn via(wire: &Wire, cut: usize, x: i64, y: i64) -> Shape
     requires sizes { AreSizes wire.now }
     requires three { cut < length wire.now.cuts }

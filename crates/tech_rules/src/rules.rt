@@ -3,7 +3,8 @@ ghost use Rattle.tech_rules.specs.declared.fault.TechFault.TheVariants.{Memory};
 ghost use Rattle.std.specs.Prelude.{◌≤◌, [], map, codes, length};
 ghost use Rattle.toml.specs.View.{view};
 ghost use Rattle.toml_keys.specs.Fault.{MatchesUnless, in_turn};
-ghost use Rattle.tech_rules.specs.Rules.{minimum_under, layers_named, width_rule, space_rule, enclose_rule, rule_in, rule_of, rules_under};
+ghost use Rattle.tech_rules.specs.Rules.{minimum_under, layers_named, width_rule, space_rule, enclose_rule, rule_in};
+ghost use Rattle.tech_rules.specs.Rules.{rule_of, rules_under};
 ghost use Rattle.toml_keys.specs.Section.{section_of};
 
 use crate::fault::TechFault;
@@ -40,7 +41,8 @@ fn rules_in(
     tables: &[Value],
 ) -> Result<Items<Rule>, TechFault>
     requires { length layers.now ≤ 64 }
-    ensures { MatchesUnless Memory result (in_turn (rule_of layers.now (section_of tech_faults document.now)) [] (map view tables.now)) }
+    ensures { MatchesUnless Memory result (in_turn (rule_of layers.now (section_of tech_faults document.now)) []
+        (map view tables.now)) }
 {
     let mut rules = Items::new(document.alloc());
     for table in tables {
@@ -58,7 +60,8 @@ fn rule_after(
     table: &Value,
 ) -> Result<Rule, TechFault>
     requires { length layers.now ≤ 64 }
-    ensures { MatchesUnless Memory result (rule_of layers.now (section_of tech_faults document.now) before.now (view table.now)) }
+    ensures { MatchesUnless Memory result (rule_of layers.now (section_of tech_faults document.now) before.now
+        (view table.now)) }
 {
     let keys = document.item("rule", before.len(), table)?;
     rule_from(&keys, layers)

@@ -2,7 +2,9 @@ ghost use Rattle.std.specs.Prelude.{◌≡◌, ◌==◌, take, find, slice_get, 
 ghost use Rattle.std.specs.List.{list_any};
 ghost use Rattle.std.specs.Option.{ForSome};
 ghost use Rattle.tech_rules.specs.Facts.{AreSizes};
-ghost use Rattle.tech_rules.specs.WireRules.{cut_sizes, margin, forbids, encloses_beyond, joins, has_numbers, is_hidden, is_bad_metal, breaks_cut_rules, is_bad_cut, first_bad_cut, first_bad_index, bad_layer};
+ghost use Rattle.tech_rules.specs.WireRules.{cut_sizes, margin, forbids, encloses_beyond, joins, has_numbers};
+ghost use Rattle.tech_rules.specs.WireRules.{is_hidden, is_bad_metal, breaks_cut_rules, is_bad_cut, first_bad_cut};
+ghost use Rattle.tech_rules.specs.WireRules.{first_bad_index, bad_layer};
 
 use crate::tech::{Connect, Layer, Rule, Tech, Wire};
 
@@ -117,8 +119,8 @@ fn breaks_cut_rules(tech: &Tech, wire: &Wire, cut: u16) -> bool
         || are_enclosed_beyond(tech.rules.as_slice(), cut, wire)
 }
 
-/// The side of a cut, and the space to that of a neighbouring wire. Cuts stand as far apart as the wires, and further by
-/// what a wire is wider than a cut.
+/// The side of a cut, and the space to that of a neighbouring wire. Cuts stand as far apart as the wires, and further
+/// by what a wire is wider than a cut.
 fn cut_sizes(wire: &Wire) -> Sizes
     requires { AreSizes wire.now }
     ensures { result ≡ cut_sizes wire.now }
@@ -177,7 +179,8 @@ fn leads_to(indices: &[u16], index: u16) -> bool
     indices.iter().any(|to| *to == index)
 }
 
-/// Whether an earlier layer has the numbers of the layer at this index, so that this layer's own shapes count as those of the earlier.
+/// Whether an earlier layer has the numbers of the layer at this index, so that this layer's own shapes count as those
+/// of the earlier.
 fn is_hidden(layers: &[Layer], index: u16) -> bool
     ensures { result ≡ is_hidden layers.now index }
 {

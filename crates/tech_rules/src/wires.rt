@@ -97,7 +97,8 @@ fn new_names(
     taken: &[Name],
 ) -> Result<Items<Name>, TechFault>
     ensures as_many { IfOk result (λ n. length n ≡ count) }
-    ensures given { MatchesUnless Memory result (new_names count taken.now (section_of tech_faults section.now) key.now) }
+    ensures given { MatchesUnless Memory result
+        (new_names count taken.now (section_of tech_faults section.now) key.now) }
 {
     let names = section.texts(key)?;
     if names.as_slice().len() != count || !are_new(names.as_slice(), taken) {

@@ -60,8 +60,10 @@ fn report_by<G: Gate + Sync, R: Threads + Sync>(
         alloc,
         count,
         &|worker: usize| -> Result<Vec<Violation>, Memory>
-            requires { (worker < 256) × (0 < count) × IsTech tech.now × IsStrictlySortedBy shape_order bins.now × AreReachable bins.now × AreTiles bins.now tiles.now }
-            ensures { IfOk result (λ list. IsShare tech.entry.now.rules bins.entry.now tiles.entry.now count worker list.items) }
+            requires { (worker < 256) × (0 < count) × IsTech tech.now × IsStrictlySortedBy shape_order bins.now
+                × AreReachable bins.now × AreTiles bins.now tiles.now }
+            ensures { IfOk result (λ list. IsShare tech.entry.now.rules bins.entry.now tiles.entry.now count worker
+                list.items) }
         {
             gate.enter(worker as u8);
             share_of(alloc, tech, bins, tiles, worker, count)
@@ -70,8 +72,8 @@ fn report_by<G: Gate + Sync, R: Threads + Sync>(
     union_of(alloc, &lists)
 }
 
-/// What breaks the technology's rules: in the order of rules, first and second shapes, each once, whatever the number of
-/// workers, which is 1 to 64. Coordinates are in nanometres.
+/// What breaks the technology's rules: in the order of rules, first and second shapes, each once, whatever the number
+/// of workers, which is 1 to 64. Coordinates are in nanometres.
 ///
 /// `Memory`: no list could be made.
 pub fn check_all<G: Gate + Sync, R: Threads + Sync>(

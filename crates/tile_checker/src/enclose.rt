@@ -51,7 +51,8 @@ pub fn add_encloses(
 ) -> Result<(), Memory>
     requires reach { AreReachable bins.now }
     requires at { IsAt bins.now first }
-    ensures { OnOk result (Adds out.old.items out.new.items (IsFrom number (kind.Enclose layer by.now min.value) bins.now first)) }
+    ensures { OnOk result (Adds out.old.items out.new.items
+        (IsFrom number (kind.Enclose layer by.now min.value) bins.now first)) }
 {
     if first.shape.layer != layer {
         return Ok(());

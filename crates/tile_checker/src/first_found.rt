@@ -84,8 +84,10 @@ fn first_by<G: Gate + Sync, R: Threads + Sync>(
         alloc,
         count,
         &|worker: usize| -> Result<Option<Violation>, Memory>
-            requires { (worker < 256) × (0 < count) × IsTech tech.now × IsStrictlySortedBy shape_order bins.now × AreReachable bins.now × AreTiles bins.now tiles.now }
-            ensures { IfOk result (IsEarliestOf (IsOwn tech.entry.now.rules bins.entry.now tiles.entry.now count worker)) }
+            requires { (worker < 256) × (0 < count) × IsTech tech.now × IsStrictlySortedBy shape_order bins.now
+                × AreReachable bins.now × AreTiles bins.now tiles.now }
+            ensures { IfOk result (IsEarliestOf
+                (IsOwn tech.entry.now.rules bins.entry.now tiles.entry.now count worker)) }
         {
             gate.enter(worker as u8);
             first_of_share(alloc, tech, bins, tiles, worker, count)
@@ -95,8 +97,8 @@ fn first_by<G: Gate + Sync, R: Threads + Sync>(
 }
 
 /// The first entry of the report that `check_all` gives, none exactly where the report is empty, whatever the number of
-/// workers, which is 1 to 64. Of all violations each worker keeps one alone, and what comes after it isn't looked for, so
-/// this needs no memory for the report. Coordinates are in nanometres.
+/// workers, which is 1 to 64. Of all violations each worker keeps one alone, and what comes after it isn't looked for,
+/// so this needs no memory for the report. Coordinates are in nanometres.
 ///
 /// `Memory`: no list could be made.
 pub fn first_violation<G: Gate + Sync, R: Threads + Sync>(

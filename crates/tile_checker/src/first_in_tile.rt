@@ -19,8 +19,8 @@ use shape_bins::Bins;
 use std::alloc::Global;
 use tech_rules::Rule;
 
-/// What a worker uses again from look to look: lists, of which `found` has what one first shape breaks, and what the last
-/// shape showed of the next ones.
+/// What a worker uses again from look to look: lists, of which `found` has what one first shape breaks, and what the
+/// last shape showed of the next ones.
 #[derive(Drop)]
 pub struct Notes {
     pub alloc: Global,
@@ -43,8 +43,8 @@ impl Notes {
     }
 }
 
-/// The first of what is kept and of what breaks the rule, has this first shape, and is owned by the tile. A shape that has
-/// only later violations isn't looked at.
+/// The first of what is kept and of what breaks the rule, has this first shape, and is owned by the tile. A shape that
+/// has only later violations isn't looked at.
 fn first_of_shape(
     bins: &Bins,
     number: u32,

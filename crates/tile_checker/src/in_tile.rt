@@ -78,7 +78,8 @@ fn add_own_widths(
     requires at { IsAt bins.now first }
     requires seen { IsSeen bins.now seen.old }
     ensures seen { IsSeen bins.now seen.new }
-    ensures adds { OnOk result (Adds out.old.items out.new.items (IsFromIn number (kind.Width layer min.value) bins.now tile first)) }
+    ensures adds { OnOk result (Adds out.old.items out.new.items
+        (IsFromIn number (kind.Width layer min.value) bins.now tile first)) }
 {
     if !has_corner(tile, first.shape.rect) {
         return Ok(());
@@ -99,7 +100,8 @@ fn add_own_encloses(
 ) -> Result<(), Memory>
     requires reach { AreReachable bins.now }
     requires at { IsAt bins.now first }
-    ensures { OnOk result (Adds out.old.items out.new.items (IsFromIn number (kind.Enclose layer by.now min.value) bins.now tile first)) }
+    ensures { OnOk result (Adds out.old.items out.new.items
+        (IsFromIn number (kind.Enclose layer by.now min.value) bins.now tile first)) }
 {
     if !has_corner(tile, first.shape.rect) {
         return Ok(());
@@ -167,7 +169,8 @@ fn add_of_firsts(
     requires firsts { ArePlaces bins.now firsts.now }
     requires seen { IsSeen bins.now seen.old }
     ensures seen { IsSeen bins.now seen.new }
-    ensures adds { OnOk result (Adds out.old.items out.new.items (SomeGives (IsFromPlace number rule.now bins.now tile) firsts.now)) }
+    ensures adds { OnOk result (Adds out.old.items out.new.items
+        (SomeGives (IsFromPlace number rule.now bins.now tile) firsts.now)) }
 {
     let shapes = bins.shapes();
     for place in firsts {

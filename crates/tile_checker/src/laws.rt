@@ -12,8 +12,8 @@ pub fn reports_are_unique()
     ensures { ReportsAreUnique }
 {}
 
-/// A law for readers: rules and shapes have a report, if the rules' minimums and the shapes' coordinates are ones that files
-/// may give.
+/// A law for readers: rules and shapes have a report, if the rules' minimums and the shapes' coordinates are ones that
+/// files may give.
 pub fn reports_are_there()
     ensures { ReportsAreThere }
 {}

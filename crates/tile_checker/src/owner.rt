@@ -32,11 +32,12 @@ pub fn has_corner(tile: Rect, rect: Rect) -> bool
     has_cell(tile, rect.x1, rect.y1)
 }
 
-/// Whether the tile owns what two shapes break: it has the lower left corner of what the first, grown by the minimum, has
-/// in common with the second.
+/// Whether the tile owns what two shapes break: it has the lower left corner of what the first, grown by the minimum,
+/// has in common with the second.
 pub fn owns_pair(tile: Rect, min: Minimum, first: Shape, second: Shape) -> bool
     requires { IsReachable first.rect }
-    ensures { IsTrue result ↔ HasCell tile (corner min.value first (Some second)).x (corner min.value first (Some second)).y }
+    ensures { IsTrue result ↔ HasCell tile (corner min.value first (Some second)).x
+        (corner min.value first (Some second)).y }
 {
     let left = first.rect.x1 - min.value;
     let low = first.rect.y1 - min.value;

@@ -35,8 +35,8 @@ fn highest(strip: Strip, frame: Frame, x: i64) -> Point
     }
 }
 
-/// The strips to the right of the frame's high corner, one after another. The rows of each are those that all columns up to
-/// it have in common, and the last is the last in which a box has room.
+/// The strips to the right of the frame's high corner, one after another. The rows of each are those that all columns
+/// up to it have in common, and the last is the last in which a box has room.
 fn right_strips(
     alloc: Global,
     bins: &Bins,
@@ -46,7 +46,8 @@ fn right_strips(
 ) -> Result<Vec<Strip>, Memory>
     requires frame { HaveCell frame }
     requires hull { IsFrameHull frame hull }
-    ensures { IfOk result (λ strips. AreRights (rects_on layer bins.now) frame strips.items (frame.high.x +ℤ frame.width)) }
+    ensures { IfOk result (λ strips. AreRights (rects_on layer bins.now) frame strips.items
+        (frame.high.x +ℤ frame.width)) }
 {
     let mut strips = Vec::new(alloc);
     let mut window = Strip {
@@ -95,7 +96,8 @@ fn strips_below<'s>(
     kept
 }
 
-/// A covered box of the frame that stands at the window's left side, where the window reaches to the frame's high corner.
+/// A covered box of the frame that stands at the window's left side, where the window reaches to the frame's high
+/// corner.
 fn box_at(_bins: &Bins, _layer: u16, frame: Frame, window: Strip, strips: &[Strip]) -> Option<Point>
     requires frame { HaveCell frame }
     requires left { frame.low.x ≤ℤ window.left }
@@ -103,7 +105,8 @@ fn box_at(_bins: &Bins, _layer: u16, frame: Frame, window: Strip, strips: &[Stri
     requires window { IsWindow (rects_on _layer _bins.now) frame window.left frame.high.x window.bottom window.top }
     requires rights { AreRights (rects_on _layer _bins.now) frame strips.now (window.left +ℤ frame.width) }
     requires before { EndsBefore strips.now (window.left +ℤ frame.width) }
-    ensures { MatchOption result (NoBoxAt (rects_on _layer _bins.now) frame window.left) (HasBoxAt (rects_on _layer _bins.now) frame) }
+    ensures { MatchOption result (NoBoxAt (rects_on _layer _bins.now) frame window.left)
+        (HasBoxAt (rects_on _layer _bins.now) frame) }
 {
     let Some((last, _rest)) = strips.split_last() else {
         return None;
@@ -118,8 +121,8 @@ fn box_at(_bins: &Bins, _layer: u16, frame: Frame, window: Strip, strips: &[Stri
     Some(highest(both, frame, window.left))
 }
 
-/// A box of the frame that the layer covers. Columns are looked at from the frame's high corner on, those to the right first:
-/// the further a box stands to the left, the fewer of these it has.
+/// A box of the frame that the layer covers. Columns are looked at from the frame's high corner on, those to the right
+/// first: the further a box stands to the left, the fewer of these it has.
 pub fn covered_box(
     alloc: Global,
     bins: &Bins,
@@ -129,7 +132,8 @@ pub fn covered_box(
 ) -> Result<Option<Point>, Memory>
     requires frame { HaveCell frame }
     requires hull { IsFrameHull frame hull }
-    ensures { IfOk result (λ found. MatchOption found ((corner : Corner) → HasBoxAt (rects_on layer bins.now) frame corner → ⊥) (HasBoxAt (rects_on layer bins.now) frame)) }
+    ensures { IfOk result (λ found. MatchOption found ((corner : Corner)
+        → HasBoxAt (rects_on layer bins.now) frame corner → ⊥) (HasBoxAt (rects_on layer bins.now) frame)) }
 {
     let strips = right_strips(alloc, bins, layer, frame, hull)?;
     let mut kept = strips.as_slice();

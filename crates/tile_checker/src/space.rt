@@ -58,8 +58,8 @@ fn partner_of(rule: SpaceRule, layer: u16) -> Option<u16>
     None
 }
 
-/// Whether two shapes of the rule's layers break it. Two shapes of one layer don't where that layer covers the gap between
-/// them.
+/// Whether two shapes of the rule's layers break it. Two shapes of one layer don't where that layer covers the gap
+/// between them.
 fn breaks_space(bins: &Bins, rule: SpaceRule, a: Shape, b: Shape) -> bool
     requires on { AreOn rule a b }
     requires first { IsReachable a.rect }
@@ -111,7 +111,8 @@ fn add_pairs(
     requires reach { AreReachable bins.now }
     requires at { IsAt bins.now first }
     requires partners { ArePartners rule bins.now first.shape places.now }
-    ensures { OnOk result (Adds out.old.items out.new.items (SomeGives (IsPairAt rule bins.now tile first) places.now)) }
+    ensures { OnOk result (Adds out.old.items out.new.items
+        (SomeGives (IsPairAt rule bins.now tile first) places.now)) }
 {
     let shapes = bins.shapes();
     for place in places {
@@ -169,8 +170,8 @@ fn list_partners(
     bins.add_near(partner, area, near)
 }
 
-/// Adds the pairs of shapes that break the rule, whose first is this one and which the tile owns. `near` is a list to use
-/// again.
+/// Adds the pairs of shapes that break the rule, whose first is this one and which the tile owns. `near` is a list to
+/// use again.
 pub fn add_spaces(
     bins: &Bins,
     rule: SpaceRule,
@@ -182,7 +183,8 @@ pub fn add_spaces(
     requires rises { IsStrictlySortedBy shape_order bins.now }
     requires reach { AreReachable bins.now }
     requires at { IsAt bins.now first }
-    ensures { OnOk result (Adds out.old.items out.new.items (IsFromIn rule.number (kind.Space rule.layer rule.other rule.min.value) bins.now tile first)) }
+    ensures { OnOk result (Adds out.old.items out.new.items
+        (IsFromIn rule.number (kind.Space rule.layer rule.other rule.min.value) bins.now tile first)) }
 {
     let Some(partner) = partner_of(rule, first.shape.layer) else {
         return Ok(());

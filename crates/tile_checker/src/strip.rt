@@ -1,7 +1,8 @@
 ghost use Rattle.std.specs.Prelude.{◌≤ℤ◌, ◌<ℤ◌, ◌+ℤ◌};
 ghost use Rattle.or_geom.specs.Covered.{HasCell};
 ghost use Rattle.shape_bins.specs.Layers.{rects_on};
-ghost use Rattle.tile_checker.specs.Strips.{IsFrameHull, HaveCell, IsRaisedBy, IsLoweredBy, HasCommonRows, IsAlong, IsUpward, IsDownward, IsStripAt};
+ghost use Rattle.tile_checker.specs.Strips.{IsFrameHull, HaveCell, IsRaisedBy, IsLoweredBy, HasCommonRows, IsAlong};
+ghost use Rattle.tile_checker.specs.Strips.{IsUpward, IsDownward, IsStripAt};
 
 use crate::frame::Frame;
 use or_geom::{Point, Rect};
@@ -52,8 +53,8 @@ pub fn within(a: Strip, b: Strip) -> Strip
     }
 }
 
-/// What the layer covers from the cell up, as far as the cell's column goes, with the columns beside it that the same shapes
-/// cover.
+/// What the layer covers from the cell up, as far as the cell's column goes, with the columns beside it that the same
+/// shapes cover.
 fn upward(bins: &Bins, layer: u16, hull: Rect, cell: Point) -> Strip
     requires { HasCell hull cell.x cell.y }
     ensures { IsUpward (rects_on layer bins.now) hull cell result }
@@ -96,8 +97,8 @@ fn downward(bins: &Bins, layer: u16, hull: Rect, x: i64, above: Strip) -> Strip
     strip
 }
 
-/// What the layer covers at this column, up and down from the frame's high corner, with the columns beside it that the same
-/// shapes cover.
+/// What the layer covers at this column, up and down from the frame's high corner, with the columns beside it that the
+/// same shapes cover.
 pub fn strip_at(bins: &Bins, layer: u16, frame: Frame, hull: Rect, x: i64) -> Strip
     requires frame { HaveCell frame }
     requires hull { IsFrameHull frame hull }

@@ -7,8 +7,8 @@ use crate::extent::extent;
 use or_geom::{Memory, Rect, Shape};
 use std::alloc::Global;
 
-/// A tile is at least so many times as wide and tall as the shapes on an average. So few shapes lie in several tiles, and
-/// a wire that is as long as others crosses few.
+/// A tile is at least so many times as wide and tall as the shapes on an average. So few shapes lie in several tiles,
+/// and a wire that is as long as others crosses few.
 const MEAN_SIDES_PER_TILE: u64 = 64;
 
 /// On an average a tile has at least about so many shapes, also where the shapes lie far apart.
@@ -56,7 +56,8 @@ fn next_line(at: i64, side: i64, end: i64) -> i64
     end
 }
 
-/// Adds tiles with sides of this length, from the area's left side to its right, for the rows of cells from `low` to `high`.
+/// Adds tiles with sides of this length, from the area's left side to its right, for the rows of cells from `low` to
+/// `high`.
 fn add_row(area: Rect, low: i64, high: i64, side: i64, tiles: &mut Vec<Rect>) -> Result<(), Memory>
     requires reach { IsReachable area }
     requires side { IsSide side }

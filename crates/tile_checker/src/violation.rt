@@ -2,8 +2,8 @@ ghost use Rattle.std.specs.Prelude.{◌≡◌, slice_get};
 
 use or_geom::Shape;
 
-/// What breaks a rule: the rule's number, from 0, in the technology's list; the shape that breaks it; and for a space rule
-/// the second shape, which is the later one in the order of shapes. Violations are ordered by these three.
+/// What breaks a rule: the rule's number, from 0, in the technology's list; the shape that breaks it; and for a space
+/// rule the second shape, which is the later one in the order of shapes. Violations are ordered by these three.
 #[derive(Clone, Copy, Debug, PartialEq, Eq, PartialOrd, Ord)]
 pub struct Violation {
     pub rule: u32,

@@ -91,8 +91,8 @@ fn area_at(_bins: &Bins, layer: u16, frame: Frame, min: Minimum, corner: Point) 
     }
 }
 
-/// Whether some box covered by the layer contains the rectangle and has both sides at least the minimum. The last such box
-/// is kept in `seen`, since the next shapes often lie in it too.
+/// Whether some box covered by the layer contains the rectangle and has both sides at least the minimum. The last such
+/// box is kept in `seen`, since the next shapes often lie in it too.
 fn has_width(
     alloc: Global,
     bins: &Bins,
@@ -137,7 +137,8 @@ pub fn add_widths(
     requires at { IsAt bins.now first }
     requires seen { IsSeen bins.now seen.old }
     ensures seen { IsSeen bins.now seen.new }
-    ensures adds { OnOk result (Adds out.old.items out.new.items (IsFrom number (kind.Width layer min.value) bins.now first)) }
+    ensures adds { OnOk result (Adds out.old.items out.new.items
+        (IsFrom number (kind.Width layer min.value) bins.now first)) }
 {
     if first.shape.layer != layer {
         return Ok(());

@@ -3,8 +3,8 @@ ghost use Rattle.toml_keys.specs.Fault.{KeyFaults};
 
 use or_geom::Name;
 
-/// A fault of a file of keys. Its kinds are those that any such file has; a key is written with dots and, for the tables of
-/// an array, with indices from 0: `layer.2.gds`.
+/// A fault of a file of keys. Its kinds are those that any such file has; a key is written with dots and, for the
+/// tables of an array, with indices from 0: `layer.2.gds`.
 pub trait KeyFault: Drop {
     /// The faults of these kinds.
     ghost faults: { KeyFaults Self };

@@ -5,7 +5,10 @@ ghost use Rattle.toml.specs.View.{view};
 ghost use Rattle.toml_keys.specs.Fault.{ViewMatchesUnless, MatchesUnless, in_turn};
 ghost use Rattle.toml_keys.specs.Section.{section_of};
 ghost use Rattle.toml_keys.specs.Unknown.{unknown_key};
-ghost use Rattle.toml_keys.specs.Keys.{whole, key_in, missing, wrong_kind, out_of_range, has_key, value_under, text_under, number_under, array_under, array_of, text_in, texts_under, tables_under, optional_tables, is_table, is_integer, as_list, in_range, IsInRange, item_section, section_under, section_at};
+ghost use Rattle.toml_keys.specs.Keys.{whole, key_in, missing, wrong_kind, out_of_range, has_key, value_under};
+ghost use Rattle.toml_keys.specs.Keys.{text_under, number_under, array_under, array_of, text_in, texts_under};
+ghost use Rattle.toml_keys.specs.Keys.{tables_under, optional_tables, is_table, is_integer, as_list, in_range};
+ghost use Rattle.toml_keys.specs.Keys.{IsInRange, item_section, section_under, section_at};
 
 use crate::fault::KeyFault;
 use crate::unknown::first_unknown;
@@ -103,7 +106,8 @@ impl<'a, F: KeyFault> KeyTable<'a, F> {
 
     /// The value of a key that has to be there.
     pub fn value(&self, key: &str) -> Result<&'a Value, F>
-        ensures { ViewMatchesUnless F.faults.memory (λ v. view v.now) result (value_under (section_of F.faults self.now) key.now) }
+        ensures { ViewMatchesUnless F.faults.memory (λ v. view v.now) result
+            (value_under (section_of F.faults self.now) key.now) }
     {
         match self.table.get(key) {
             Some(value) => Ok(value),
@@ -113,7 +117,8 @@ impl<'a, F: KeyFault> KeyTable<'a, F> {
 
     /// A text.
     pub fn text(&self, key: &str) -> Result<&'a str, F>
-        ensures { ViewMatchesUnless F.faults.memory (λ t. t.now) result (text_under (section_of F.faults self.now) key.now) }
+        ensures { ViewMatchesUnless F.faults.memory (λ t. t.now) result
+            (text_under (section_of F.faults self.now) key.now) }
     {
         let value = self.value(key)?;
         match value.as_str() {
@@ -124,7 +129,8 @@ impl<'a, F: KeyFault> KeyTable<'a, F> {
 
     /// A whole number from `low` to `high`.
     pub fn number(&self, key: &str, low: i64, high: i64) -> Result<i64, F>
-        ensures given { MatchesUnless F.faults.memory result (number_under low high (section_of F.faults self.now) key.now) }
+        ensures given { MatchesUnless F.faults.memory result
+            (number_under low high (section_of F.faults self.now) key.now) }
         ensures range { IfOk result (IsInRange low high) }
     {
         let value = self.value(key)?;
@@ -139,7 +145,8 @@ impl<'a, F: KeyFault> KeyTable<'a, F> {
 
     /// An array of anything.
     pub fn array(&self, key: &str) -> Result<&'a [Value], F>
-        ensures { ViewMatchesUnless F.faults.memory (λ t. map view t.now) result (array_under (section_of F.faults self.now) key.now) }
+        ensures { ViewMatchesUnless F.faults.memory (λ t. map view t.now) result
+            (array_under (section_of F.faults self.now) key.now) }
     {
         let value = self.value(key)?;
         match list_in(value) {
@@ -151,7 +158,8 @@ impl<'a, F: KeyFault> KeyTable<'a, F> {
     /// An array of whole numbers.
     #[tactic(auto, using(crate::proofs::DocumentLaws::of_views))]
     pub fn numbers(&self, key: &str) -> Result<&'a [Value], F>
-        ensures { ViewMatchesUnless F.faults.memory (λ t. map view t.now) result (array_of is_integer (section_of F.faults self.now) key.now) }
+        ensures { ViewMatchesUnless F.faults.memory (λ t. map view t.now) result
+            (array_of is_integer (section_of F.faults self.now) key.now) }
     {
         let items = self.array(key)?;
         if are_numbers(items) {
@@ -164,7 +172,8 @@ impl<'a, F: KeyFault> KeyTable<'a, F> {
     #[tactic(auto, using(crate::proofs::DocumentLaws::of_views))]
     pub fn tables(&self, key: &str, low: usize, high: usize) -> Result<&'a [Value], F>
         ensures few { IfOk result (λ t. length t.now ≤ high) }
-        ensures given { ViewMatchesUnless F.faults.memory (λ t. map view t.now) result (tables_under low high (section_of F.faults self.now) key.now) }
+        ensures given { ViewMatchesUnless F.faults.memory (λ t. map view t.now) result
+            (tables_under low high (section_of F.faults self.now) key.now) }
     {
         let items = self.array(key)?;
         if !are_tables(items) {
@@ -180,7 +189,8 @@ impl<'a, F: KeyFault> KeyTable<'a, F> {
     #[tactic(auto, using(crate::proofs::DocumentLaws::of_views))]
     pub fn optional_tables(&self, key: &str, high: usize) -> Result<&'a [Value], F>
         ensures few { IfOk result (λ t. length t.now ≤ high) }
-        ensures given { ViewMatchesUnless F.faults.memory (λ t. map view t.now) result (optional_tables high (section_of F.faults self.now) key.now) }
+        ensures given { ViewMatchesUnless F.faults.memory (λ t. map view t.now) result
+            (optional_tables high (section_of F.faults self.now) key.now) }
     {
         if self.has(key) {
             return self.tables(key, 0, high);
@@ -195,7 +205,8 @@ impl<'a, F: KeyFault> KeyTable<'a, F> {
         index: usize,
         table: &'a Value,
     ) -> Result<KeyTable<'a, F>, Memory>
-        ensures { IfOk result (λ t. section_of F.faults t ≡ item_section (section_of F.faults self.now) array.now index (view table.now)) }
+        ensures { IfOk result (λ t. section_of F.faults t ≡ item_section (section_of F.faults self.now) array.now index
+            (view table.now)) }
     {
         let path = self.path.as_str();
         let path = format!(in self.alloc; "{path}{array}.{index}.")?;
@@ -204,7 +215,8 @@ impl<'a, F: KeyFault> KeyTable<'a, F> {
 
     /// A table that stands under a key.
     pub fn section(&self, key: &str) -> Result<KeyTable<'a, F>, F>
-        ensures { ViewMatchesUnless F.faults.memory (section_of F.faults) result (section_under (section_of F.faults self.now) key.now) }
+        ensures { ViewMatchesUnless F.faults.memory (section_of F.faults) result
+            (section_under (section_of F.faults self.now) key.now) }
     {
         let table = self.value(key)?;
         if !table.is_table() {
@@ -214,7 +226,8 @@ impl<'a, F: KeyFault> KeyTable<'a, F> {
     }
 
     fn section_at(&self, key: &str, table: &'a Value) -> Result<KeyTable<'a, F>, Memory>
-        ensures { IfOk result (λ t. section_of F.faults t ≡ section_at (section_of F.faults self.now) key.now (view table.now)) }
+        ensures { IfOk result (λ t. section_of F.faults t ≡ section_at (section_of F.faults self.now) key.now
+            (view table.now)) }
     {
         let path = self.path.as_str();
         let path = format!(in self.alloc; "{path}{key}.")?;
@@ -222,7 +235,8 @@ impl<'a, F: KeyFault> KeyTable<'a, F> {
     }
 
     fn at(&self, path: String, table: &'a Value) -> KeyTable<'a, F>
-        ensures { section_of F.faults result ≡ record { path = string_bytes path; table = view table.now; faults = F.faults } }
+        ensures { section_of F.faults result
+            ≡ record { path = string_bytes path; table = view table.now; faults = F.faults } }
     {
         KeyTable {
             alloc: self.alloc,
@@ -241,7 +255,8 @@ impl<'a, F: KeyFault> KeyTable<'a, F> {
     }
 
     fn texts_in(&self, key: &str, items: &[Value]) -> Result<Items<Name>, F>
-        ensures { MatchesUnless F.faults.memory result (in_turn (λ _ d. text_in (section_of F.faults self.now) key.now d) [] (map view items.now)) }
+        ensures { MatchesUnless F.faults.memory result
+            (in_turn (λ _ d. text_in (section_of F.faults self.now) key.now d) [] (map view items.now)) }
     {
         let mut texts = Items::new(self.alloc);
         for item in items {
@@ -254,7 +269,8 @@ impl<'a, F: KeyFault> KeyTable<'a, F> {
     }
 
     fn text_in(&self, key: &str, item: &Value) -> Result<Name, F>
-        ensures { MatchesUnless F.faults.memory result (text_in (section_of F.faults self.now) key.now (view item.now)) }
+        ensures { MatchesUnless F.faults.memory result
+            (text_in (section_of F.faults self.now) key.now (view item.now)) }
     {
         match item.as_str() {
             Some(text) => Name::from_bytes(self.alloc, text.as_bytes()).map_err(

@@ -9,7 +9,8 @@ use toml::Table;
 
 /// The least key of the table, by its bytes, that is none of those that are known.
 pub fn first_unknown<'t>(table: &'t Table, known: &[&str]) -> Option<&'t str>
-    ensures { option_map (λ key. key.now) result ≡ least_of (filter (is_unknown (map (λ k. k.now) known.now)) (member_keys (table_view table.now))) }
+    ensures { option_map (λ key. key.now) result
+        ≡ least_of (filter (is_unknown (map (λ k. k.now) known.now)) (member_keys (table_view table.now))) }
 {
     // A table has its keys in the order of their bytes.
     for key in table.keys() {

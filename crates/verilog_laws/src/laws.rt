@@ -1,4 +1,5 @@
-ghost use Rattle.verilog_laws.specs.Laws.{CommandsStep, MemoriesAgree, MemoriesAnswer, MemoriesAreLegal, MemoriesRun, PowerUpKeeps, TextsAreMemories, TextsSpell};
+ghost use Rattle.verilog_laws.specs.Laws.{CommandsStep, MemoriesAgree, MemoriesAnswer, MemoriesAreLegal, MemoriesRun};
+ghost use Rattle.verilog_laws.specs.Laws.{PowerUpKeeps, TextsAreMemories, TextsSpell};
 
 /// A law for proofs: a memory's Verilog text spells one module, which is a memory.
 pub fn texts_are_memories()
@@ -30,8 +31,8 @@ pub fn memories_agree()
     ensures { MemoriesAgree }
 {}
 
-/// A law for readers: from any state of a memory's module, also one of which nothing is known, each command reads or writes
-/// the bits that are there.
+/// A law for readers: from any state of a memory's module, also one of which nothing is known, each command reads or
+/// writes the bits that are there.
 pub fn commands_step()
     ensures { CommandsStep }
 {}

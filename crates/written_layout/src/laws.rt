@@ -2,8 +2,8 @@ ghost use Rattle.written_layout.specs.SameFlat.{TurningKeepsFlat, WritingKeepsFl
 
 use gds_stream::libraries_are_unique;
 
-/// A writable library with its boundaries turned, as it is written, has the flat shapes and labels of the library itself,
-/// and the same fault where it has none.
+/// A writable library with its boundaries turned, as it is written, has the flat shapes and labels of the library
+/// itself, and the same fault where it has none.
 pub fn turning_keeps_flat()
     ensures { TurningKeepsFlat }
 {}
