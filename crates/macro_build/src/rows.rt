@@ -9,7 +9,7 @@ ghost use Rattle.macro_build.specs.Built.{all_subckts};
 
 use cell_roles::Role;
 use leaf_tables::Kit;
-use netlist::{Rows, joined};
+use netlist::{Rows, joined_decks};
 use or_geom::{Memory, Name};
 use port_lists::{Contents, cell_names, fixed_cell_of};
 use spice_netlist::{FlatFault, flat_rows};
@@ -31,7 +31,8 @@ fn leaf_names(alloc: Global, kit: &Kit, contents: Contents<'_>) -> Result<Vec<Na
     Ok(names)
 }
 
-/// The flat rows of the macro's netlist, behind the kit's subcircuits.
+/// The flat rows of the macro's netlist, whose subcircuits stand behind those of the kit, so that both together are
+/// whole.
 pub fn rows_of(
     alloc: Global,
     kit: &Kit,
@@ -47,7 +48,7 @@ pub fn rows_of(
 {
     // The call does nothing when the program runs: its contract is the law that no fault but want of memory comes.
     rows_equal_netlist();
-    let deck = joined(alloc, &kit.deck, &made.deck)?;
+    let deck = joined_decks(alloc, &kit.deck, &made.deck)?;
     let leaves = leaf_names(alloc, kit, contents)?;
     match flat_rows(alloc, &deck, name, &leaves) {
         Ok(rows) => Ok(rows),

@@ -61,9 +61,11 @@ fn add_copies(alloc: Global, subckts: &[Subckt], copies: &mut Vec<Subckt>) -> Re
     Ok(())
 }
 
-/// A deck of copies: the subcircuits of the first, and those of the second behind them. It stands for no bytes.
-pub fn joined(alloc: Global, first: &Deck, second: &Deck) -> Result<Deck, Memory>
-    ensures { IfOk result (λ deck. deck.subckts ≡ first.now.subckts ++ second.now.subckts) }
+/// A copy of two decks as one: the subcircuits of the first, and those of the second behind them. No text was read for
+/// it, so that `used` is 0.
+pub fn joined_decks(alloc: Global, first: &Deck, second: &Deck) -> Result<Deck, Memory>
+    ensures subckts { IfOk result (λ deck. deck.subckts ≡ first.now.subckts ++ second.now.subckts) }
+    ensures used { IfOk result (λ deck. deck.used ≡ 0) }
 {
     let mut subckts = Vec::new(alloc);
     add_copies(alloc, first.subckts.as_slice(), &mut subckts)?;

@@ -38,7 +38,7 @@ pub record IsJoint (a b joint : Filled) : Type 0 where
 abbrev pub IsFilledBy : List Shape → Filled → Type 0
 IsFilledBy shapes f = IsFilledBox shapes f.shape
 
--- boxes were added that the shapes fill, if they fill all of these
+-- what fills all of these and the boxes of before fills the boxes of now
 abbrev pub AddsBoxes : List Filled → List Shape → List Shape → Type 0
 AddsBoxes filled old new = (shapes : List Shape) → All (IsFilledBy shapes) filled → AreFilledBoxes shapes old → AreFilledBoxes shapes new
 

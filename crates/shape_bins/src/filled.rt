@@ -9,7 +9,7 @@ use or_geom::{Memory, Rect, Shape, around};
 use std::alloc::Global;
 
 /// So many shapes have to fill a box for it to be kept. Boxes of fewer save little.
-const MANY: u64 = 16;
+pub const MANY: u64 = 16;
 
 /// A box that shapes of its layer fill, and how many they are.
 #[derive(Clone, Copy)]
@@ -120,7 +120,7 @@ fn columns_of(alloc: Global, shapes: &[Shape]) -> Result<Vec<Filled>, Memory>
 }
 
 /// The boxes, joined in the same way.
-fn joined(alloc: Global, boxes: &[Filled]) -> Result<Vec<Filled>, Memory>
+fn join_neighbours(alloc: Global, boxes: &[Filled]) -> Result<Vec<Filled>, Memory>
     ensures { IfOk result (λ out. AreJoinedOf boxes.now out.items) }
 {
     let mut out = Vec::new(alloc);
@@ -143,14 +143,14 @@ fn all_filled(alloc: Global, shapes: &[Shape]) -> Result<Vec<Filled>, Memory>
         f.shape.rect.y2,
         f.shape.rect.x1,
     ));
-    let mut rows = joined(alloc, &columns)?;
+    let mut rows = join_neighbours(alloc, &columns)?;
     rows.sort_unstable_by_key(|f| (
         f.shape.layer,
         f.shape.rect.x1,
         f.shape.rect.x2,
         f.shape.rect.y1,
     ));
-    joined(alloc, &rows)
+    join_neighbours(alloc, &rows)
 }
 
 /// Adds the boxes that many shapes fill, at most so many in all.
@@ -171,7 +171,8 @@ fn add_many(filled: &[Filled], most: usize, boxes: &mut Vec<Shape, &Bump>) -> Re
     Ok(())
 }
 
-/// Boxes that many shapes fill together, layer by layer, in the arena.
+/// Boxes that many shapes fill together, in the arena: first those of `all_filled`, then those of `runs_of`. A row of
+/// shapes that stands alone is in both.
 pub fn filled_boxes<'b>(
     alloc: Global,
     bump: &'b Bump,

@@ -51,13 +51,19 @@ fn is_full(_given: &[Option<u32>], nodes: &[Node], full: &[bool], at: usize) -> 
     true
 }
 
+/// The shapes that are looked for: those of the layer that fit the query.
+#[derive(Clone, Copy)]
+struct Wanted {
+    layer: u16,
+    query: Query,
+}
+
 /// Looks at a node, and gives the number to its shape if it is a leaf that is looked for. Answers the next node to look
 /// at: that behind all below this one, where none of them can be looked for or all have numbers.
 fn step(
     nodes: &[Node],
     at: usize,
-    layer: u16,
-    query: Query,
+    wanted: Wanted,
     number: u32,
     full: &mut [bool],
     given: &mut [Option<u32>],
@@ -69,12 +75,12 @@ fn step(
     requires leaves { AreLeavesWithin nodes.now (length given.old) }
     requires full { AreFull nodes.now given.old full.old }
     ensures full { AreFull nodes.now given.new full.new }
-    ensures gives { IfOk result (λ next. IsStep nodes.now layer query number at next given.old given.new out.old.items
-        out.new.items) }
+    ensures gives { IfOk result (λ next. IsStep nodes.now wanted.layer wanted.query number at next given.old given.new
+        out.old.items out.new.items) }
 {
     let node = nodes[at];
     let behind = at + node.size;
-    if full[at] || !is_wanted(node, layer, query) {
+    if full[at] || !is_wanted(node, wanted.layer, wanted.query) {
         return Ok(behind);
     }
     if node.size == 1 {
@@ -106,10 +112,11 @@ pub fn give_all(
     ensures gives { OnOk result (GivesAll (SomeGives (IsLeafNear layer query) nodes.now) number given.old given.new
         out.old.items out.new.items) }
 {
+    let wanted = Wanted { layer, query };
     let mut at = 0;
     let end = nodes.len();
     while at < end {
-        at = step(nodes, at, layer, query, number, full, given, out)?;
+        at = step(nodes, at, wanted, number, full, given, out)?;
     }
     Ok(())
 }

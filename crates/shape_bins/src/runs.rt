@@ -2,12 +2,12 @@ ghost use Rattle.std.specs.Prelude.{◌≡◌, All, IfOk, IfSome, OnOk};
 ghost use Rattle.shape_bins.specs.Filled.{IsFilledBy};
 ghost use Rattle.shape_bins.specs.Runs.{IsLonger, KeepsRun, KeepsRuns, TakesLeft, GivesRun, AddsShape};
 
-use crate::filled::{Filled, both};
+use crate::filled::{Filled, MANY, both};
 use or_geom::{Memory, Shape};
 use std::alloc::Global;
 use std::collections::VecDeque;
 
-/// So many runs may grow at once, so that the memory is bounded also where one shape is as wide as all others together.
+/// So many runs may grow at once, so that memory stays small where no run ends before the last shape.
 const MOST_GROWING: usize = 65536;
 
 /// A run of shapes that abut from left to right, and where the last of them begins.
@@ -47,11 +47,11 @@ fn is_passed(run: Run, shape: Shape) -> bool {
     (end.layer, beside, end.rect.y1) < (shape.layer, rect.x1, rect.y1)
 }
 
-/// Keeps a run that no shape makes longer, if it has two shapes or more.
+/// Keeps a run that no shape makes longer, if it has many shapes.
 fn keep(run: Run, ended: &mut Vec<Filled>) -> Result<(), Memory>
     ensures { OnOk result (KeepsRun run ended.old.items ended.new.items) }
 {
-    if run.filled.count < 2 {
+    if run.filled.count < MANY {
         return Ok(());
     }
     Ok(ended.push(run.filled)?)
@@ -80,8 +80,8 @@ fn take_left(
     Ok(None)
 }
 
-/// The run that the shape ends. Two of the growing runs are looked at, so that the first of them keeps up with the
-/// shapes.
+/// The run that the shape ends. Where the first of the growing runs isn't it and grows no more, the next one is looked
+/// at too: so each shape can end two runs, and the list doesn't grow while shapes pass it.
 fn run_of(shape: Shape, growing: &mut VecDeque<Run>, ended: &mut Vec<Filled>) -> Result<Run, Memory>
     ensures { IfOk result (GivesRun shape growing.old.items ended.old.items growing.new.items ended.new.items) }
 {
@@ -132,8 +132,9 @@ fn close_all(growing: &mut VecDeque<Run>, ended: &mut Vec<Filled>) -> Result<(),
     Ok(())
 }
 
-/// Runs of two shapes or more that abut from left to right, where the shapes come in order. Not all are found: a run of
-/// shapes of different widths may be cut.
+/// Runs of many shapes that abut from left to right, where the shapes come in order. Not all are found: a run may be
+/// cut where its shapes, or others of its layer, differ in width. Only that the shapes fill what is listed is claimed,
+/// which an empty list meets too.
 pub fn runs_of(alloc: Global, shapes: &[Shape]) -> Result<Vec<Filled>, Memory>
     ensures { IfOk result (λ runs. All (IsFilledBy shapes.now) runs.items) }
 {

@@ -17,7 +17,7 @@ returns-in-Ok c =
     c.deref.ensures.value ∙ (c.in_ok-leaves.ensures ∙ ap (λ (roles : List Role). map (cell_in c.as_slice.result.now) roles) c.all.ensures) in
     let leaves : c.deref.result.now ≡ role_cells kit = base ∙ ap (λ (names : List RoleName). map (cell_in names) all_roles) c.as_slice.ensures in
     subst (λ (l : List (List ℕ)). AreFlatRows (subckts_with kit c.args.made.now) name l rows) leaves
-    (subst (λ (l : List Subckt). AreFlatRows l name c.deref.result.now rows) c.in_ok-deck.ensures c.in-Ok.ensures.rows)
+    (subst (λ (l : List Subckt). AreFlatRows l name c.deref.result.now rows) c.in_ok-deck.ensures.subckts c.in-Ok.ensures.rows)
 
 pub unreachable-requires : goal.unreachable-requires
 unreachable-requires c =
@@ -29,5 +29,5 @@ unreachable-requires c =
     let leaves : c.deref.result.now ≡ role_cells kit = base ∙ ap (λ (names : List RoleName). map (cell_in names) all_roles) c.as_slice.ensures in
     let is : IsFlatFault (subckts_with kit c.args.made.now) name (role_cells kit) fault =
     subst (λ (l : List (List ℕ)). IsFlatFault (subckts_with kit c.args.made.now) name l fault) leaves
-    (subst (λ (l : List Subckt). IsFlatFault l name c.deref.result.now fault) c.in_ok-deck.ensures c.in-Err.ensures.fault) in
+    (subst (λ (l : List Subckt). IsFlatFault l name c.deref.result.now fault) c.in_ok-deck.ensures.subckts c.in-Err.ensures.fault) in
     c.requires fault (λ e. c.in_default.not-Memory e) is

@@ -15,9 +15,9 @@ returns-then-full-at-clause-gives c =
     let there = slice_get_read c.args.nodes.now (length c.args.nodes.now) c.args.at c.index-nodes-at.result refl c.requires.inside c.index-nodes-at.is in
     elim c.then-full-at.branch [
       | then-full-at-via-then-full-at w ↦
-          full_step c.args.nodes.now c.args.layer c.args.query c.args.number c.args.at c.args.given.now c.args.out.now.items c.index-nodes-at.result c.requires.nodes there (c.requires.full.each c.args.at w.if-full-at.true)
+          full_step c.args.nodes.now c.args.wanted.layer c.args.wanted.query c.args.number c.args.at c.args.given.now c.args.out.now.items c.index-nodes-at.result c.requires.nodes there (c.requires.full.each c.args.at w.if-full-at.true)
       | then-full-at-via-else-full-at+then-not-is_wanted w ↦
-          passed_step c.args.nodes.now c.args.layer c.args.query c.args.number c.args.at c.args.given.now c.args.out.now.items c.index-nodes-at.result c.requires.nodes there
+          passed_step c.args.nodes.now c.args.wanted.layer c.args.wanted.query c.args.number c.args.at c.args.given.now c.args.out.now.items c.index-nodes-at.result c.requires.nodes there
           (λ near. let yes = w.is_wanted.ensures.1 near in let no = w.if-not-is_wanted.true in absurd cc)
     ]
 
@@ -39,7 +39,7 @@ returns-then-node-eq1-clause-full c =
 pub returns-then-node-eq1-clause-gives : goal.returns-then-node-eq1-clause-gives
 returns-then-node-eq1-clause-gives c =
     let there = slice_get_read c.args.nodes.now (length c.args.nodes.now) c.args.at c.index-nodes-at.result refl c.requires.inside c.index-nodes-at.is in
-    leaf_step c.args.nodes.now c.args.layer c.args.query c.args.number c.args.at c.args.given.now c.give_one.new.given c.args.out.now.items c.give_one.new.out.items c.index-nodes-at.result
+    leaf_step c.args.nodes.now c.args.wanted.layer c.args.wanted.query c.args.number c.args.at c.args.given.now c.give_one.new.given c.args.out.now.items c.give_one.new.out.items c.index-nodes-at.result
     c.requires.nodes there c.if-node-eq1.true (c.is_wanted.ensures.0 c.if-not-is_wanted.false) c.in_ok-give_one.ensures.gives
 
 pub returns-then-is_full-clause-full : goal.returns-then-is_full-clause-full
@@ -48,9 +48,9 @@ returns-then-is_full-clause-full c = full_set c.args.nodes.now c.args.given.now 
 pub returns-then-is_full-clause-gives : goal.returns-then-is_full-clause-gives
 returns-then-is_full-clause-gives c =
     let there = slice_get_read c.args.nodes.now (length c.args.nodes.now) c.args.at c.index-nodes-at.result refl c.requires.inside c.index-nodes-at.is in
-    full_step c.args.nodes.now c.args.layer c.args.query c.args.number c.args.at c.args.given.now c.args.out.now.items c.index-nodes-at.result c.requires.nodes there (c.is_full.ensures c.if-is_full.true)
+    full_step c.args.nodes.now c.args.wanted.layer c.args.wanted.query c.args.number c.args.at c.args.given.now c.args.out.now.items c.index-nodes-at.result c.requires.nodes there (c.is_full.ensures c.if-is_full.true)
 
 pub returns-clause-gives : goal.returns-clause-gives
 returns-clause-gives c =
     let there = slice_get_read c.args.nodes.now (length c.args.nodes.now) c.args.at c.index-nodes-at.result refl c.requires.inside c.index-nodes-at.is in
-    inner_step c.args.nodes.now c.args.layer c.args.query c.args.number c.args.at c.args.given.now c.args.out.now.items c.index-nodes-at.result there c.if-node-eq1.false
+    inner_step c.args.nodes.now c.args.wanted.layer c.args.wanted.query c.args.number c.args.at c.args.given.now c.args.out.now.items c.index-nodes-at.result there c.if-node-eq1.false
