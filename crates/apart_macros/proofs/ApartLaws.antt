@@ -38,8 +38,8 @@ use Rattle.macro_layout.specs.LayoutKit.{LayoutKit}
 use Rattle.macro_layout.specs.Places.{Floorplan}
 use Rattle.macro_layout.specs.Floorplan.{Tracks}
 use Rattle.macro_layout.specs.Layout.{Drawing, DrawsMacro, IsMacroOf}
-use Rattle.macro_cells.specs.LayoutOfKit.{layout_kit}
-use Rattle.macro_wires.specs.FloorplanNumbers.{floorplan_of}
+use Rattle.floorplan.specs.LayoutOfKit.{layout_kit}
+use Rattle.floorplan.specs.FloorplanNumbers.{floorplan_of}
 use Rattle.macro_bounds.proofs.CompleteLaws.{flat_cells_are_complete}
 use Rattle.macro_bounds.proofs.LibraryLaws.{macro_libraries_are_macros}
 use Rattle.sram_macro.specs.declared.assembly.Macro.{Macro}

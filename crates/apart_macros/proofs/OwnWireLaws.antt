@@ -15,8 +15,8 @@ use Rattle.macro_layout.specs.Wires.{IsWireInMacro}
 use Rattle.macro_layout.specs.Stated.{IsWireOfCell}
 use Rattle.macro_layout.specs.Layout.{Drawing}
 use Rattle.macro_layout.proofs.MovedLaws.{main_channels_are_drawn}
-use Rattle.macro_cells.specs.LayoutOfKit.{layout_kit}
-use Rattle.macro_wires.specs.FloorplanNumbers.{floorplan_of}
+use Rattle.floorplan.specs.LayoutOfKit.{layout_kit}
+use Rattle.floorplan.specs.FloorplanNumbers.{floorplan_of}
 use Rattle.sram_macro.specs.declared.assembly.Macro.{Macro}
 use Rattle.sram_macro.specs.Macro.{AreWiresOf, layout_pins, IsMacro}
 use Rattle.sram_macro.proofs.MainChannelLaws.{main_wires}

@@ -19,7 +19,7 @@ use Rattle.sram_netlist.specs.Membership.{HasLeafInstance}
 use Rattle.sram_rows.proofs.LogicCells.{ports_sized}
 use Rattle.macro_layout.specs.Pins.{rail_nets, column_nets, main_nets}
 use Rattle.macro_layout.specs.Cells.{column_leaf}
-use Rattle.macro_cells.specs.Demanded.{metal_number, same_metal, asks_for, IsDemandOf}
+use Rattle.floorplan.specs.Demanded.{metal_number, same_metal, asks_for, IsDemandOf}
 use Rattle.main_channel.proofs.PortLaws.{which_port, logic_demand}
 use Rattle.main_channel.proofs.NetLaws.{not_vdd, not_gnd}
 use Rattle.port_data.proofs.NetLaws.{column_net, is_among, is_behind, among, among_muxed}

@@ -19,8 +19,8 @@ use Rattle.leaf_tables.specs.declared.kit.Leaf.{Leaf}
 use Rattle.leaf_tables.specs.Alignment.{role_number, leaf_in}
 use Rattle.leaf_tables.specs.Kits.{IsKit}
 use Rattle.leaf_tables.proofs.RoleLaws.{role_there, four_metals, in_kit}
-use Rattle.macro_cells.specs.LayoutOfKit.{pin_shape, pin_on, shape_on, layer_of_metal}
-use Rattle.macro_cells.specs.Demanded.{metal_number}
+use Rattle.floorplan.specs.LayoutOfKit.{pin_shape, pin_on, shape_on, layer_of_metal}
+use Rattle.floorplan.specs.Demanded.{metal_number}
 use Rattle.asked_pins.specs.Demanded.{IsDemandedPort, HasPortShape}
 
 -- where one passes, a first one is found

@@ -25,7 +25,7 @@ use Rattle.macro_layout.specs.Channels.{IsPinFrom, Numbered, ArePins, MeetsColum
 use Rattle.macro_layout.specs.Wires.{IsPinTap, IsTapOfNet, IsTapAt, IsTapWire, IsRailWire, IsOutputWire, IsWireInBank, IsSupplyTrunk, IsBar, IsPowerBarAt, IsGroundBarAt, IsPowerWire, IsGroundWire, IsWireInMacro, IsTextAt, IsLabelInMacro, trunk_x}
 use Rattle.leaf_tables.specs.declared.kit.Kit.{Kit}
 use Rattle.leaf_tables.specs.Kits.{IsKit}
-use Rattle.macro_cells.specs.LayoutOfKit.{shape_or_square, layout_kit}
+use Rattle.floorplan.specs.LayoutOfKit.{shape_or_square, layout_kit}
 use Rattle.asked_pins.specs.Demanded.{IsDemandedPort}
 use Rattle.asked_pins.specs.Layouts.{PinShapes, AreAlikeWhereDemanded, with_pins, AreSameLayouts, rect_or, shapes_or}
 use Rattle.asked_pins.proofs.AskedLaws.{write_din, write_en, sense_dout, gate_asked, driver_asked, enable_asked, precharge_asked, column_asked, lines_asked, logic_asked}

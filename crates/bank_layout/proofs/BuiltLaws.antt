@@ -28,8 +28,8 @@ use Rattle.leaf_tables.specs.Kits.{IsKit}
 use Rattle.macro_layout.specs.Places.{Floorplan, bit_width}
 use Rattle.macro_layout.specs.Floorplan.{IsFloorplan, choice_count}
 use Rattle.macro_layout.specs.Cells.{pre_cell, precharge_at}
-use Rattle.macro_cells.specs.LeafSides.{side_of}
-use Rattle.macro_cells.specs.LayoutOfKit.{layout_kit}
+use Rattle.floorplan.specs.LeafSides.{side_of}
+use Rattle.floorplan.specs.LayoutOfKit.{layout_kit}
 use Rattle.macro_bounds.specs.Near.{IsCoordinate, IsChannelWithin, IsWireShape, RoutedShapesAreNear}
 use Rattle.leaf_tables.proofs.RoleLaws.{near_in_kit}
 use Rattle.port_data.specs.Column as column

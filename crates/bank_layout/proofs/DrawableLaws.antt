@@ -19,8 +19,8 @@ use Rattle.sram_netlist.specs.InstanceList.{tabulate}
 use Rattle.leaf_shapes.specs.Outline.{IsWireLayer}
 use Rattle.macro_layout.specs.Floorplan.{rail_x}
 use Rattle.macro_layout.specs.Stated.{IsShifted}
-use Rattle.macro_wires.specs.FloorplanNumbers.{IsUpTo}
-use Rattle.macro_wires.specs.Lowered.{IsLowered}
+use Rattle.floorplan.specs.FloorplanNumbers.{IsUpTo}
+use Rattle.floorplan.specs.Lowered.{IsLowered}
 use Rattle.leaf_tables.proofs.RoleLaws.{layer_at}
 use Rattle.bank_layout.specs.Near.{IsWireWithin, IsDrawableWire}
 use Rattle.bank_layout.specs.Outputs.{output_x, IsOutputBelow}

@@ -19,13 +19,13 @@ use Rattle.leaf_tables.specs.Kits.{IsKit}
 use Rattle.macro_layout.specs.Places.{bit_width}
 use Rattle.macro_layout.specs.Cells.{slice_x}
 use Rattle.macro_layout.specs.Floorplan.{line_count, choice_count, rail_count}
-use Rattle.macro_cells.specs.LayoutOfKit.{layout_kit}
-use Rattle.macro_wires.specs.declared.sides.LeafSides.{LeafSides}
-use Rattle.macro_wires.specs.declared.numbers.FloorplanNumbers.{FloorplanNumbers}
-use Rattle.macro_wires.specs.Sides.{AreLeafSides, AreSidesOf}
-use Rattle.macro_wires.specs.FloorplanNumbers.{floorplan_of, IsNearFloorplan}
-use Rattle.macro_cells.proofs.SideLaws.{height_is}
-use Rattle.macro_wires.proofs.CountLaws.{counted}
+use Rattle.floorplan.specs.LayoutOfKit.{layout_kit}
+use Rattle.floorplan.specs.declared.sides.LeafSides.{LeafSides}
+use Rattle.floorplan.specs.declared.numbers.FloorplanNumbers.{FloorplanNumbers}
+use Rattle.floorplan.specs.Sides.{AreLeafSides, AreSidesOf}
+use Rattle.floorplan.specs.FloorplanNumbers.{floorplan_of, IsNearFloorplan}
+use Rattle.floorplan.proofs.SideLaws.{height_is}
+use Rattle.floorplan.proofs.CountLaws.{counted}
 use Rattle.port_data.proofs.KitLaws.{leaf_exists}
 use Rattle.row_decoder.proofs.TapLaws.{few_in_group}
 use Rattle.bank_layout.specs.Near.{IsBankGiven}

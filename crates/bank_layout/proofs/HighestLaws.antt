@@ -31,7 +31,7 @@ use Rattle.leaf_tables.specs.Alignment.{leaf_in}
 use Rattle.leaf_tables.specs.Kits.{IsKit}
 use Rattle.macro_layout.specs.Places.{Floorplan, bit_height, upright, mirrored_at}
 use Rattle.macro_layout.specs.Floorplan.{line_count, choice_count, rail_count, upper_y}
-use Rattle.macro_cells.specs.LayoutOfKit.{layout_kit}
+use Rattle.floorplan.specs.LayoutOfKit.{layout_kit}
 use Rattle.row_decoder.specs.RowTaps.{lower_end, pin_tap, row_place, row_taps, input_taps, corner_at, AreTapsOfRows}
 use Rattle.part_edges.specs.PartPins.{ends_at}
 use Rattle.part_edges.proofs.PinLaws.{other_numbers}

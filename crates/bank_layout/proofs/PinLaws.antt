@@ -22,8 +22,8 @@ use Rattle.leaf_tables.specs.Kits.{IsKit, source_of}
 use Rattle.leaf_tables.specs.Leaves.{LeafSource, IsLeaf}
 use Rattle.leaf_tables.proofs.RoleLaws.{metal_listed, in_kit}
 use Rattle.sram_netlist.proofs.ChoiceLaws.{nat_same}
-use Rattle.macro_cells.specs.LayoutOfKit.{layout_kit, pin_on, shape_on, layer_of_metal, shape_or_square}
-use Rattle.macro_cells.proofs.DemandLaws.{wire_there}
+use Rattle.floorplan.specs.LayoutOfKit.{layout_kit, pin_on, shape_on, layer_of_metal, shape_or_square}
+use Rattle.floorplan.proofs.DemandLaws.{wire_there}
 use Rattle.bank_layout.specs.BankTaps.{IsInCell, IsLeafPin}
 
 -- the rectangle lies in the cell

@@ -24,7 +24,7 @@ use Rattle.sram_netlist.specs.Membership.{HasLeafInstance}
 use Rattle.macro_layout.specs.LayoutKit.{LayoutKit}
 use Rattle.macro_layout.specs.Places.{Floorplan, IsPlaceOf, upright, mirrored_at}
 use Rattle.macro_layout.specs.Wires.{IsPinTap}
-use Rattle.macro_cells.specs.LayoutOfKit.{layout_kit}
+use Rattle.floorplan.specs.LayoutOfKit.{layout_kit}
 use Rattle.row_decoder.specs.RowTaps.{lower_end, right_end}
 use Rattle.bank_layout.specs.BankTaps.{IsLeafPin}
 use Rattle.bank_layout.proofs.PinLaws.{IsFirstOf, kit_pin}

@@ -31,8 +31,8 @@ use Rattle.macro_layout.specs.Floorplan.{line_count, choice_count, rail_x}
 use Rattle.macro_layout.specs.Cells.{slice_x}
 use Rattle.macro_layout.specs.Pins.{rail_nets}
 use Rattle.macro_layout.specs.Wires.{IsPinTap, IsTapOfNet}
-use Rattle.macro_cells.specs.LeafSides.{side_of}
-use Rattle.macro_cells.specs.LayoutOfKit.{layout_kit}
+use Rattle.floorplan.specs.LeafSides.{side_of}
+use Rattle.floorplan.specs.LayoutOfKit.{layout_kit}
 use Rattle.port_data.specs.Column.{IsColumnRouted}
 use Rattle.row_decoder.specs.RowTaps.{RowLeaves, AreRowLeaves, AreTapsOfRows, lower_end, right_end, corner_at, pin_tap, row_place, input_taps, row_taps}
 use Rattle.leaf_tables.proofs.RoleLaws.{near_in_kit}

@@ -27,7 +27,7 @@ use Rattle.leaf_tables.specs.Kits.{IsKit}
 use Rattle.macro_layout.specs.Places.{Floorplan, columns_x, bit_width, upright}
 use Rattle.macro_layout.specs.Cells.{slice_x}
 use Rattle.macro_layout.specs.Floorplan.{line_count, choice_count, rail_count, rail_x}
-use Rattle.macro_cells.specs.LayoutOfKit.{layout_kit}
+use Rattle.floorplan.specs.LayoutOfKit.{layout_kit}
 use Rattle.row_decoder.specs.RowTaps.{AreTapsOfRows, corner_at, pin_tap, row_place, input_taps, row_taps}
 use Rattle.leaf_tables.proofs.RoleLaws.{near_in_kit, pins_in_kit}
 use Rattle.row_decoder.proofs.TapLaws.{enough_inputs}

@@ -30,10 +30,10 @@ use Rattle.macro_layout.specs.RailLists.{AreRailLists}
 use Rattle.macro_layout.specs.Stated.{IsShifted, IsWireOfCell}
 use Rattle.macro_layout.specs.Wires.{IsOutputWire}
 use Rattle.macro_layout.proofs.RailLaws.{rails_are_drawn}
-use Rattle.macro_cells.specs.LayoutOfKit.{layout_kit}
-use Rattle.macro_wires.specs.declared.sides.LeafSides.{LeafSides}
-use Rattle.macro_wires.specs.declared.numbers.FloorplanNumbers.{FloorplanNumbers}
-use Rattle.macro_wires.specs.FloorplanNumbers.{floorplan_of}
+use Rattle.floorplan.specs.LayoutOfKit.{layout_kit}
+use Rattle.floorplan.specs.declared.sides.LeafSides.{LeafSides}
+use Rattle.floorplan.specs.declared.numbers.FloorplanNumbers.{FloorplanNumbers}
+use Rattle.floorplan.specs.FloorplanNumbers.{floorplan_of}
 use Rattle.port_data.specs.Column.{IsColumnRouted}
 use Rattle.bank_layout.specs.Outputs.{output_x, IsOutputBelow}
 use Rattle.bank_layout.proofs.PinLaws.{kit_pin}

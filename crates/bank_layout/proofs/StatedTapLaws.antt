@@ -26,7 +26,7 @@ use Rattle.macro_layout.specs.Floorplan.{line_count, choice_count, rail_count, r
 use Rattle.macro_layout.specs.Pins.{choice_nets, rail_nets}
 use Rattle.macro_layout.specs.Wires.{IsPinTap, IsChoiceTap, IsTapOfNet, IsTapAt}
 use Rattle.macro_layout.specs.RailLists.{HasTap, AreRailLists}
-use Rattle.macro_cells.specs.LayoutOfKit.{layout_kit}
+use Rattle.floorplan.specs.LayoutOfKit.{layout_kit}
 use Rattle.row_decoder.specs.RowTaps.{AreTapsOfRows, corner_at, pin_tap, row_place, input_taps, row_taps}
 use Rattle.leaf_tables.proofs.RoleLaws.{pins_in_kit}
 use Rattle.row_decoder.proofs.TapLaws.{enough_inputs}

@@ -13,7 +13,7 @@ use Rattle.leaf_tables.specs.declared.part.Edge.{Edge}
 use Rattle.leaf_tables.specs.declared.part.Edges.{Edges}
 use Rattle.macro_layout.specs.Places.{Floorplan, columns_x, bit_width}
 use Rattle.macro_layout.specs.Floorplan.{line_count, rail_count, rail_x, upper_y}
-use Rattle.macro_cells.specs.LayoutOfKit.{layout_kit}
+use Rattle.floorplan.specs.LayoutOfKit.{layout_kit}
 use Rattle.part_edges.specs.declared.side.Side.TheVariants.{Upper}
 use Rattle.part_edges.specs.PartPins.{edge_at, edges_at, AreInOrder}
 use Rattle.bank_layout.specs.BankTaps.{IsLeafPin}

@@ -26,10 +26,10 @@ use Rattle.macro_layout.specs.LayoutKit.{LayoutKit}
 use Rattle.macro_layout.specs.Places.{Floorplan, columns_x, bit_width}
 use Rattle.macro_layout.specs.Floorplan.{IsFloorplan, rail_count, rail_x, upper_y}
 use Rattle.macro_layout.specs.Cells.{pre_cell, data_cell, bank_cell}
-use Rattle.macro_cells.specs.LayoutOfKit.{layout_kit}
+use Rattle.floorplan.specs.LayoutOfKit.{layout_kit}
 use Rattle.part_edges.specs.Additions.{with_subckt}
 use Rattle.part_edges.specs.PartPins.{PartPin, part_pins, AreEdgesOf}
-use Rattle.bitcell_array.specs.ArrayPart.{with_array_cells, with_array_subckts, array_pins}
+use Rattle.bitcell_array.specs.ArrayPart.{stored, with_array_cells, with_array_subckts, array_pins}
 use Rattle.port_data.specs.Column.{AreWideSlices, IsColumnOf}
 use Rattle.port_data.specs.DataPart.{data_part_subckt, data_pins, IsDataRefused}
 use Rattle.bank_layout.specs.Near.{IsDrawableWire}
@@ -40,7 +40,7 @@ use Rattle.bank_layout.specs.StatedWires.{AreWiresOfCell}
 -- The cells and the subcircuits of the array, of the precharge and of the data, and the bank's, stand behind those that were there,
 -- and nothing else is changed.
 abbrev pub with_bank_cells : Organization → LayoutKit → Floorplan → List ℕ → List Shape → CellList → CellList
-with_bank_cells plan kit floorplan n wires list = with_drawn (bank_cell plan kit floorplan n wires) (with_drawn (data_cell plan kit floorplan n) (with_array_cells plan kit n list))
+with_bank_cells plan kit floorplan n wires list = with_drawn (bank_cell plan kit floorplan n wires) (with_drawn (data_cell plan kit floorplan n) (with_array_cells plan kit (stored kit.cell) n list))
 
 abbrev pub bank_part_subckt : Organization → List ℕ → Subckt
 bank_part_subckt plan n = made_subckt (n ++ codes "_bank") (bank_ports plan) (bank_instances plan n)

@@ -23,7 +23,7 @@ use Rattle.macro_layout.specs.LayoutKit.{LayoutKit}
 use Rattle.macro_layout.specs.Places.{Floorplan, columns_x, bit_width, upright}
 use Rattle.macro_layout.specs.Cells.{slice_x}
 use Rattle.macro_layout.specs.Floorplan.{IsFloorplan, line_count, choice_count, rail_count, rail_x, column_channel_y}
-use Rattle.macro_cells.specs.LayoutOfKit.{layout_kit}
+use Rattle.floorplan.specs.LayoutOfKit.{layout_kit}
 use Rattle.row_decoder.specs.RowTaps.{corner_at, pin_tap, AreTapsOfRows}
 
 -- the rectangle lies in a cell with sides of at most 65,536

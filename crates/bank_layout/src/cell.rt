@@ -2,11 +2,11 @@ ghost use Rattle.std.specs.Prelude.{◌≡◌, ◌++◌, IfOk};
 ghost use Rattle.sram_netlist.specs.Organization.{Organization};
 ghost use Rattle.macro_layout.specs.LayoutKit.{LayoutKit};
 ghost use Rattle.macro_layout.specs.Cells.{bank_cell, part_at};
-ghost use Rattle.macro_wires.specs.Sides.{AreLeafSides, AreSidesOf};
-ghost use Rattle.macro_wires.specs.FloorplanNumbers.{floorplan_of, IsNearFloorplan};
+ghost use Rattle.floorplan.specs.Sides.{AreLeafSides, AreSidesOf};
+ghost use Rattle.floorplan.specs.FloorplanNumbers.{floorplan_of, IsNearFloorplan};
 
 use cell_builder::{DrawnCell, PlacedInstance};
-use macro_wires::{FloorplanNumbers, LeafSides, columns_x};
+use floorplan::{FloorplanNumbers, LeafSides, columns_x};
 use or_geom::{Items, Memory, Name, Orient, Place, Point, Shape};
 use port_lists::{Spelling, part_name, spell};
 use std::alloc::Global;

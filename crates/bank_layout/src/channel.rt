@@ -3,7 +3,7 @@ ghost use Rattle.or_geom.specs.declared.shape.Shape.{Shape};
 ghost use Rattle.or_geom.specs.Adds.{Adds};
 ghost use Rattle.or_geom.specs.Gathering.{SomeGives};
 ghost use Rattle.macro_layout.specs.Stated.{IsShifted};
-ghost use Rattle.macro_wires.specs.FloorplanNumbers.{IsUpTo};
+ghost use Rattle.floorplan.specs.FloorplanNumbers.{IsUpTo};
 ghost use Rattle.bank_layout.specs.Near.{AreCornersWithin};
 
 use or_geom::{Memory, Rect, Shape};

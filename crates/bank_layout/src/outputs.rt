@@ -5,7 +5,7 @@ ghost use Rattle.tech_rules.specs.Drawing.{IsBox};
 ghost use Rattle.sram_netlist.specs.Organization.{IsWritten, inputs_of, words_per_row};
 ghost use Rattle.sram_netlist.specs.Numbers.{ArePlanNumbers};
 ghost use Rattle.sram_plan.specs.PlanNumbers.{numbers_of, organization};
-ghost use Rattle.macro_wires.specs.FloorplanNumbers.{IsUpTo};
+ghost use Rattle.floorplan.specs.FloorplanNumbers.{IsUpTo};
 ghost use Rattle.bank_layout.specs.Outputs.{IsOutputBelow};
 
 use crate::numbers::{column_offset, first_column};

@@ -6,20 +6,19 @@ ghost use Rattle.port_lists.specs.Cells.{cell_in};
 ghost use Rattle.bank_layout.specs.BankPart.{with_bank_subckts, IsBankBuilt, IsBankPartRefused};
 
 use crate::cell::bank_cell;
-use crate::edges::bank_edges;
+use crate::edges::{BankFrame, bank_edges};
+use crate::subckt::bank_subckt;
 use crate::wires::bank_wires;
 use bitcell_array::build as build_array;
 use cell_builder::Cells;
+use floorplan::{floorplan, sides_of};
 use leaf_tables::{Edges, Kit, PartFault, wire_of};
 use macro_bounds::routed_shapes_are_near;
-use macro_cells::sides_of;
-use macro_wires::floorplan;
 use netlist::Deck;
 use or_geom::Name;
 use part_edges::add_part;
 use port_data::{add_data, channel, refuse_narrow_slices};
 use sram_plan::Plan;
-use sram_subckts::bank_subckt;
 use std::alloc::Global;
 
 /// Adds the cells and the subcircuits of a bank: those of its array, its precharge and its data, and its own. Answers
@@ -59,7 +58,11 @@ pub fn build(
     let data_edges = add_data(alloc, kit, plan, name, routed.tracks, cells, deck)?;
     let ports = subckt.ports.as_slice();
     let low = data_edges.bottom.as_slice();
-    let edges = bank_edges(alloc, kit, plan, name, &sides, &stands, ports, low)?;
+    let frame = BankFrame {
+        sides,
+        floorplan: stands,
+    };
+    let edges = bank_edges(alloc, kit, plan, name, &frame, ports, low)?;
     add_part(alloc, cell, subckt, cells, deck)?;
     Ok(edges)
 }

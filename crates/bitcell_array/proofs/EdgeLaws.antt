@@ -24,8 +24,8 @@ use Rattle.leaf_tables.specs.Leaves.{IsLeaf}
 use Rattle.leaf_tables.specs.Kits.{IsKit, source_of}
 use Rattle.port_lists.specs.Cells.{cell_in}
 use Rattle.macro_layout.specs.Places.{drive_width, bit_width, bit_height, in_row_at, upright, mirrored_at}
-use Rattle.macro_cells.specs.LeafSides.{side_of}
-use Rattle.macro_cells.specs.LayoutOfKit.{layout_kit}
+use Rattle.floorplan.specs.LeafSides.{side_of}
+use Rattle.floorplan.specs.LayoutOfKit.{layout_kit}
 use Rattle.leaf_tables.proofs.RoleLaws.{near_in_kit}
 use Rattle.part_edges.specs.PartPins.{PartPin, placed_pin, side_pins, edge_pins_of, edge_of, ends_at, begins_at, AreInOrder}
 use Rattle.part_edges.proofs.PinLaws.{pin_at, upright_pin, mirrored_pin, equal_numbers, other_numbers, both_pass, neither_passes, same_lists, no_lists, filter_lists, map_lists, only_last, only_first}

@@ -1,2 +1,3 @@
 mod SideLaws
 mod EdgeLaws
+pub mod RowLaws

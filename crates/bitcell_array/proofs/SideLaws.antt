@@ -5,8 +5,8 @@ use Rattle.sram_netlist.specs.Numbers.{PlanNumbers, ArePlanNumbers}
 use Rattle.sram_netlist.specs.Numbers.{organization_of}
 use Rattle.port_lists.proofs.NumberLaws.{columns_are, rows_are}
 use Rattle.macro_layout.specs.LayoutKit.{LayoutKit}
-use Rattle.macro_wires.specs.declared.sides.LeafSides.{LeafSides}
-use Rattle.macro_wires.specs.Sides.{AreSidesOf}
+use Rattle.floorplan.specs.declared.sides.LeafSides.{LeafSides}
+use Rattle.floorplan.specs.Sides.{AreSidesOf}
 use Rattle.bitcell_array.specs.ArrayPart.{array_width, array_height}
 
 pub few_product : (count side : ℕ) → count ≤ 256 → side ≤ 65536 → count * side ≤ 16777216

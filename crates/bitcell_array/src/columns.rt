@@ -7,14 +7,14 @@ ghost use Rattle.sram_netlist.specs.Numbers.{ArePlanNumbers};
 ghost use Rattle.sram_netlist.specs.Organization.{columns_of};
 ghost use Rattle.sram_plan.specs.PlanNumbers.{numbers_of, organization};
 ghost use Rattle.port_lists.specs.Spelled.{spelled};
-ghost use Rattle.macro_wires.specs.Sides.{AreLeafSides, AreSidesOf};
-ghost use Rattle.macro_cells.specs.LayoutOfKit.{layout_kit};
+ghost use Rattle.floorplan.specs.Sides.{AreLeafSides, AreSidesOf};
+ghost use Rattle.floorplan.specs.LayoutOfKit.{layout_kit};
 ghost use Rattle.part_edges.specs.PartPins.{edge_at};
 ghost use Rattle.bitcell_array.specs.Columns.{column_edges, AreColumnEdges};
 
 use cell_roles::Role;
+use floorplan::LeafSides;
 use leaf_tables::{Edge, Kit, LeafPin, leaf_of};
-use macro_wires::LeafSides;
 use or_geom::{Items, Memory};
 use part_edges::{edge_at, sorted_edges};
 use port_lists::{Spelling, spell};

@@ -8,7 +8,7 @@ use Rattle.sram_plan.specs.Plan.{row_groups}
 use Rattle.sram_plan.specs.PlanNumbers.{numbers_of, organization}
 use Rattle.leaf_tables.specs.declared.kit.Kit.{Kit}
 use Rattle.leaf_tables.specs.Kits.{IsKit}
-use Rattle.macro_cells.specs.LayoutOfKit.{layout_kit}
+use Rattle.floorplan.specs.LayoutOfKit.{layout_kit}
 use Rattle.port_data.specs.Column.{AreWideSlices}
 use Rattle.sram_macro.specs.declared.assembly.Macro.{Macro}
 use Rattle.sram_macro.specs.Macro.{IsMacro}

@@ -16,7 +16,7 @@ use Rattle.sram_deck.specs.Deck.{logic_cell, logic_instances}
 use Rattle.row_decoder.specs.declared.gate.LogicGate.{LogicGate}
 use Rattle.row_decoder.specs.Gates.{logic_gate}
 use Rattle.port_lists.proofs.TabulateLaws.{few_lines, some_lines, map_append}
-use Rattle.macro_cells.proofs.PlaceLaws.{few_powers}
+use Rattle.floorplan.proofs.PlaceLaws.{few_powers}
 use Rattle.macro_layout.specs.LayoutKit.{LayoutKit}
 use Rattle.macro_layout.specs.Places.{upright, total_width}
 use Rattle.macro_layout.specs.Cells.{leaf_in_cell, side_by_side}

@@ -12,7 +12,7 @@ use Rattle.port_lists.specs.Cells.{cell_in}
 use Rattle.macro_layout.specs.LayoutKit.{LayoutKit}
 use Rattle.macro_layout.specs.Places.{total_width}
 use Rattle.macro_layout.specs.Cells.{side_by_side}
-use Rattle.macro_cells.specs.LayoutOfKit.{layout_kit}
+use Rattle.floorplan.specs.LayoutOfKit.{layout_kit}
 use Rattle.part_edges.specs.PartPins.{PartPin, part_pins}
 use Rattle.control_logic.specs.declared.row.LogicRow.{LogicRow}
 

@@ -13,4 +13,4 @@ mod subckt;
 pub use cell::logic_row_cell;
 pub use part::build;
 pub use row::{LogicRow, logic_row, row_width};
-pub use subckt::logic_subckt;
+pub use subckt::{logic_port_list, logic_subckt};

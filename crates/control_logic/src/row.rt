@@ -7,15 +7,15 @@ ghost use Rattle.sram_plan.specs.PlanNumbers.{numbers_of, organization};
 ghost use Rattle.port_lists.specs.Cells.{cell_in};
 ghost use Rattle.row_decoder.specs.Gates.{logic_gate};
 ghost use Rattle.macro_layout.specs.Places.{total_width};
-ghost use Rattle.macro_cells.specs.LayoutOfKit.{layout_kit};
+ghost use Rattle.floorplan.specs.LayoutOfKit.{layout_kit};
 ghost use Rattle.control_logic.specs.LogicPart.{IsLogicRow, IsRowOfMemory};
 
 use crate::control::add_control;
 use crate::enables::{add_bank_choices, add_write_enable_gates};
 use crate::latches::{add_address, add_data_latches, add_mask_latches};
 use cell_roles::Role;
+use floorplan::leaf_width;
 use leaf_tables::Kit;
-use macro_cells::leaf_width;
 use netlist::Instance;
 use or_geom::Memory;
 use row_decoder::{LogicGate, gates as decoder_gates};

@@ -28,11 +28,11 @@ use Rattle.macro_layout.specs.Channels.{Numbered, MeetsColumnTop, MeetsColumnBot
 use Rattle.macro_layout.proofs.RoutingLaws.{below_length}
 use Rattle.macro_layout.proofs.MovedLaws.{main_channels_are_drawn}
 use Rattle.macro_layout.proofs.StatedLaws.{flat_lists_are_stated}
-use Rattle.macro_cells.specs.LayoutOfKit.{layout_kit}
-use Rattle.macro_cells.proofs.DemandLaws.{wire_there, seven_in_kit}
+use Rattle.floorplan.specs.LayoutOfKit.{layout_kit}
+use Rattle.floorplan.proofs.DemandLaws.{wire_there, seven_in_kit}
 use Rattle.macro_bounds.proofs.CompleteLaws.{flat_cells_are_complete}
 use Rattle.macro_bounds.proofs.LibraryLaws.{macro_libraries_are_macros}
-use Rattle.macro_wires.specs.FloorplanNumbers.{floorplan_of}
+use Rattle.floorplan.specs.FloorplanNumbers.{floorplan_of}
 use Rattle.port_data.specs.Column.{AreColumnPinsApart}
 use Rattle.port_data.specs.Pins.{column_channel, columns_in}
 use Rattle.port_data.proofs.MeetLaws.{top_line, top_choice, bottom_there}

@@ -25,10 +25,10 @@ use Rattle.leaf_tables.specs.Alignment.{leaf_in}
 use Rattle.leaf_tables.specs.Kits.{IsKit}
 use Rattle.leaf_tables.specs.Leaves.{size_of}
 use Rattle.macro_layout.specs.LayoutKit.{LayoutKit}
-use Rattle.macro_cells.specs.LayoutOfKit.{layout_kit, pin_shape}
-use Rattle.macro_cells.specs.LeafSides.{leaf_width, leaf_height}
-use Rattle.macro_cells.specs.Demanded.{IsDemandOf}
-use Rattle.macro_cells.proofs.DemandLaws.{seven_in_kit, pin_is}
+use Rattle.floorplan.specs.LayoutOfKit.{layout_kit, pin_shape}
+use Rattle.floorplan.specs.LeafSides.{leaf_width, leaf_height}
+use Rattle.floorplan.specs.Demanded.{IsDemandOf}
+use Rattle.floorplan.proofs.DemandLaws.{seven_in_kit, pin_is}
 use Rattle.view_cover.proofs.KitLaws.{kit_fits}
 use Rattle.view_cover.proofs.RoleLaws.{role_leaf, width_is, height_is, IsPinAt, demand_at, pin_inside, square_or, found_pin}
 use Rattle.good_wires.specs.Drawn.{PinsFit, HasUprightPins}

@@ -15,7 +15,7 @@ use Rattle.element_drawing.specs.OwnShapes.{layer_with_numbers}
 use Rattle.leaf_tables.specs.declared.kit.Kit.{Kit}
 use Rattle.leaf_tables.specs.Kits.{IsKit}
 use Rattle.leaf_tables.proofs.RoleLaws.{layer_at}
-use Rattle.macro_cells.proofs.DemandLaws.{wire_there}
+use Rattle.floorplan.proofs.DemandLaws.{wire_there}
 use Rattle.sram_netlist.specs.Organization.{Organization}
 use Rattle.port_lists.specs.Contents.{held_cells}
 use Rattle.port_lists.specs.Held.Held.{Stored}

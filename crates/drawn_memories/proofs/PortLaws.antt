@@ -14,8 +14,8 @@ use Rattle.leaf_shapes.specs.Demands.{draw, role_demands}
 use Rattle.leaf_tables.specs.declared.kit.Kit.{Kit}
 use Rattle.leaf_tables.specs.Kits.{IsKit}
 use Rattle.macro_layout.specs.LayoutKit.{LayoutKit}
-use Rattle.macro_cells.specs.LayoutOfKit.{layout_kit}
-use Rattle.macro_cells.specs.Demanded.{IsDemandOf}
+use Rattle.floorplan.specs.LayoutOfKit.{layout_kit}
+use Rattle.floorplan.specs.Demanded.{IsDemandOf}
 use Rattle.good_wires.specs.Kept.{IsAmong}
 use Rattle.drawn_memories.specs.Ports.{ports_below, ports_above, ports_over}
 use Rattle.drawn_memories.proofs.FitLaws.{pin_fits}

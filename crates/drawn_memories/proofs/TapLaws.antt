@@ -29,9 +29,9 @@ use Rattle.macro_layout.specs.Floorplan.{rail_count, rail_x}
 use Rattle.macro_layout.specs.Pins.{IsPin, IsRailOf}
 use Rattle.macro_layout.specs.RailLists.{AreRailLists}
 use Rattle.macro_layout.specs.Wires.{IsTapAt}
-use Rattle.macro_cells.specs.LayoutOfKit.{layout_kit}
+use Rattle.floorplan.specs.LayoutOfKit.{layout_kit}
 use Rattle.macro_bounds.proofs.NearLaws.{routed_shapes_are_near}
-use Rattle.macro_wires.specs.FloorplanNumbers.{floorplan_of}
+use Rattle.floorplan.specs.FloorplanNumbers.{floorplan_of}
 use Rattle.bank_layout.proofs.BuiltLaws.{column_near}
 use Rattle.bank_layout.proofs.GivenLaws.{site_of, wire_of_kit}
 use Rattle.bank_layout.proofs.RailListLaws.{IsTapSite}

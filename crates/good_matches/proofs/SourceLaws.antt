@@ -15,8 +15,8 @@ use Rattle.leaf_tables.specs.declared.kit.Kit.{Kit}
 use Rattle.leaf_tables.specs.Kits.{IsKit}
 use Rattle.port_lists.specs.Cells.{cell_in}
 use Rattle.macro_layout.specs.Places.{leaf_cell}
-use Rattle.macro_cells.specs.LayoutOfKit.{layout_kit}
-use Rattle.macro_cells.proofs.DemandLaws.{wire_there}
+use Rattle.floorplan.specs.LayoutOfKit.{layout_kit}
+use Rattle.floorplan.proofs.DemandLaws.{wire_there}
 use Rattle.kit_rules.specs.Reach.{IsOverhang, reach_with, greatest_minimum, minimum_of}
 use Rattle.kit_check.specs.Good.{IsGoodKit}
 use Rattle.kit_command.specs.Assembled.{IsAssembled}

@@ -26,8 +26,8 @@ use Rattle.port_lists.specs.Cells.{cell_in}
 use Rattle.port_lists.specs.Held.Held.{Stored}
 use Rattle.leaf_tables.specs.declared.kit.Kit.{Kit}
 use Rattle.leaf_tables.specs.Kits.{IsKit}
-use Rattle.macro_cells.specs.LayoutOfKit.{layout_kit}
-use Rattle.macro_cells.proofs.DemandLaws.{wire_there}
+use Rattle.floorplan.specs.LayoutOfKit.{layout_kit}
+use Rattle.floorplan.proofs.DemandLaws.{wire_there}
 use Rattle.sram_macro.specs.declared.assembly.Macro.{Macro}
 use Rattle.sram_macro.specs.Macro.{IsMacro}
 use Rattle.kit_rules.specs.Reach.{IsOverhang, IsShortReach, reach_with}

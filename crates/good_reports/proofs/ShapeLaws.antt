@@ -11,7 +11,7 @@ use Rattle.port_lists.specs.Cells.{cell_in}
 use Rattle.leaf_tables.specs.declared.kit.Kit.{Kit}
 use Rattle.leaf_tables.specs.Kits.{IsKit}
 use Rattle.kit_rules.specs.Reach.{IsOverhang}
-use Rattle.macro_cells.specs.LayoutOfKit.{layout_kit}
+use Rattle.floorplan.specs.LayoutOfKit.{layout_kit}
 use Rattle.good_places.proofs.StatedLaws.{stated_leaves_alone, stated_leaves_and_wires}
 use Rattle.good_windows.proofs.PassLaws.{shapes_pass_little, leaves_draw_inside}
 use Rattle.good_wires.specs.Kept.{IsAmong}

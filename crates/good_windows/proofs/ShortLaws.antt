@@ -14,8 +14,8 @@ use Rattle.leaf_tables.specs.declared.kit.Leaf.{Leaf}
 use Rattle.leaf_tables.specs.Kits.{IsKit}
 use Rattle.leaf_tables.specs.Alignment.{role_number, leaf_in}
 use Rattle.leaf_tables.proofs.RoleLaws.{role_below}
-use Rattle.macro_cells.specs.LeafSides.{leaf_width}
-use Rattle.macro_cells.proofs.SideLaws.{width_is}
+use Rattle.floorplan.specs.LeafSides.{leaf_width}
+use Rattle.floorplan.proofs.SideLaws.{width_is}
 use Rattle.kit_rules.specs.Reach.{IsOverhang, PassesOutline, minimum_of, greatest_minimum, passed_by, reach_with}
 use Rattle.good_windows.specs.Short.{GoodKitsAreShort}
 

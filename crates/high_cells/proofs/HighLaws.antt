@@ -35,9 +35,9 @@ use Rattle.leaf_tables.proofs.RoleLaws.{role_there, in_kit, role_below}
 use Rattle.leaf_nets.specs.Leaves.{HaveRightPins, HasRightPins}
 use Rattle.leaf_nets.specs.RightPins.{BindsForPin}
 use Rattle.macro_layout.specs.Floorplan.{column_role}
-use Rattle.macro_cells.specs.LeafSides.{leaf_height}
-use Rattle.macro_cells.proofs.DemandLaws.{wire_there}
-use Rattle.macro_cells.proofs.SideLaws.{height_is}
+use Rattle.floorplan.specs.LeafSides.{leaf_height}
+use Rattle.floorplan.proofs.DemandLaws.{wire_there}
+use Rattle.floorplan.proofs.SideLaws.{height_is}
 use Rattle.joined_nets.specs.Joints.{JoinsWires}
 use Rattle.joined_nets.proofs.WireNetLaws.{item_there, place_below}
 use Rattle.kit_nets.proofs.DemandLaws.{metal_conducts}

@@ -5,7 +5,7 @@ use Rattle.leaf_tables.specs.declared.kit.Kit.{Kit}
 use Rattle.leaf_tables.specs.Kits.{IsKit}
 use Rattle.leaf_nets.specs.Leaves.{HaveRightPins}
 use Rattle.sram_netlist.specs.Organization.{Organization}
-use Rattle.macro_cells.specs.LayoutOfKit.{layout_kit}
+use Rattle.floorplan.specs.LayoutOfKit.{layout_kit}
 use Rattle.wire_nets.specs.Named.{AreHighCells}
 
 abbrev pub CellsAreHigh : Type 0

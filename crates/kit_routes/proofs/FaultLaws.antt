@@ -27,9 +27,9 @@ use Rattle.leaf_tables.specs.Parts.{of_route}
 use Rattle.macro_layout.specs.LayoutKit.{LayoutKit}
 use Rattle.macro_layout.specs.Places.{Floorplan}
 use Rattle.macro_layout.specs.Floorplan.{IsFloorplan}
-use Rattle.macro_cells.specs.LayoutOfKit.{layout_kit}
-use Rattle.macro_cells.specs.LeafSides.{leaf_width}
-use Rattle.macro_wires.specs.FloorplanNumbers.{floorplan_of}
+use Rattle.floorplan.specs.LayoutOfKit.{layout_kit}
+use Rattle.floorplan.specs.LeafSides.{leaf_width}
+use Rattle.floorplan.specs.FloorplanNumbers.{floorplan_of}
 use Rattle.main_channel.specs.Formula.{main_channel, main_top, main_bottom}
 use Rattle.port_data.specs.Column.{AreWideSlices, IsNarrowFault, IsTooWide, IsColumnOf}
 use Rattle.port_data.specs.Pins.{column_channel}

@@ -15,7 +15,7 @@ use Rattle.leaf_tables.specs.declared.kit.Kit.{Kit}
 use Rattle.leaf_tables.specs.declared.part.PartFault.TheVariants as part_fault
 use Rattle.leaf_tables.specs.Kits.{IsKit}
 use Rattle.leaf_tables.specs.Parts.{of_route}
-use Rattle.macro_cells.specs.LayoutOfKit.{layout_kit}
+use Rattle.floorplan.specs.LayoutOfKit.{layout_kit}
 use Rattle.macro_layout.specs.Floorplan.{IsFloorplan}
 use Rattle.macro_layout.specs.Places.{Floorplan}
 use Rattle.channel_router.specs.declared.channel.Routed.{Routed}

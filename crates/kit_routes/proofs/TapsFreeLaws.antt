@@ -17,8 +17,8 @@ use Rattle.leaf_tables.specs.Kits.{IsKit}
 use Rattle.macro_layout.specs.LayoutKit.{LayoutKit}
 use Rattle.macro_layout.specs.Places.{Floorplan}
 use Rattle.macro_layout.specs.Floorplan.{Tracks, IsFloorplan, line_count, choice_count, write_height, column_role}
-use Rattle.macro_cells.specs.LayoutOfKit.{layout_kit}
-use Rattle.macro_cells.proofs.SideLaws.{height_is}
+use Rattle.floorplan.specs.LayoutOfKit.{layout_kit}
+use Rattle.floorplan.proofs.SideLaws.{height_is}
 use Rattle.port_data.specs.Column.{IsColumnOf, IsBankFloorplan}
 use Rattle.bank_layout.specs.BankTaps.{sense_tap, precharge_tap, choice_tap, channel_low, AreBankTaps, AreTapsClose}
 use Rattle.bank_layout.proofs.PinLaws.{inside_leaf}

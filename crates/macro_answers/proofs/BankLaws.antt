@@ -26,12 +26,12 @@ use Rattle.macro_layout.specs.Places.{Floorplan, bit_width, columns_x}
 use Rattle.macro_layout.specs.Floorplan.{rail_count, rail_x}
 use Rattle.macro_layout.specs.Stated.{IsShifted}
 use Rattle.macro_layout.specs.Wires.{IsCornerJoiner, IsWriteJoiner, columns_end}
-use Rattle.macro_cells.specs.LayoutOfKit.{layout_kit}
+use Rattle.floorplan.specs.LayoutOfKit.{layout_kit}
 use Rattle.macro_bounds.proofs.CountLaws.{inputs_few, tabulate_long}
-use Rattle.macro_wires.specs.declared.numbers.FloorplanNumbers.{FloorplanNumbers}
-use Rattle.macro_wires.specs.declared.sides.LeafSides.{LeafSides}
-use Rattle.macro_wires.specs.FloorplanNumbers.{IsUpTo, floorplan_of}
-use Rattle.macro_wires.specs.Lowered.{IsLowered}
+use Rattle.floorplan.specs.declared.numbers.FloorplanNumbers.{FloorplanNumbers}
+use Rattle.floorplan.specs.declared.sides.LeafSides.{LeafSides}
+use Rattle.floorplan.specs.FloorplanNumbers.{IsUpTo, floorplan_of}
+use Rattle.floorplan.specs.Lowered.{IsLowered}
 use Rattle.port_data.specs.Column.{IsColumnRouted}
 use Rattle.bank_layout.specs.BankTaps.{AreBankRails}
 use Rattle.bank_layout.specs.Near.{IsDrawableWire}

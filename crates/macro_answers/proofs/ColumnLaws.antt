@@ -17,7 +17,7 @@ use Rattle.leaf_tables.specs.declared.part.PartFault.TheVariants as part_fault
 use Rattle.tech_rules.specs.declared.route.RouteFault.TheVariants as route_fault
 use Rattle.leaf_tables.specs.Kits.{IsKit}
 use Rattle.macro_layout.specs.LayoutKit.{LayoutKit}
-use Rattle.macro_cells.specs.LayoutOfKit.{layout_kit}
+use Rattle.floorplan.specs.LayoutOfKit.{layout_kit}
 use Rattle.port_data.specs.Column.{AreWideSlices, IsColumnFault, IsColumnOf, IsNarrowFault, IsNearColumnRouted}
 use Rattle.port_data.specs.DataPart.{IsDataRefused}
 use Rattle.port_data.specs.Pins.{column_channel}

@@ -15,9 +15,9 @@ use Rattle.leaf_tables.specs.declared.part.PartFault.{PartFault}
 use Rattle.leaf_tables.specs.declared.part.PartFault.TheVariants as part_fault
 use Rattle.leaf_tables.specs.Kits.{IsKit}
 use Rattle.leaf_tables.specs.Parts.{of_route}
-use Rattle.macro_cells.specs.LayoutOfKit.{layout_kit}
+use Rattle.floorplan.specs.LayoutOfKit.{layout_kit}
 use Rattle.macro_bounds.proofs.NearLaws.{routed_shapes_are_near}
-use Rattle.macro_wires.specs.FloorplanNumbers.{floorplan_of}
+use Rattle.floorplan.specs.FloorplanNumbers.{floorplan_of}
 use Rattle.bank_layout.proofs.BuiltLaws.{column_near}
 use Rattle.bank_layout.proofs.GivenLaws.{AreGiven}
 use Rattle.bank_layout.specs.BankTaps.{AreTapsApart, IsBankFault}

@@ -31,15 +31,15 @@ use Rattle.port_lists.proofs.NumberLaws.{banks_are}
 use Rattle.leaf_tables.specs.declared.kit.Kit.{Kit}
 use Rattle.leaf_tables.specs.Kits.{IsKit}
 use Rattle.leaf_tables.specs.NearLeaf.{IsLeafLength}
-use Rattle.macro_cells.specs.LayoutOfKit.{layout_kit, pin_shape}
-use Rattle.macro_cells.specs.LeafSides.{leaf_width}
+use Rattle.floorplan.specs.LayoutOfKit.{layout_kit, pin_shape}
+use Rattle.floorplan.specs.LeafSides.{leaf_width}
 use Rattle.macro_layout.specs.LayoutKit.{LayoutKit}
 use Rattle.macro_layout.specs.Places.{Floorplan, bit_width, drive_width}
 use Rattle.macro_layout.specs.Floorplan.{IsFloorplan, Tracks, rail_x}
 use Rattle.macro_layout.specs.Channels.{IsMainChannel}
 use Rattle.macro_layout.specs.Pins.{main_nets, port_nets, rail_nets}
 use Rattle.macro_bounds.proofs.CountLaws.{channel_nets_are_few, logic_cells_are_few}
-use Rattle.macro_wires.specs.FloorplanNumbers.{IsUpTo, floorplan_of}
+use Rattle.floorplan.specs.FloorplanNumbers.{IsUpTo, floorplan_of}
 use Rattle.bank_layout.proofs.GoodLaws.{rail_near}
 use Rattle.bank_layout.proofs.WithinLaws.{both_all, numbers_all}
 use Rattle.view_cover.proofs.RoleLaws.{found_pin, pin_inside, square_or}

@@ -28,7 +28,7 @@ use Rattle.macro_layout.specs.Places.{Floorplan}
 use Rattle.or_geom.specs.declared.place.Place.{Place}
 use Rattle.macro_bounds.proofs.CountLaws.{numbers_long, tabulate_long, three_groups}
 use Rattle.macro_layout.specs.Floorplan.{choice_count, line_count}
-use Rattle.macro_cells.specs.LayoutOfKit.{layout_kit}
+use Rattle.floorplan.specs.LayoutOfKit.{layout_kit}
 use Rattle.port_data.proofs.KitLaws.{leaf_exists}
 use Rattle.row_decoder.specs.RowTaps.{AreRowLeaves, RowLeaves, corner_at, input_taps, pin_tap, row_leaves_of, row_place, row_taps}
 use Rattle.bank_layout.specs.BankTaps.{AreBankTaps, AreTapsApart, IsBankFault, IsLeafPin, channel_low, choice_tap, precharge_tap, sense_tap}

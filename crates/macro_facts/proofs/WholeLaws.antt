@@ -16,7 +16,7 @@ use Rattle.leaf_tables.specs.Kits.{IsKit}
 use Rattle.macro_layout.specs.Places.{leaf_cell}
 use Rattle.macro_layout.specs.Sound.{IsSoundWithin}
 use Rattle.macro_layout.proofs.SoundLaws.{macros_are_sound}
-use Rattle.macro_cells.specs.LayoutOfKit.{layout_kit}
+use Rattle.floorplan.specs.LayoutOfKit.{layout_kit}
 use Rattle.macro_bounds.proofs.CompleteLaws.{flat_cells_are_complete, flat_cells_are_sound}
 use Rattle.macro_bounds.proofs.LibraryLaws.{macro_libraries_are_macros}
 use Rattle.sram_macro.specs.Leaves.{HasCellsFor, leaf_names}

@@ -18,7 +18,7 @@ use Rattle.macro_layout.specs.Floorplan.{Tracks, IsFloorplan, choice_count, colu
 use Rattle.macro_layout.specs.Channels.{IsColumnChannel, IsTrunkAt}
 use Rattle.macro_layout.specs.Moved.{IsChannelMoved}
 use Rattle.macro_layout.proofs.RoutingLaws.{item_at}
-use Rattle.macro_cells.specs.LayoutOfKit.{layout_kit}
+use Rattle.floorplan.specs.LayoutOfKit.{layout_kit}
 use Rattle.port_data.specs.Column.{IsBankFloorplan, IsColumnRouted, IsColumnOf}
 use Rattle.sram_macro.specs.Layout.{IsMainRouted}
 use Rattle.sram_macro.proofs.MainChannelLaws.{same_pins, one_channel}

@@ -26,9 +26,9 @@ use Rattle.macro_layout.specs.Wires.{IsPowerWire, IsGroundWire}
 use Rattle.macro_layout.specs.Channels.{IsMainChannel, IsChannelWire}
 use Rattle.macro_layout.specs.Stated.{IsWireOfCell}
 use Rattle.macro_layout.proofs.MovedLaws.{main_channels_are_drawn}
-use Rattle.macro_cells.specs.LayoutOfKit.{layout_kit}
-use Rattle.macro_wires.specs.FloorplanNumbers.{floorplan_of}
-use Rattle.macro_wires.specs.Sides.{AreSidesOf}
+use Rattle.floorplan.specs.LayoutOfKit.{layout_kit}
+use Rattle.floorplan.specs.FloorplanNumbers.{floorplan_of}
+use Rattle.floorplan.specs.Sides.{AreSidesOf}
 use Rattle.port_data.specs.Column.{IsColumnOf}
 use Rattle.bank_layout.specs.StatedWires.{AreWiresOfCell}
 use Rattle.sram_macro.specs.declared.assembly.Macro.{Macro}

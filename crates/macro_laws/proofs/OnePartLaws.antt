@@ -29,8 +29,8 @@ use Rattle.macro_layout.specs.LayoutKit.{LayoutKit}
 use Rattle.macro_layout.specs.Places.{Floorplan, upright, drive_width, bit_width}
 use Rattle.macro_layout.specs.Cells.{slice_x}
 use Rattle.macro_layout.specs.Floorplan.{Tracks, IsFloorplan, line_count, choice_count}
-use Rattle.macro_cells.specs.LayoutOfKit.{layout_kit}
-use Rattle.macro_wires.specs.FloorplanNumbers.{floorplan_of}
+use Rattle.floorplan.specs.LayoutOfKit.{layout_kit}
+use Rattle.floorplan.specs.FloorplanNumbers.{floorplan_of}
 use Rattle.port_data.specs.Column.{AreWideSlices, IsNarrowFault, AreColumnPinsApart, IsColumnOf, IsColumnFault}
 use Rattle.port_data.specs.DataPart.{IsDataRefused}
 use Rattle.port_data.specs.Pins.{column_channel}

@@ -22,7 +22,7 @@ use Rattle.macro_layout.specs.Places.{Floorplan, bank_x, column_x}
 use Rattle.macro_layout.specs.Floorplan.{rail_x}
 use Rattle.macro_layout.specs.Pins.{IsRailOf, rail_nets, main_nets}
 use Rattle.macro_layout.specs.Channels.{IsPinFrom, Numbered, MeetsMainTop, MeetsMainTopOfBanks}
-use Rattle.macro_cells.proofs.UprightLaws.{begins_at, begins_only}
+use Rattle.floorplan.proofs.UprightLaws.{begins_at, begins_only}
 use Rattle.main_channel.specs.Pins.{numbered_net}
 use Rattle.main_channel.specs.Banks.{rail_channel_pin, bank_rail_pins, written_pins, bit_begin, bit_channel_pins, slice_pins, columns_begin, bank_pins}
 use Rattle.main_channel.specs.Formula.{port_begin}

@@ -15,7 +15,7 @@ use Rattle.channel_router.specs.Channel.{IsChannel, AreInChannel, places}
 use Rattle.leaf_tables.specs.declared.kit.Kit.{Kit}
 use Rattle.leaf_tables.specs.declared.kit.Leaf.{Leaf}
 use Rattle.leaf_tables.specs.Alignment.{leaf_in}
-use Rattle.macro_cells.specs.LeafSides.{side_of, leaf_height}
+use Rattle.floorplan.specs.LeafSides.{side_of, leaf_height}
 use Rattle.leaf_tables.specs.NearLeaf.{IsLeafLength}
 use Rattle.main_channel.specs.Main.{IsNearMainChannel}
 use Rattle.main_channel.specs.Names.{channel_names, port_count}

@@ -12,10 +12,10 @@ use Rattle.leaf_tables.specs.declared.kit.Kit.{Kit}
 use Rattle.leaf_tables.specs.declared.kit.Leaf.{Leaf}
 use Rattle.leaf_tables.specs.Alignment.{role_number, leaf_in}
 use Rattle.leaf_tables.specs.Kits.{IsKit}
-use Rattle.macro_cells.specs.LayoutOfKit.{layout_kit}
+use Rattle.floorplan.specs.LayoutOfKit.{layout_kit}
 use Rattle.leaf_tables.proofs.RoleLaws.{role_there, pins_in_kit}
-use Rattle.macro_cells.specs.Demanded.{IsDemandOf}
-use Rattle.macro_cells.proofs.DemandLaws.{left_in_kit, pin_is, seven_in_kit}
+use Rattle.floorplan.specs.Demanded.{IsDemandOf}
+use Rattle.floorplan.proofs.DemandLaws.{left_in_kit, pin_is, seven_in_kit}
 use Rattle.leaf_tables.specs.NearLeaf.{IsLeafLength}
 use Rattle.main_channel.specs.Leaves.{begin_of, pin_begin}
 use Rattle.main_channel.proofs.ListLaws.{exists_in}

@@ -10,7 +10,7 @@ use Rattle.sram_netlist.specs.Organization.{Organization}
 use Rattle.sram_netlist.specs.Nets.{Net, Clk0, Csb0, Web0, Clkb, Csq, Weq, Cs, We, Wlb, Wlen, Wrb, Wen, Rdb, Rd, Dly, Seb, Sen, Vdd, Gnd, Control, Addr, Din, Wmask, A, Na, D, M, LineB, Line, WlenB, WlenAt, SenB, SenAt, WenB, WenAt}
 use Rattle.sram_netlist.specs.Instances.{LogicCell, Clki, Csd, Wed, Csi, Wei, Wln, Wli, Wrn, Wri, Rdn, Rdi, Dlay, Senn, Seni, Ad, Ai, Dd, Dm, Pn, Pi, Ln, Li, Kn, Ki, Gn, Gi}
 use Rattle.sram_netlist.specs.Netlist.{gate_of, sense_start, logic_role, picks, enable_inputs, bank_line, supply_nets, logic_cell_ports}
-use Rattle.macro_cells.specs.Demanded.{IsDemandOf}
+use Rattle.floorplan.specs.Demanded.{IsDemandOf}
 use Rattle.main_channel.proofs.ListLaws.{split_at}
 
 pub three_ports : (plan : Organization) (c : LogicCell) → 3 ≤ length (logic_cell_ports plan c)

@@ -20,7 +20,7 @@ use Rattle.macro_layout.specs.LayoutKit.{LayoutKit}
 use Rattle.macro_layout.specs.Places.{Floorplan, upright, total_width, StandsInRow}
 use Rattle.macro_layout.specs.Pins.{port_nets, output_of, main_nets}
 use Rattle.macro_layout.specs.Channels.{Numbered, MeetsMainBottom}
-use Rattle.macro_cells.proofs.UprightLaws.{begins_at, begins_only}
+use Rattle.floorplan.proofs.UprightLaws.{begins_at, begins_only}
 use Rattle.main_channel.specs.Pins.{HasPinOfNet}
 use Rattle.main_channel.specs.Row.{port_channel_pin, cell_channel_pins, row_pins}
 use Rattle.main_channel.specs.Formula.{port_begin}

@@ -1,8 +1,8 @@
 ghost use Rattle.std.specs.Prelude.{◌≡◌, ◌++◌, ◌-◌, ◌≤◌, ◌^◌, ℕ, length, OnOk};
 ghost use Rattle.leaf_shapes.specs.Demands.{role_demands};
 ghost use Rattle.leaf_tables.specs.Kits.{IsKit};
-ghost use Rattle.macro_cells.specs.LeafSides.{leaf_width};
-ghost use Rattle.macro_wires.specs.FloorplanNumbers.{IsUpTo};
+ghost use Rattle.floorplan.specs.LeafSides.{leaf_width};
+ghost use Rattle.floorplan.specs.FloorplanNumbers.{IsUpTo};
 ghost use Rattle.main_channel.specs.Leaves.{pin_begin};
 ghost use Rattle.main_channel.specs.Numbers.{found_number, IsNetNumbering};
 ghost use Rattle.main_channel.specs.Pins.{AreMainPins};

@@ -9,8 +9,8 @@ ghost use Rattle.sram_netlist.specs.InstanceList.{tabulate_lists};
 ghost use Rattle.sram_netlist.specs.Numbers.{ArePlanNumbers};
 ghost use Rattle.sram_plan.specs.PlanNumbers.{numbers_of, organization};
 ghost use Rattle.port_lists.specs.Spelled.{spelled};
-ghost use Rattle.macro_cells.specs.LeafSides.{leaf_width};
-ghost use Rattle.macro_wires.specs.FloorplanNumbers.{IsUpTo, IsNearFloorplan};
+ghost use Rattle.floorplan.specs.LeafSides.{leaf_width};
+ghost use Rattle.floorplan.specs.FloorplanNumbers.{IsUpTo, IsNearFloorplan};
 ghost use Rattle.main_channel.specs.Banks.{bank_rail_pins, write_pins, written_pins, slice_pins, bank_pins};
 ghost use Rattle.main_channel.specs.Banks.{columns_begin};
 ghost use Rattle.leaf_tables.specs.NearLeaf.{IsLeafLength};
@@ -23,12 +23,13 @@ use crate::names::NetNumbers;
 use crate::pins::{add_leaf_pin, add_pin};
 use cell_roles::Role;
 use channel_router::ChannelPin;
+use floorplan::FloorplanNumbers;
 use leaf_tables::{Kit, leaf_of, wire_of};
-use macro_wires::FloorplanNumbers;
 use or_geom::{Items, Memory, Name};
-use port_lists::{NameList, Spelling, groups_of, sense_enable, spell, word_line_enable};
+use port_lists::{
+    NameList, Spelling, groups_of, row_gate_role, sense_enable, spell, word_line_enable,
+};
 use sram_plan::Plan;
-use sram_subckts::row_gate_role;
 use std::alloc::Global;
 
 /// Adds the pins of the rails and of the write and sense cells of all banks, bank by bank.
@@ -173,7 +174,8 @@ fn add_slice_pins(
     let width = leaf_of(kit, Role::Bitcell).width;
     for bit in 0..plan.word_size {
         let left = x + columns_width(bit * plan.wpr, width);
-        add_write_pins(alloc, kit, plan, numbers, bank, bit, left, pins)?;
+        let slice = Slice { bank, bit, x: left };
+        add_write_pins(alloc, kit, plan, numbers, slice, pins)?;
         add_sense_pin(alloc, kit, numbers, bit, left, pins)?;
     }
     Ok(())
@@ -190,32 +192,47 @@ fn columns_width(columns: u32, width: i64) -> i64
     i64::from(columns) * width
 }
 
-/// Adds the pins of a write cell that begins at x, its data and its enable; where nothing is written there is none.
+/// A bit of the word in a bank, and where its cells begin.
+#[derive(Clone, Copy)]
+struct Slice {
+    bank: u32,
+    bit: u32,
+    x: i64,
+}
+
+/// Adds the pins of a bit's write cell, its data and its enable; where nothing is written there is none.
 fn add_write_pins(
     alloc: Global,
     kit: &Kit,
     plan: &Plan,
     numbers: &NetNumbers,
-    bank: u32,
-    bit: u32,
-    x: i64,
+    slice: Slice,
     pins: &mut Vec<ChannelPin>,
 ) -> Result<(), Memory>
     requires kit { IsKit kit.now }
     requires plan { ArePlanNumbers (numbers_of plan.now) }
-    requires x { IsUpTo (2 ^ 28 - 65536) x }
+    requires x { IsUpTo (2 ^ 28 - 65536) slice.x }
     ensures is { OnOk result (pins.new.items ≡ pins.old.items ++ written_pins plan.now.write_size
-        (write_pins (pin_begin kit.now) (found_number numbers.now) (organization plan.now) bank bit x)) }
+        (write_pins (pin_begin kit.now) (found_number numbers.now) (organization plan.now) slice.bank slice.bit
+        slice.x)) }
     ensures main { OnOk result ((nets : ℕ) → IsNetNumbering nets (found_number numbers.now)
         → AreMainPins nets pins.old.items → AreMainPins nets pins.new.items) }
 {
     if plan.write_size == 0 {
         return Ok(());
     }
-    let data = spell(alloc, Spelling::Numbered(b"d", bit))?;
-    add_leaf_pin(kit, numbers, data.as_bytes(), Role::Write, 0, x, pins)?;
-    let enable = spell(alloc, write_enable(plan, bank, bit))?;
-    add_leaf_pin(kit, numbers, enable.as_bytes(), Role::Write, 3, x, pins)?;
+    let data = spell(alloc, Spelling::Numbered(b"d", slice.bit))?;
+    add_leaf_pin(kit, numbers, data.as_bytes(), Role::Write, 0, slice.x, pins)?;
+    let enable = spell(alloc, write_enable(plan, slice.bank, slice.bit))?;
+    add_leaf_pin(
+        kit,
+        numbers,
+        enable.as_bytes(),
+        Role::Write,
+        3,
+        slice.x,
+        pins,
+    )?;
     Ok(())
 }
 

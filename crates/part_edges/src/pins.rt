@@ -69,22 +69,28 @@ fn add_pin_edge(
     Ok(())
 }
 
-/// Adds the edges of a leaf cell's pins at a side, where these are demanded of them. The cell stands at the place, with
-/// its ports on the nets.
+/// A role's leaf cell where it stands.
+#[derive(Clone, Copy)]
+struct PlacedLeaf {
+    role: Role,
+    place: Place,
+}
+
+/// Adds the edges of a leaf cell's pins at a side, where these are demanded of them. The cell has its ports on the nets.
 fn add_side_edges(
     alloc: Global,
-    role: Role,
+    leaf: PlacedLeaf,
     nets: &[Name],
-    place: Place,
     demands: &[Demand],
     pins: &[LeafPin],
     side: Side,
     edges: &mut Vec<Edge>,
 ) -> Result<(), Memory>
-    requires place { IsNearPoint place.at }
+    requires place { IsNearPoint leaf.place.at }
     requires pins { AllByRecursion (λ pin. IsReachable pin.rect) pins.now }
     ensures { OnOk result (edges.new.items
-        ≡ edges.old.items ++ edges_at side (side_pins role nets.now place (map plain_demand demands.now) pins.now)) }
+        ≡ edges.old.items ++ edges_at side
+        (side_pins leaf.role nets.now leaf.place (map plain_demand demands.now) pins.now)) }
 {
     let mut rest = demands;
     let mut pins = pins;
@@ -93,8 +99,8 @@ fn add_side_edges(
             return Ok(());
         };
         if is_at_side(demand.2) {
-            let net = net_of(role, nets, demand.0);
-            add_pin_edge(alloc, net, place, pin, side, edges)?;
+            let net = net_of(leaf.role, nets, demand.0);
+            add_pin_edge(alloc, net, leaf.place, pin, side, edges)?;
         }
         rest = others;
         pins = other_pins;
@@ -118,7 +124,8 @@ fn add_leaf_edges(
         ≡ edges.old.items ++ edges_at side (leaf_pins kit.now.leaves role nets.now place)) }
 {
     let pins = leaf_of(kit, role).pins.as_slice();
-    add_side_edges(alloc, role, nets, place, demands(role), pins, side, edges)
+    let leaf = PlacedLeaf { role, place };
+    add_side_edges(alloc, leaf, nets, demands(role), pins, side, edges)
 }
 
 /// Adds the edges of leaf cells at a side.

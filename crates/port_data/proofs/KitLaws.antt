@@ -17,14 +17,14 @@ use Rattle.sram_netlist.proofs.Bounds.{written_most}
 use Rattle.sram_netlist.specs.Numbers.{ArePlanNumbers}
 use Rattle.sram_plan.specs.declared.numbers.Plan.{Plan}
 use Rattle.sram_plan.specs.PlanNumbers.{numbers_of, organization}
-use Rattle.macro_cells.specs.LeafSides.{leaf_width, leaf_height}
-use Rattle.macro_cells.specs.LayoutOfKit.{layout_kit}
+use Rattle.floorplan.specs.LeafSides.{leaf_width, leaf_height}
+use Rattle.floorplan.specs.LayoutOfKit.{layout_kit}
 use Rattle.leaf_tables.proofs.RoleLaws.{role_there, pins_in_kit}
 use Rattle.leaf_tables.specs.NearLeaf.{IsLeafLength}
 use Rattle.port_data.specs.Pins.{AreNearEnds, column_ends}
-use Rattle.macro_cells.specs.Demanded.{IsDemandOf}
-use Rattle.macro_cells.proofs.SideLaws.{width_is, height_is}
-use Rattle.macro_cells.proofs.DemandLaws.{left_in_kit, pin_is, seven_in_kit}
+use Rattle.floorplan.specs.Demanded.{IsDemandOf}
+use Rattle.floorplan.proofs.SideLaws.{width_is, height_is}
+use Rattle.floorplan.proofs.DemandLaws.{left_in_kit, pin_is, seven_in_kit}
 use Rattle.port_data.proofs.PortLaws.{mux_blo, mux_bro, mux_sel, tie_bl, tie_br, sense_bl, sense_br}
 use Rattle.port_data.proofs.ChannelLaws.{AreNear}
 

@@ -3,7 +3,7 @@ use Rattle.std.proofs.Common.{refl, arith}
 use Rattle.std.specs.Prelude.{codes}
 use Rattle.cell_roles.specs.declared.role.Role.TheVariants.{Mux, Tie, Sense}
 use Rattle.leaf_shapes.specs.declared.demand.Metal.TheVariants.{M2, M4}
-use Rattle.macro_cells.specs.Demanded.{IsDemandOf}
+use Rattle.floorplan.specs.Demanded.{IsDemandOf}
 
 pub mux_blo : IsDemandOf Mux 2 3 2
 mux_blo = record { name = codes "blo"; named = refl; on = M4; number = refl; first = refl; there = omega arith }

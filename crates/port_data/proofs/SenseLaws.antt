@@ -17,7 +17,7 @@ use Rattle.macro_layout.specs.Pins.{column_nets}
 use Rattle.port_data.specs.Pins.{columns_in, sense_ends}
 use Rattle.port_data.proofs.MeetLaws.{IsOfLines, IsSenseLine}
 use Rattle.port_data.proofs.NetLaws.{IsColumnNet, column_net, lo_numbered, ro_numbered, is_among, among, number_of_lo, number_of_ro}
-use Rattle.macro_cells.proofs.UprightLaws.{begins_at, begins_only}
+use Rattle.floorplan.proofs.UprightLaws.{begins_at, begins_only}
 
 -- where a cell of a column stands, from the left end of the columns
 pub in_bank : (left columns width : ℤ) (n : ℕ) (x : ℤ) → x ≡ pos n +ℤ left → x +ℤ columns ≡ left +ℤ ((columns +ℤ pos n) +ℤ (pos 0 *ℤ width))

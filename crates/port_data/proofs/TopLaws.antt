@@ -18,7 +18,7 @@ use Rattle.port_data.specs.Pins.{columns_in, column_ends}
 use Rattle.port_data.proofs.ChannelLaws.{bit_of, chosen}
 use Rattle.port_data.proofs.MeetLaws.{IsColumnLine, IsColumnChoice}
 use Rattle.port_data.proofs.NetLaws.{IsColumnNet, column_net, choice_numbered, lo_numbered, ro_numbered, is_behind, among, among_muxed, number_of_lo, number_of_ro, number_of_choice}
-use Rattle.macro_cells.proofs.UprightLaws.{begins_at, begins_only}
+use Rattle.floorplan.proofs.UprightLaws.{begins_at, begins_only}
 use Rattle.port_data.proofs.SenseLaws.{in_bank, from_bank, never}
 
 abbrev column_at : Organization → LayoutKit → Floorplan → ℕ → ℤ

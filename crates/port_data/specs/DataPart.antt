@@ -17,7 +17,7 @@ use Rattle.port_lists.specs.Cells.{cell_in}
 use Rattle.macro_layout.specs.Places.{Floorplan, bit_width}
 use Rattle.macro_layout.specs.Floorplan.{IsFloorplan, column_role}
 use Rattle.macro_layout.specs.Cells.{data_cell}
-use Rattle.macro_cells.specs.LayoutOfKit.{layout_kit}
+use Rattle.floorplan.specs.LayoutOfKit.{layout_kit}
 use Rattle.part_edges.specs.PartPins.{PartPin, part_pins, AreEdgesOf}
 use Rattle.port_data.specs.Column.{IsNarrowFault, AreWideSlices, IsColumnOf, IsColumnFault}
 

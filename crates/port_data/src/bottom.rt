@@ -1,6 +1,6 @@
 ghost use Rattle.std.specs.Prelude.{◌≡◌, IfOk};
 ghost use Rattle.leaf_tables.specs.Kits.{IsKit};
-ghost use Rattle.macro_cells.specs.LayoutOfKit.{layout_kit};
+ghost use Rattle.floorplan.specs.LayoutOfKit.{layout_kit};
 ghost use Rattle.port_data.specs.Pins.{AreFewColumns, AreNearEnds, sense_ends, bottom_pins};
 
 use crate::columns::Columns;

@@ -2,13 +2,12 @@ ghost use Rattle.std.specs.Prelude.{◌≡◌};
 ghost use Rattle.leaf_tables.specs.Kits.{IsKit};
 ghost use Rattle.sram_netlist.specs.Numbers.{ArePlanNumbers};
 ghost use Rattle.sram_plan.specs.PlanNumbers.{numbers_of, organization};
-ghost use Rattle.macro_cells.specs.LayoutOfKit.{layout_kit};
+ghost use Rattle.floorplan.specs.LayoutOfKit.{layout_kit};
 ghost use Rattle.port_data.specs.Pins.{columns_in, AreFewColumns};
 
 use cell_roles::Role;
+use floorplan::{choices, leaf_width};
 use leaf_tables::Kit;
-use macro_cells::leaf_width;
-use macro_wires::choices;
 use sram_plan::Plan;
 
 /// The columns of a bank: how many there are, and how wide each is, in nanometres.

@@ -11,24 +11,24 @@ ghost use Rattle.sram_plan.specs.PlanNumbers.{numbers_of, organization};
 ghost use Rattle.port_lists.specs.Cells.{cell_in};
 ghost use Rattle.macro_layout.specs.Places.{Floorplan, bit_width};
 ghost use Rattle.macro_layout.specs.Floorplan.{IsFloorplan, column_role};
-ghost use Rattle.macro_cells.specs.LayoutOfKit.{layout_kit};
-ghost use Rattle.macro_wires.specs.Sides.{AreSidesOf};
+ghost use Rattle.floorplan.specs.LayoutOfKit.{layout_kit};
+ghost use Rattle.floorplan.specs.Sides.{AreSidesOf};
 ghost use Rattle.part_edges.specs.Additions.{with_subckt};
 ghost use Rattle.part_edges.specs.PartPins.{part_pins, AreEdgesOf};
 ghost use Rattle.port_data.specs.DataPart.{data_part_subckt, data_roles, IsDataDrawn, IsDataBuilt, IsDataRefused};
 
+use crate::cell::data_cell;
 use crate::routing::channel;
 use crate::slices::refuse_narrow_slices;
+use crate::subckt::data_subckt;
 use cell_builder::{Cells, DrawnCell};
 use cell_roles::Role;
+use floorplan::{floorplan, sides_of};
 use leaf_tables::{Edges, Kit, PartFault, wire_of};
-use macro_cells::{data_cell, sides_of};
-use macro_wires::floorplan;
 use netlist::{Deck, Subckt};
 use or_geom::{Memory, Name};
 use part_edges::{add_part, edges_of};
 use sram_plan::{Plan, inputs_of};
-use sram_subckts::data_subckt;
 use std::alloc::Global;
 
 /// Adds the cell and the subcircuit of a bank's data. Answers where nets come to its edges, in nanometres from the

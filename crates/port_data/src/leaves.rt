@@ -2,8 +2,8 @@ ghost use Rattle.std.specs.Prelude.{◌≡◌, ◌<◌, ℕ, length};
 ghost use Rattle.leaf_shapes.specs.Demands.{role_demands};
 ghost use Rattle.leaf_tables.specs.Kits.{IsKit};
 ghost use Rattle.leaf_tables.specs.NearLeaf.{IsLeafLength};
-ghost use Rattle.macro_cells.specs.Demanded.{IsDemandOf};
-ghost use Rattle.macro_cells.specs.LayoutOfKit.{layout_kit};
+ghost use Rattle.floorplan.specs.Demanded.{IsDemandOf};
+ghost use Rattle.floorplan.specs.LayoutOfKit.{layout_kit};
 
 use cell_roles::Role;
 use leaf_tables::{Kit, leaf_of};

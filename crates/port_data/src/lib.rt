@@ -2,6 +2,7 @@
 #![tactic(auto)]
 
 mod bottom;
+mod cell;
 mod columns;
 mod data;
 mod exits;
@@ -10,9 +11,12 @@ mod leaves;
 mod lines;
 mod routing;
 mod slices;
+mod subckt;
 mod top;
 
+pub use cell::data_cell;
 pub use data::{add_data, build};
 pub use laws::built_excludes_refused;
 pub use routing::channel;
 pub use slices::refuse_narrow_slices;
+pub use subckt::{data_port_list, data_subckt};

@@ -4,7 +4,7 @@ ghost use Rattle.tech_rules.specs.declared.tech.Wire.{Wire};
 ghost use Rattle.tech_rules.specs.Facts.{AreSizes};
 ghost use Rattle.sram_netlist.specs.Numbers.{ArePlanNumbers};
 ghost use Rattle.sram_plan.specs.PlanNumbers.{numbers_of, organization};
-ghost use Rattle.macro_cells.specs.LayoutOfKit.{layout_kit};
+ghost use Rattle.floorplan.specs.LayoutOfKit.{layout_kit};
 ghost use Rattle.port_data.specs.Column.{IsColumnOf, IsColumnFault};
 ghost use Rattle.port_data.specs.Pins.{column_channel};
 
@@ -14,8 +14,8 @@ use crate::exits::{drive_width, exit_pins};
 use crate::top::top_pins;
 use cell_roles::Role;
 use channel_router::{Channel, Routed, route};
+use floorplan::{leaf_height, write_height};
 use leaf_tables::{Kit, PartFault, wire_of};
-use macro_cells::{leaf_height, write_height};
 use or_geom::{Items, Memory};
 use sram_plan::Plan;
 use std::alloc::Global;

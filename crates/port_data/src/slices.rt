@@ -5,12 +5,12 @@ ghost use Rattle.leaf_tables.specs.Kits.{IsKit};
 ghost use Rattle.sram_netlist.specs.Organization.{words_per_row};
 ghost use Rattle.sram_netlist.specs.Numbers.{ArePlanNumbers};
 ghost use Rattle.sram_plan.specs.PlanNumbers.{numbers_of, organization};
-ghost use Rattle.macro_cells.specs.LayoutOfKit.{layout_kit};
+ghost use Rattle.floorplan.specs.LayoutOfKit.{layout_kit};
 ghost use Rattle.port_data.specs.Column.{IsNarrowFault, AreWideSlices, IsTooWide};
 
 use cell_roles::Role;
+use floorplan::leaf_width;
 use leaf_tables::{Kit, PartFault};
-use macro_cells::leaf_width;
 use or_geom::{Memory, Name};
 use sram_plan::Plan;
 use std::alloc::Global;

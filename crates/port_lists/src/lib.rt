@@ -12,5 +12,5 @@ pub use cell::{
 };
 pub use contents::{Contents, bit_cell, row_kinds, row_name};
 pub use names::{NameList, Spelling, spell};
-pub use numbers::{enables_of, groups_of, lines_of};
+pub use numbers::{enables_of, groups_of, lines_of, row_gate_role};
 pub use ports::{sense_enable, word_line_enable};

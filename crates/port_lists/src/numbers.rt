@@ -1,8 +1,9 @@
-ghost use Rattle.std.specs.Prelude.{◌≡◌, ◌<◌, ◌≤◌, IfOk};
+ghost use Rattle.std.specs.Prelude.{◌≡◌, ◌<◌, ◌≤◌, ◌⊎◌, length, IfOk};
 ghost use Rattle.sram_netlist.specs.Organization.{power_of_two};
-ghost use Rattle.sram_netlist.specs.Netlist.{enables_of};
+ghost use Rattle.sram_netlist.specs.Netlist.{enables_of, row_gate};
 ghost use Rattle.sram_plan.specs.PlanNumbers.{organization, used_groups};
 
+use cell_roles::Role;
 use sram_plan::Plan;
 use std::alloc::{AllocError, Global};
 
@@ -40,5 +41,17 @@ pub fn enables_of(plan: &Plan) -> u32
         1
     } else {
         plan.masks
+    }
+}
+
+/// What the gate of a row over these groups is.
+pub fn row_gate_role(groups: &[u32]) -> Role
+    requires { (length groups.now ≡ 2) ⊎ (length groups.now ≡ 3) }
+    ensures { result ≡ row_gate groups.now }
+{
+    if groups.len() == 3 {
+        Role::RowNand3
+    } else {
+        Role::RowNand2
     }
 }

@@ -26,7 +26,7 @@ use Rattle.macro_layout.specs.LayoutKit.{LayoutKit}
 use Rattle.macro_layout.specs.Places.{Floorplan, upright, mirrored_at, columns_x, bit_width, bit_height}
 use Rattle.macro_layout.specs.Cells.{slice_x}
 use Rattle.macro_layout.specs.Floorplan.{Tracks, IsFloorplan, line_count, choice_count, write_height}
-use Rattle.macro_cells.proofs.SideLaws.{height_is}
+use Rattle.floorplan.proofs.SideLaws.{height_is}
 use Rattle.row_decoder.specs.RowTaps.{corner_at, lower_end, RowLeaves, row_taps, AreRowLeaves}
 use Rattle.bank_layout.specs.BankTaps.{sense_tap, precharge_tap, choice_tap, channel_low}
 use Rattle.bank_layout.proofs.HighestLaws.{upright_low, mirrored_low}

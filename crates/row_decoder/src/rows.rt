@@ -14,9 +14,8 @@ ghost use Rattle.leaf_tables.specs.NearLeaf.{IsLeafLength, ArePinsReachable, IsN
 use cell_roles::Role;
 use leaf_tables::{Kit, Leaf, LeafPin, leaf_of};
 use or_geom::{Memory, Orient, Place, Point};
-use port_lists::{groups_of, lines_of};
+use port_lists::{groups_of, lines_of, row_gate_role};
 use sram_plan::Plan;
-use sram_subckts::row_gate_role;
 use std::alloc::Global;
 use tech_rules::Tap;
 

@@ -11,7 +11,7 @@ use Rattle.sram_netlist.specs.InstanceList.{logic_cells}
 use Rattle.macro_layout.specs.LayoutKit.{LayoutKit}
 use Rattle.macro_layout.specs.Places.{Floorplan, total_width}
 use Rattle.macro_layout.specs.Wires.{trunk_x}
-use Rattle.macro_wires.specs.FloorplanNumbers.{IsUpTo}
+use Rattle.floorplan.specs.FloorplanNumbers.{IsUpTo}
 
 -- so many widths
 pub four_times : (n : ℕ) (w : ℤ) → n ≤ 4 → IsUpTo 33554432 w → IsUpTo 134217728 (pos n *ℤ w)

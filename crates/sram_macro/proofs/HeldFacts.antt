@@ -30,7 +30,7 @@ use Rattle.macro_layout.specs.Places.{leaf_cell}
 use Rattle.macro_bounds.specs.Complete.{HasFlatLists, AreKitBits}
 use Rattle.macro_bounds.specs.Differ.{other_names, macro_names}
 use Rattle.macro_bounds.proofs.CompleteLaws.{leaf_cells_are_flat}
-use Rattle.macro_cells.specs.LayoutOfKit.{layout_kit}
+use Rattle.floorplan.specs.LayoutOfKit.{layout_kit}
 use Rattle.sram_macro.specs.Leaves.{HasCellsFor, leaf_names}
 use Rattle.sram_macro.specs.Names.{first_taken}
 use Rattle.sram_macro.proofs.KitFacts.{cell_for, has_leaf, leaf_text, leaf_flat, leaf_subckt, none_known}

@@ -33,8 +33,8 @@ use Rattle.leaf_tables.specs.Leaves.{HasLeaf, cell_named_for, subckt_named}
 use Rattle.leaf_tables.specs.Kits.{IsKit, source_of}
 use Rattle.leaf_tables.specs.Alignment.{role_number, leaf_in}
 use Rattle.leaf_tables.proofs.RoleLaws.{role_below, in_kit}
-use Rattle.macro_cells.specs.LayoutOfKit.{layout_kit}
-use Rattle.macro_cells.specs.LeafSides.{side_of}
+use Rattle.floorplan.specs.LayoutOfKit.{layout_kit}
+use Rattle.floorplan.specs.LeafSides.{side_of}
 use Rattle.macro_bounds.specs.Floorplans.{IsSmallKit}
 use Rattle.macro_bounds.specs.Complete.{HasFlatLists}
 use Rattle.macro_bounds.specs.Library.{AreFreeStructures}

@@ -21,7 +21,7 @@ use Rattle.sram_netlist.proofs.Bounds.{bounds}
 use Rattle.sram_deck.specs.Deck.{port_bits, web_ports}
 use Rattle.sram_plan.specs.declared.view.SignalPin.{SignalPin}
 use Rattle.sram_plan.specs.View.{IsLength, IsView}
-use Rattle.macro_wires.specs.FloorplanNumbers.{IsUpTo}
+use Rattle.floorplan.specs.FloorplanNumbers.{IsUpTo}
 use Rattle.macro_bounds.proofs.TextLaws.{all_joined, IsLabel, label_text, index_text}
 use Rattle.macro_bounds.proofs.CellLaws.{all_tabulated, few_number}
 use Rattle.macro_bounds.proofs.CountLaws.{address_few, inputs_few}

@@ -21,8 +21,8 @@ use Rattle.sram_netlist.specs.Organization.{Organization, bank_rows, columns_of}
 use Rattle.macro_layout.specs.LayoutKit.{LayoutKit}
 use Rattle.macro_layout.specs.Places.{Floorplan, bit_width, bit_height, drive_width}
 use Rattle.macro_layout.specs.Floorplan.{Tracks, IsFloorplan, column_role, write_height, rail_count, rail_x}
-use Rattle.macro_wires.specs.declared.numbers.FloorplanNumbers.{FloorplanNumbers}
-use Rattle.macro_wires.specs.FloorplanNumbers.{floorplan_of}
+use Rattle.floorplan.specs.declared.numbers.FloorplanNumbers.{FloorplanNumbers}
+use Rattle.floorplan.specs.FloorplanNumbers.{floorplan_of}
 use Rattle.main_channel.specs.Main.{StandsAcross}
 use Rattle.macro_bounds.specs.Near.{IsSevenLayerWire, TracksAreFew}
 use Rattle.sram_macro.specs.Layout.{IsMainOf, IsMainFault, IsMainRouted}

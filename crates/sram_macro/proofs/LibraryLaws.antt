@@ -8,21 +8,21 @@ use Rattle.cell_builder.specs.declared.cell.DrawnCell.{DrawnCell}
 use Rattle.cell_builder.specs.CellList.{CellList, with_structures, with_drawn}
 use Rattle.cell_builder.specs.Flat.{HasLayers}
 use Rattle.sram_netlist.specs.Organization.{Organization, IsBuildable, bank_rows}
-use Rattle.sram_netlist.proofs.Bounds.{bounds}
 use Rattle.sram_netlist.specs.InstanceList.{tabulate}
 use Rattle.sram_netlist.specs.BitCells.{BitCells, row_kinds}
-use Rattle.sram_rows.proofs.RowKinds.{kinds_few, some_rows}
 use Rattle.leaf_tables.specs.declared.kit.Kit.{Kit}
-use Rattle.macro_wires.specs.declared.numbers.FloorplanNumbers.{FloorplanNumbers}
-use Rattle.macro_wires.specs.FloorplanNumbers.{IsUpTo}
+use Rattle.floorplan.specs.declared.numbers.FloorplanNumbers.{FloorplanNumbers}
+use Rattle.floorplan.specs.FloorplanNumbers.{IsUpTo}
 use Rattle.sram_macro.specs.declared.library.Wires.{Wires}
+use Rattle.macro_layout.specs.LayoutKit.{LayoutKit}
 use Rattle.macro_layout.specs.Cells.{row_cell, array_cell, pre_cell, data_cell, bank_cell, logic_row_cell, macro_cell}
 use Rattle.macro_layout.specs.Layout.{Drawing}
 use Rattle.macro_layout.specs.Places.{Floorplan}
 use Rattle.macro_bounds.specs.Writable.{macro_cells}
-use Rattle.macro_bounds.proofs.CountLaws.{tabulate_long}
 use Rattle.macro_bounds.proofs.LibraryLaws.{macro_cells_have_layers}
-use Rattle.macro_cells.specs.LayoutOfKit.{layout_kit}
+use Rattle.floorplan.specs.LayoutOfKit.{layout_kit}
+use Rattle.bitcell_array.specs.ArrayPart.{row_cells, array_cells, with_array_cells}
+use Rattle.bitcell_array.proofs.RowLaws.{more_kinds}
 use Rattle.sram_macro.specs.Library.{part_cells, macro_list, drawing_with, AreOnLayers}
 
 -- three items more
@@ -55,6 +55,19 @@ list_is list structs cells first second = λ i. record { adopted = first i; cell
 pub on_layers : (layers : List Layer) (kit : Kit) (plan : Organization) (n : List ℕ) (bits : BitCells) (floorplan : FloorplanNumbers) (wires : Wires) → AreOnLayers layers wires → AllByRecursion (HasLayers layers) (macro_list kit plan n (drawing_with bits floorplan wires)).cells
 on_layers layers kit plan n bits floorplan wires on = macro_cells_have_layers layers plan (layout_kit kit) n (drawing_with bits floorplan wires) (record { bank_wires = on.bank; wires = on.top; labels = on.labels })
 
+-- the cells of the array, behind none, and those of the data
+pub parts_are : (old l1 l2 : CellList) (parts : List DrawnCell) (made data_ : DrawnCell) → old.cells ≡ [] → l1 ≡ record { adopted = old.adopted; cells = old.cells ++ parts } → l2 ≡ with_drawn made l1 → made ≡ data_ → l2.cells ≡ parts ++ data_ ∷ []
+parts_are old l1 l2 parts made data_ none first second is =
+    let sofar : l1.cells ≡ parts = ap (λ (l : CellList). l.cells) first ∙ ap (λ (l : List DrawnCell). l ++ parts) none in
+    ap (λ (l : CellList). l.cells) second ∙ (λ i. sofar i ++ is i ∷ [])
+
+-- the cells of the array are few
+pub few_array : (plan : Organization) (kit : LayoutKit) (bits : BitCells) (n : List ℕ) (old new : CellList) → IsBuildable plan → old.cells ≡ [] → new ≡ with_array_cells plan kit bits n old → length new.cells ≤ 258
+few_array plan kit bits n old new buildable none is =
+    let long = ap (λ (l : CellList). length l.cells) is ∙ (ap (λ (l : List DrawnCell). length (l ++ array_cells plan kit bits n)) none ∙ length-append (row_cells plan kit bits n) (array_cell plan kit bits n ∷ pre_cell plan kit n ∷ [])) in
+    let few = more_kinds plan bits (row_cell plan kit bits n) [] (row_cells plan kit bits n) buildable refl in
+    omega (arith, long, few)
+
 -- the cells of a bank's parts and three more are those of a macro
 pub all_cells : (kit : Kit) (plan : Organization) (n : List ℕ) (d : Drawing)
     → part_cells kit plan d.bits n d.floorplan ++ bank_cell plan (layout_kit kit) d.floorplan n d.bank_wires ∷ logic_row_cell plan (layout_kit kit) n ∷ macro_cell plan d.floorplan n d.wires d.labels ∷ [] ≡ macro_cells plan (layout_kit kit) n d
@@ -62,31 +75,14 @@ all_cells kit plan n d =
     append_assoc (tabulate (row_kinds d.bits (bank_rows plan)) (row_cell plan (layout_kit kit) d.bits n)) (array_cell plan (layout_kit kit) d.bits n ∷ pre_cell plan (layout_kit kit) n ∷ data_cell plan (layout_kit kit) d.floorplan n ∷ [])
     (bank_cell plan (layout_kit kit) d.floorplan n d.bank_wires ∷ logic_row_cell plan (layout_kit kit) n ∷ macro_cell plan d.floorplan n d.wires d.labels ∷ [])
 
--- a row that is told apart is a row of the bank
-pub row_below : (bits : BitCells) (plan : Organization) (row kinds : ℕ) → kinds ≡ row_kinds bits (bank_rows plan) → row < kinds → row < bank_rows plan
-row_below bits plan row kinds is below = let few = kinds_few bits (bank_rows plan) (some_rows plan) in omega (arith, is, below, few)
-
--- there are few rows, and few cells
-pub few_rows : {X : Type 0} (plan : Organization) (f : ℕ → X) (list : List X) (row : ℕ) → IsBuildable plan → row < bank_rows plan → list ≡ tabulate row f → length list ≤ 256
-few_rows plan f list row buildable below is = let long = ap length is ∙ tabulate_long row f in let most = (bounds plan buildable).rows in omega (arith, long, below, most)
-
-pub few_kinds : {X : Type 0} (plan : Organization) (bits : BitCells) (f : ℕ → X) (list : List X) → IsBuildable plan → list ≡ tabulate (row_kinds bits (bank_rows plan)) f → length list ≤ 256
-few_kinds plan bits f list buildable is =
-    let long = ap length is ∙ tabulate_long (row_kinds bits (bank_rows plan)) f in
-    let most = (bounds plan buildable).rows in
-    let few = kinds_few bits (bank_rows plan) (some_rows plan) in
-    omega (arith, long, few, most)
-
+-- there are few cells
 pub few_parts : (kit : Kit) (plan : Organization) (bits : BitCells) (n : List ℕ) (floorplan : Floorplan) (list : List DrawnCell) → IsBuildable plan → list ≡ part_cells kit plan bits n floorplan → length list ≤ 259
 few_parts kit plan bits n floorplan list buildable is =
     let rows = tabulate (row_kinds bits (bank_rows plan)) (row_cell plan (layout_kit kit) bits n) in
     let more = array_cell plan (layout_kit kit) bits n ∷ pre_cell plan (layout_kit kit) n ∷ data_cell plan (layout_kit kit) floorplan n ∷ [] in
     let long = ap length is ∙ length-append rows more in
-    let few = few_kinds plan bits (row_cell plan (layout_kit kit) bits n) rows buildable refl in
+    let few = more_kinds plan bits (row_cell plan (layout_kit kit) bits n) [] rows buildable refl in
     omega (arith, long, few)
-
-pub one_longer : (old new : CellList) (made : DrawnCell) (most : ℕ) → new ≡ with_drawn made old → length old.cells ≤ most → length new.cells ≤ most + 1
-one_longer old new made most is few = let long = ap (λ (l : CellList). length l.cells) is ∙ length-append old.cells (made ∷ []) in omega (arith, long, few)
 
 -- the height of one row of cells above another
 pub apart : (a b : ℤ) → IsUpTo 1073741824 a → IsUpTo 1073741824 b → to_z w64 (of_z w64 (to_z w64 (of_z w64 a) -ℤ to_z w64 (of_z w64 b))) ≡ a -ℤ b

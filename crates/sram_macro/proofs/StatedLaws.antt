@@ -33,8 +33,8 @@ use Rattle.cell_hierarchy.specs.Plain.{FlatLists}
 use Rattle.macro_layout.specs.Stated.{IsWireOfCell, IsDrawnAs, AreStated, FlatListsAreStated}
 use Rattle.macro_layout.specs.Wires.{IsTextAt, IsPortLabel, IsLabelInMacro, trunk_x, ground_x}
 use Rattle.macro_layout.proofs.RoutingLaws.{item_at, below_length}
-use Rattle.macro_cells.specs.LayoutOfKit.{layout_kit}
-use Rattle.macro_wires.specs.FloorplanNumbers.{floorplan_of}
+use Rattle.floorplan.specs.LayoutOfKit.{layout_kit}
+use Rattle.floorplan.specs.FloorplanNumbers.{floorplan_of}
 use Rattle.macro_bounds.specs.Complete.{FlatCellsAreComplete}
 use Rattle.macro_bounds.specs.Library.{MacroLibrariesAreMacros}
 use Rattle.main_channel.proofs.TableLaws.{map_tabulated}

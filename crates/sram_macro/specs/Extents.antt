@@ -7,7 +7,7 @@ use Rattle.macro_layout.specs.LayoutKit.{LayoutKit}
 use Rattle.macro_layout.specs.Places.{Floorplan}
 use Rattle.macro_layout.specs.Floorplan.{upper_y}
 use Rattle.macro_layout.specs.Wires.{trunk_x, ground_x}
-use Rattle.macro_wires.specs.FloorplanNumbers.{IsUpTo}
+use Rattle.floorplan.specs.FloorplanNumbers.{IsUpTo}
 use Rattle.sram_macro.specs.declared.extents.Extents.{Extents}
 
 pub record AreExtents (plan : Organization) (kit : LayoutKit) (wire : Wire) (floorplan : Floorplan) (ends : Extents) : Type 0 where

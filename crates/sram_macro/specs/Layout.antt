@@ -20,10 +20,10 @@ use Rattle.macro_layout.specs.Places.{Floorplan}
 use Rattle.macro_layout.specs.Floorplan.{Tracks, IsFloorplan}
 use Rattle.macro_layout.specs.Pins.{main_nets}
 use Rattle.macro_layout.specs.Channels.{ArePins, LeavesLeft, IsMainChannel}
-use Rattle.macro_cells.specs.LayoutOfKit.{layout_kit}
-use Rattle.macro_wires.specs.Sides.{AreLeafSides, AreSidesOf}
-use Rattle.macro_wires.specs.FloorplanNumbers.{floorplan_of, IsNearFloorplan}
-use Rattle.macro_wires.specs.Trunks.{IsBehind}
+use Rattle.floorplan.specs.LayoutOfKit.{layout_kit}
+use Rattle.floorplan.specs.Sides.{AreLeafSides, AreSidesOf}
+use Rattle.floorplan.specs.FloorplanNumbers.{floorplan_of, IsNearFloorplan}
+use Rattle.floorplan.specs.Trunks.{IsBehind}
 use Rattle.main_channel.specs.Formula.{main_channel}
 use Rattle.main_channel.specs.Main.{IsNearMainChannel}
 use Rattle.bank_layout.specs.Near.{IsDrawableWire}

@@ -7,12 +7,12 @@ ghost use Rattle.sram_netlist.specs.Numbers.{ArePlanNumbers};
 ghost use Rattle.sram_plan.specs.PlanNumbers.{numbers_of, organization};
 ghost use Rattle.macro_layout.specs.LayoutKit.{LayoutKit};
 ghost use Rattle.macro_layout.specs.Places.{total_width};
-ghost use Rattle.macro_wires.specs.Sides.{AreLeafSides, AreSidesOf};
-ghost use Rattle.macro_wires.specs.FloorplanNumbers.{floorplan_of, IsUpTo, IsNearFloorplan, EndsBehindColumns};
-ghost use Rattle.macro_wires.specs.Trunks.{IsBehind};
+ghost use Rattle.floorplan.specs.Sides.{AreLeafSides, AreSidesOf};
+ghost use Rattle.floorplan.specs.FloorplanNumbers.{floorplan_of, IsUpTo, IsNearFloorplan, EndsBehindColumns};
+ghost use Rattle.floorplan.specs.Trunks.{IsBehind};
 ghost use Rattle.sram_macro.specs.Extents.{AreExtents, AreNearExtents};
 
-use macro_wires::{FloorplanNumbers, LeafSides};
+use floorplan::{FloorplanNumbers, LeafSides};
 use sram_plan::Plan;
 use tech_rules::Wire;
 

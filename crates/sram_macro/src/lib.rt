@@ -9,6 +9,8 @@ mod layout;
 mod library;
 mod names;
 mod signals;
+mod top_cell;
+mod top_subckt;
 mod view;
 
 pub use assembly::{Macro, assemble, assemble_with};

@@ -1,31 +1,29 @@
-ghost use Rattle.std.specs.Prelude.{◌≡◌, length, IfOk, OnOk};
+ghost use Rattle.std.specs.Prelude.{◌≡◌, [], IfOk, OnOk};
 ghost use Rattle.leaf_tables.specs.Kits.{IsKit};
 ghost use Rattle.port_lists.specs.Cells.{cell_in};
 ghost use Rattle.port_lists.specs.Held.{held_of};
 ghost use Rattle.sram_netlist.specs.Numbers.{ArePlanNumbers};
 ghost use Rattle.sram_plan.specs.PlanNumbers.{numbers_of, organization};
 ghost use Rattle.cell_builder.specs.Finish.{IsLibraryOf};
-ghost use Rattle.macro_layout.specs.Cells.{row_cell};
 ghost use Rattle.port_lists.specs.Contents.{AreHeldBy};
-ghost use Rattle.sram_netlist.specs.BitCells.{row_kinds};
-ghost use Rattle.sram_netlist.specs.InstanceList.{tabulate};
-ghost use Rattle.sram_netlist.specs.Organization.{bank_rows};
 ghost use Rattle.sram_macro.specs.Macro.{macro_bits};
-ghost use Rattle.macro_cells.specs.LayoutOfKit.{layout_kit};
+ghost use Rattle.floorplan.specs.LayoutOfKit.{layout_kit};
 ghost use Rattle.control_logic.specs.LogicPart.{IsLogicRow};
-ghost use Rattle.macro_wires.specs.Sides.{AreLeafSides, AreSidesOf};
-ghost use Rattle.macro_wires.specs.FloorplanNumbers.{floorplan_of, IsNearFloorplan};
+ghost use Rattle.floorplan.specs.Sides.{AreLeafSides, AreSidesOf};
+ghost use Rattle.floorplan.specs.FloorplanNumbers.{floorplan_of, IsNearFloorplan};
 ghost use Rattle.sram_macro.specs.Library.{part_cells, macro_list, drawing_with, AreOnLayers};
 
+use crate::top_cell::macro_cell;
 use bank_layout::bank_cell;
+use bitcell_array::add_cells;
 use cell_builder::{Cells, PlacedLabel};
 use control_logic::{LogicRow, logic_row_cell};
+use floorplan::{FloorplanNumbers, LeafSides};
 use gds_library::Library;
 use leaf_tables::Kit;
-use macro_cells::{array_cell, data_cell, macro_cell, pre_cell, row_cell};
-use macro_wires::{FloorplanNumbers, LeafSides};
 use or_geom::{Memory, Name, Shape};
-use port_lists::{Contents, row_kinds};
+use port_data::data_cell;
+use port_lists::Contents;
 use sram_plan::Plan;
 use std::alloc::Global;
 
@@ -46,32 +44,6 @@ pub struct DrawingFrame {
     pub row: LogicRow,
 }
 
-/// Draws the cells of the rows.
-fn draw_rows(
-    alloc: Global,
-    kit: &Kit,
-    plan: &Plan,
-    name: &Name,
-    contents: Contents<'_>,
-    cells: &mut Cells,
-) -> Result<(), Memory>
-    requires kit { IsKit kit.now }
-    requires plan { ArePlanNumbers (numbers_of plan.now) }
-    requires contents { AreHeldBy (organization plan.now) (held_of contents) }
-    requires few { length cells.old.cells ≡ 0 }
-    ensures adopted { OnOk result (cells.new.adopted ≡ cells.old.adopted) }
-    ensures cells { OnOk result (cells.new.cells
-        ≡ tabulate (row_kinds (macro_bits kit.now plan.now (held_of contents.entry))
-        (bank_rows (organization plan.now)))
-        (row_cell (organization plan.now) (layout_kit kit.now) (macro_bits kit.now plan.now (held_of contents.entry))
-        name.now)) }
-{
-    for row in 0..row_kinds(plan, contents) {
-        cells.draw(row_cell(alloc, kit, plan, name, contents, row)?)?;
-    }
-    Ok(())
-}
-
 /// Draws the cells of a bank's parts.
 fn draw_parts(
     alloc: Global,
@@ -86,7 +58,7 @@ fn draw_parts(
     requires plan { ArePlanNumbers (numbers_of plan.now) }
     requires contents { AreHeldBy (organization plan.now) (held_of contents) }
     requires near { IsNearFloorplan floorplan.now }
-    requires few { length cells.old.cells ≡ 0 }
+    requires none { cells.old.cells ≡ [] }
     ensures adopted { OnOk result (cells.new.adopted ≡ cells.old.adopted) }
     ensures cells { OnOk result (cells.new.cells
         ≡ part_cells kit.now (organization plan.now) (macro_bits kit.now plan.now (held_of contents.entry)) name.now
@@ -94,9 +66,7 @@ fn draw_parts(
 {
     let sense_y = floorplan.sense_y - floorplan.write_y;
     let column_y = floorplan.column_y - floorplan.write_y;
-    draw_rows(alloc, kit, plan, name, contents, cells)?;
-    cells.draw(array_cell(alloc, kit, plan, name, contents)?)?;
-    cells.draw(pre_cell(alloc, kit, plan, name)?)?;
+    add_cells(alloc, kit, plan, name, contents, cells)?;
     cells.draw(data_cell(alloc, kit, plan, name, sense_y, column_y)?)?;
     Ok(())
 }

@@ -3,13 +3,13 @@ ghost use Rattle.tech_rules.specs.Facts.{AreSizes};
 ghost use Rattle.channel_router.specs.Wires.{track_y};
 ghost use Rattle.sram_netlist.specs.Numbers.{ArePlanNumbers};
 ghost use Rattle.sram_plan.specs.PlanNumbers.{numbers_of, organization};
-ghost use Rattle.macro_wires.specs.FloorplanNumbers.{IsUpTo};
+ghost use Rattle.floorplan.specs.FloorplanNumbers.{IsUpTo};
 ghost use Rattle.sram_macro.specs.Signals.{signal_names, AreOnTracks, signals_on_tracks, signal_label, supply_label};
 ghost use Rattle.sram_macro.specs.Signals.{macro_labels};
 
 use crate::extents::Extents;
 use cell_builder::PlacedLabel;
-use macro_wires::pitches;
+use floorplan::pitches;
 use or_geom::{Items, Memory, Name, Point};
 use port_lists::NameList;
 use sram_plan::{Plan, SignalPin};

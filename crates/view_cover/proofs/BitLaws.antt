@@ -10,7 +10,7 @@ use Rattle.port_lists.specs.Held.Held.{Stored, Fixed}
 use Rattle.port_lists.specs.Contents.{held_cells}
 use Rattle.leaf_tables.specs.declared.kit.Kit.{Kit}
 use Rattle.leaf_tables.specs.Kits.{IsKit, source_of}
-use Rattle.macro_cells.specs.LeafSides.{leaf_width, leaf_height}
+use Rattle.floorplan.specs.LeafSides.{leaf_width, leaf_height}
 use Rattle.rom_leaves.specs.declared.side.SharedSide.TheVariants.{Width, Height}
 use Rattle.rom_leaves.specs.RomLeaves.{HasRomLeaves}
 use Rattle.rom_leaves.proofs.RomLeafLaws.{leaves_are_leaves, stand_as_bitcells}

@@ -1,7 +1,7 @@
 -- A macro's layout is covered by the boxes of its view.
 use Rattle.cell_hierarchy.specs.FlatSet.{IsFlatShape}
 use Rattle.tech_rules.proofs.WireLaws.{wire-AreSizes}
-use Rattle.macro_cells.specs.LayoutOfKit.{layout_kit}
+use Rattle.floorplan.specs.LayoutOfKit.{layout_kit}
 use Rattle.view_cover.specs.Cover.{LefCoversLayout}
 use Rattle.view_cover.proofs.WholeLaws.{layout_is}
 use Rattle.view_cover.proofs.KitLaws.{kit_fits, kit_layers}

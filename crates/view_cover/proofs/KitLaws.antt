@@ -33,12 +33,12 @@ use Rattle.leaf_tables.specs.Alignment.{height_in, width_in}
 use Rattle.leaf_tables.specs.Kits.{IsKit}
 use Rattle.leaf_tables.specs.Leaves.{size_of}
 use Rattle.macro_layout.specs.Places.{leaf_cell}
-use Rattle.macro_cells.specs.LeafSides.{side_of, leaf_width, leaf_height}
-use Rattle.macro_cells.specs.LayoutOfKit.{layout_kit, pin_shape}
+use Rattle.floorplan.specs.LeafSides.{side_of, leaf_width, leaf_height}
+use Rattle.floorplan.specs.LayoutOfKit.{layout_kit, pin_shape}
 use Rattle.view_cover.specs.Bits.{LiesInCell, AreBitsInside}
 use Rattle.view_cover.proofs.LayerLaws.{IsFirst, flat_numbered, numbered_first, cut_first}
 use Rattle.view_cover.proofs.FitLaws.{IsLogicRole, FitsWires}
-use Rattle.macro_cells.proofs.DemandLaws.{wire_there, seven_in_kit}
+use Rattle.floorplan.proofs.DemandLaws.{wire_there, seven_in_kit}
 use Rattle.view_cover.proofs.RoleLaws.{metal_there, role_leaf, width_is, kit_sides, drawn_inside, IsPinAt, demand_at, shape_of, pin_inside, square_or, found_pin}
 use Rattle.view_cover.proofs.WholeLaws.{AreLayers}
 use Rattle.leaf_tables.proofs.RoleLaws.{in_kit}

@@ -25,11 +25,11 @@ use Rattle.leaf_tables.specs.Alignment.{role_number, leaf_in}
 use Rattle.leaf_tables.specs.Kits.{IsKit, source_of}
 use Rattle.leaf_tables.specs.Leaves.{LeafSource, IsLeaf, cell_named_for, drawing_in, size_of}
 use Rattle.port_lists.specs.Cells.{named_cell, cell_in}
-use Rattle.macro_cells.specs.LeafSides.{side_of, leaf_width, leaf_height}
-use Rattle.macro_cells.specs.LayoutOfKit.{unit_square, shape_or_square, pin_shape, pin_on, port_name, layer_of_metal, shape_on}
+use Rattle.floorplan.specs.LeafSides.{side_of, leaf_width, leaf_height}
+use Rattle.floorplan.specs.LayoutOfKit.{unit_square, shape_or_square, pin_shape, pin_on, port_name, layer_of_metal, shape_on}
 use Rattle.view_cover.specs.Bits.{LiesWithin, LiesInCell}
 use Rattle.leaf_tables.proofs.RoleLaws.{role_there, layer_at, metal_listed, in_kit}
-use Rattle.macro_cells.proofs.DemandLaws.{wire_there}
+use Rattle.floorplan.proofs.DemandLaws.{wire_there}
 
 -- The wires of a kit
 

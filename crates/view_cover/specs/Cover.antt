@@ -11,7 +11,7 @@ use Rattle.leaf_tables.specs.Kits.{IsKit}
 use Rattle.macro_layout.specs.Places.{Floorplan}
 use Rattle.macro_layout.specs.Floorplan.{Tracks, IsFloorplan}
 use Rattle.macro_layout.specs.Stated.{IsInMacro}
-use Rattle.macro_cells.specs.LayoutOfKit.{layout_kit}
+use Rattle.floorplan.specs.LayoutOfKit.{layout_kit}
 use Rattle.macro_views.specs.Boxes.{IsCoveredOn}
 use Rattle.port_data.specs.Column.{AreWideSlices}
 use Rattle.view_cover.specs.View.{IsViewOf}

@@ -10,9 +10,9 @@ use Rattle.leaf_shapes.specs.declared.fit.Fit.{Fit}
 use Rattle.leaf_shapes.specs.Demands.{PinDemand, draw, role_demands}
 use Rattle.leaf_tables.specs.declared.kit.Kit.{Kit}
 use Rattle.leaf_tables.specs.Kits.{IsKit}
-use Rattle.macro_cells.specs.Demanded.{asks_for, metal_number, IsDemandOf}
-use Rattle.macro_cells.specs.LayoutOfKit.{layout_kit}
-use Rattle.macro_cells.proofs.DemandLaws.{seven_in_kit, pin_is}
+use Rattle.floorplan.specs.Demanded.{asks_for, metal_number, IsDemandOf}
+use Rattle.floorplan.specs.LayoutOfKit.{layout_kit}
+use Rattle.floorplan.proofs.DemandLaws.{seven_in_kit, pin_is}
 use Rattle.view_cover.proofs.RoleLaws.{width_is, height_is}
 use Rattle.joined_nets.proofs.WireNetLaws.{place_below}
 use Rattle.kit_nets.specs.LaidKit.{IsLaidBy}

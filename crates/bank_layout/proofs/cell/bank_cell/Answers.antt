@@ -1,7 +1,7 @@
 -- The three parts.
 use Rattle.std.proofs.Common.{◌∙◌, arith}
 use Rattle.std.proofs.lemmas.Int.{ints}
-use Rattle.macro_wires.proofs.JoinerLaws.{apart}
+use Rattle.floorplan.proofs.JoinerLaws.{apart}
 use Rattle.bank_layout.proofs.CellLaws.{drawn_is, part_same, three_are}
 use Rattle.bank_layout.proofs.cell.bank_cell.Goals as goal
 

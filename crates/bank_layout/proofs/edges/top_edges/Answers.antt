@@ -5,7 +5,7 @@ use Rattle.std.proofs.lemmas.Int.{ints}
 use Rattle.or_geom.specs.Distance.{IsNear}
 use Rattle.leaf_tables.specs.declared.part.Edge.{Edge}
 use Rattle.sram_plan.specs.PlanNumbers.{organization}
-use Rattle.macro_wires.specs.FloorplanNumbers.{floorplan_of}
+use Rattle.floorplan.specs.FloorplanNumbers.{floorplan_of}
 use Rattle.bank_layout.proofs.BuiltLaws.{narrow_of}
 use Rattle.bank_layout.proofs.BankEdgeLaws.{columns_near}
 use Rattle.bank_layout.proofs.EdgeListLaws.{top_as}

@@ -10,8 +10,8 @@ use Rattle.sram_plan.specs.PlanNumbers.{organization}
 use Rattle.sram_deck.specs.Deck.{bank_ports}
 use Rattle.port_lists.specs.Cells.{cell_in}
 use Rattle.macro_layout.specs.Cells.{data_cell}
-use Rattle.macro_cells.specs.LayoutOfKit.{layout_kit}
-use Rattle.macro_wires.specs.FloorplanNumbers.{floorplan_of}
+use Rattle.floorplan.specs.LayoutOfKit.{layout_kit}
+use Rattle.floorplan.specs.FloorplanNumbers.{floorplan_of}
 use Rattle.part_edges.specs.Additions.{with_subckt}
 use Rattle.part_edges.specs.PartPins.{AreInOrder, begins_at}
 use Rattle.port_data.specs.DataPart.{data_part_subckt, data_pins}

@@ -5,7 +5,7 @@ use Rattle.or_geom.specs.declared.shape.Point.{Point}
 use Rattle.or_geom.proofs.PlaceLaws.{same_point}
 use Rattle.sram_plan.specs.PlanNumbers.{organization}
 use Rattle.row_decoder.specs.RowTaps.{AreTapsOfRows}
-use Rattle.macro_wires.proofs.JoinerLaws.{apart}
+use Rattle.floorplan.proofs.JoinerLaws.{apart}
 use Rattle.bank_layout.proofs.TapLaws.{taps_are}
 use Rattle.bank_layout.proofs.taps.bank_taps.Goals as goal
 

@@ -4,9 +4,9 @@ use Rattle.std.proofs.lemmas.Int.{ints}
 use Rattle.sram_plan.specs.PlanNumbers.{numbers_of, organization}
 use Rattle.sram_netlist.specs.Organization.{columns_of}
 use Rattle.macro_layout.specs.Places.{bit_width}
-use Rattle.macro_cells.specs.LayoutOfKit.{layout_kit}
+use Rattle.floorplan.specs.LayoutOfKit.{layout_kit}
 use Rattle.port_lists.proofs.NumberLaws.{columns_are}
-use Rattle.macro_wires.proofs.JoinerLaws.{apart, some_columns}
+use Rattle.floorplan.proofs.JoinerLaws.{apart, some_columns}
 use Rattle.bank_layout.proofs.CountLaws.{few_columns}
 use Rattle.bank_layout.proofs.TapLaws.{leaf_tap_is}
 use Rattle.bank_layout.proofs.taps.precharge_tap.Goals as goal

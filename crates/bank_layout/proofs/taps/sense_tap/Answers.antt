@@ -4,8 +4,8 @@ use Rattle.std.proofs.lemmas.Int.{ints}
 use Rattle.sram_plan.specs.PlanNumbers.{numbers_of, organization}
 use Rattle.sram_netlist.specs.Organization.{words_per_row}
 use Rattle.macro_layout.specs.Places.{bit_width}
-use Rattle.macro_cells.specs.LayoutOfKit.{layout_kit}
-use Rattle.macro_wires.proofs.JoinerLaws.{apart}
+use Rattle.floorplan.specs.LayoutOfKit.{layout_kit}
+use Rattle.floorplan.proofs.JoinerLaws.{apart}
 use Rattle.bank_layout.proofs.CountLaws.{few_columns, last_slice, words_within}
 use Rattle.bank_layout.proofs.TapLaws.{leaf_tap_is}
 use Rattle.bank_layout.proofs.taps.sense_tap.Goals as goal

@@ -4,12 +4,12 @@ use Rattle.std.proofs.lemmas.Int.{ints}
 use Rattle.std.proofs.lemmas.Option.{same_Some}
 use Rattle.or_geom.proofs.ShapeOrderLaws.{same_shape}
 use Rattle.sram_plan.specs.PlanNumbers.{organization}
-use Rattle.macro_wires.specs.FloorplanNumbers.{floorplan_of}
+use Rattle.floorplan.specs.FloorplanNumbers.{floorplan_of}
 use Rattle.port_data.specs.Column.{IsColumnRouted}
 use Rattle.bank_layout.specs.StatedWires.{AreWiresOfCell}
 use Rattle.bank_layout.specs.BankTaps.{AreTapsApart}
 use Rattle.tech_rules.specs.declared.tech.Wire.{Wire}
-use Rattle.macro_cells.specs.LayoutOfKit.{layout_kit}
+use Rattle.floorplan.specs.LayoutOfKit.{layout_kit}
 use Rattle.bank_layout.specs.Near.{IsDrawableWire}
 use Rattle.bank_layout.proofs.GivenLaws.{AreGiven, site_of, sense_above}
 use Rattle.bank_layout.proofs.FinishLaws.{AreParts, all_drawable}

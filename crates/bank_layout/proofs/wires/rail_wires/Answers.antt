@@ -7,8 +7,8 @@ use Rattle.tech_rules.specs.Spacing.{AreClose}
 use Rattle.sram_netlist.specs.InstanceList.{tabulate}
 use Rattle.sram_plan.specs.PlanNumbers.{organization}
 use Rattle.macro_layout.specs.Floorplan.{rail_count, rail_x}
-use Rattle.macro_cells.specs.LayoutOfKit.{layout_kit}
-use Rattle.macro_wires.specs.FloorplanNumbers.{floorplan_of}
+use Rattle.floorplan.specs.LayoutOfKit.{layout_kit}
+use Rattle.floorplan.specs.FloorplanNumbers.{floorplan_of}
 use Rattle.bank_layout.specs.BankTaps.{AreBankTaps}
 use Rattle.bank_layout.proofs.SameTapLaws.{same_taps}
 use Rattle.bank_layout.proofs.GivenLaws.{AreGiven}

@@ -2,8 +2,8 @@
 use Rattle.std.proofs.Common.{get_or, arith}
 use Rattle.std.proofs.lemmas.List.{get_or_default}
 use Rattle.cell_roles.specs.declared.role.Role.TheVariants.{Bitcell}
-use Rattle.macro_cells.specs.LeafSides.{leaf_width}
-use Rattle.macro_cells.specs.LayoutOfKit.{layout_kit}
+use Rattle.floorplan.specs.LeafSides.{leaf_width}
+use Rattle.floorplan.specs.LayoutOfKit.{layout_kit}
 use Rattle.control_logic.proofs.LogicLaws.{one_placed, all_placed}
 use Rattle.control_logic.proofs.cell.side_by_side.Goals as goal
 

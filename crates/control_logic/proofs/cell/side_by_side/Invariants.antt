@@ -1,4 +1,4 @@
-use Rattle.macro_cells.specs.LeafSides.{leaf_width}
+use Rattle.floorplan.specs.LeafSides.{leaf_width}
 use Rattle.control_logic.proofs.LogicLaws.{ArePlaced}
 use Rattle.control_logic.proofs.cell.side_by_side.Given as goal
 

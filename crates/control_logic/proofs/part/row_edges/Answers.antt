@@ -7,7 +7,7 @@ use Rattle.cell_builder.specs.declared.cell.DrawnCell.{DrawnCell}
 use Rattle.sram_netlist.specs.InstanceList.{logic_cells}
 use Rattle.sram_plan.specs.PlanNumbers.{organization}
 use Rattle.leaf_tables.specs.declared.part.Edges.{Edges}
-use Rattle.macro_cells.specs.LayoutOfKit.{layout_kit}
+use Rattle.floorplan.specs.LayoutOfKit.{layout_kit}
 use Rattle.part_edges.specs.PartPins.{PartPin, part_pins, AreEdgesOf}
 use Rattle.control_logic.specs.LogicPart.{logic_width}
 use Rattle.control_logic.proofs.RowLaws.{near_row}

@@ -5,7 +5,7 @@ use Rattle.sram_netlist.specs.InstanceList.{choice_gates, groups_gates, logic_ce
 use Rattle.sram_plan.specs.PlanNumbers.{organization}
 use Rattle.port_lists.specs.Cells.{cell_in}
 use Rattle.row_decoder.specs.Gates.{logic_gate}
-use Rattle.sram_subckts.proofs.SubcktLaws.{from_none}
+use Rattle.port_lists.proofs.SubcktLaws.{from_none}
 use Rattle.control_logic.proofs.LogicLaws.{row_is}
 use Rattle.control_logic.proofs.row.logic_row.Goals as goal
 

@@ -1,6 +1,6 @@
 -- A cell more.
 use Rattle.std.proofs.Common.{length, ap, arith}
-use Rattle.macro_cells.specs.LayoutOfKit.{layout_kit}
+use Rattle.floorplan.specs.LayoutOfKit.{layout_kit}
 use Rattle.control_logic.proofs.LogicLaws.{all_added, few_added, few_roles}
 use Rattle.control_logic.proofs.row.row_width.Goals as goal
 

@@ -1,4 +1,4 @@
-use Rattle.macro_cells.specs.LeafSides.{leaf_width}
+use Rattle.floorplan.specs.LeafSides.{leaf_width}
 use Rattle.control_logic.proofs.LogicLaws.{AreAdded}
 use Rattle.control_logic.proofs.row.row_width.Given as goal
 

@@ -1,5 +1,5 @@
 -- The name, the ports and the instances are those that are stated.
-use Rattle.sram_subckts.proofs.SubcktLaws.{made_same}
+use Rattle.port_lists.proofs.SubcktLaws.{made_same}
 use Rattle.control_logic.proofs.subckt.logic_subckt.Goals as goal
 
 pub returns : goal.returns

@@ -6,8 +6,8 @@ use Rattle.std.proofs.lemmas.List.{append-nil, get_or_default}
 use Rattle.std.proofs.lemmas.Option.{slice_get_read, slice_get-get_or}
 use Rattle.std.proofs.Math.Seq.{take-length}
 use Rattle.cell_roles.specs.declared.role.Role.TheVariants.{Bitcell}
-use Rattle.macro_cells.specs.LeafSides.{leaf_width}
-use Rattle.macro_cells.proofs.SideLaws.{width_is}
+use Rattle.floorplan.specs.LeafSides.{leaf_width}
+use Rattle.floorplan.proofs.SideLaws.{width_is}
 use Rattle.main_channel.specs.Leaves.{pin_begin}
 use Rattle.main_channel.specs.Numbers.{found_number}
 use Rattle.main_channel.proofs.PinLaws.{nodes_at, three_demands, sum_read}

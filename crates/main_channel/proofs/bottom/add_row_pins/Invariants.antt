@@ -1,7 +1,7 @@
 use Rattle.std.proofs.Common.{◌≡◌, ◌++◌, ℕ, ◌+◌, ◌*◌, pos, ◌+ℤ◌}
 use Rattle.std.specs.Prelude.{take}
-use Rattle.macro_cells.specs.LeafSides.{leaf_width}
-use Rattle.macro_wires.specs.FloorplanNumbers.{IsUpTo}
+use Rattle.floorplan.specs.LeafSides.{leaf_width}
+use Rattle.floorplan.specs.FloorplanNumbers.{IsUpTo}
 use Rattle.main_channel.specs.Leaves.{pin_begin}
 use Rattle.main_channel.specs.Numbers.{found_number, IsNetNumbering}
 use Rattle.main_channel.specs.Pins.{AreMainPins}

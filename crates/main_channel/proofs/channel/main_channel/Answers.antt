@@ -10,8 +10,8 @@ use Rattle.port_lists.specs.Cells.{cell_in}
 use Rattle.port_lists.proofs.NumberLaws.{banks_are}
 use Rattle.macro_layout.specs.Channels.{IsMainChannel}
 use Rattle.macro_layout.specs.Pins.{port_nets, main_nets}
-use Rattle.macro_cells.specs.LayoutOfKit.{layout_kit}
-use Rattle.macro_wires.specs.FloorplanNumbers.{floorplan_of}
+use Rattle.floorplan.specs.LayoutOfKit.{layout_kit}
+use Rattle.floorplan.specs.FloorplanNumbers.{floorplan_of}
 use Rattle.main_channel.specs.Formula.{main_number, main_bottom, main_exit}
 use Rattle.main_channel.specs.Names.{channel_names}
 use Rattle.main_channel.specs.Numbers.{found_number}

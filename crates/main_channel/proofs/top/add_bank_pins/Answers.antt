@@ -8,7 +8,7 @@ use Rattle.main_channel.proofs.CountLaws.{few_rails}
 use Rattle.main_channel.proofs.StepLaws.{bank_more, all_banks}
 use Rattle.main_channel.proofs.RailLaws.{rails_named}
 use Rattle.tech_rules.specs.Drawing.{pitch}
-use Rattle.macro_cells.specs.LeafSides.{leaf_width}
+use Rattle.floorplan.specs.LeafSides.{leaf_width}
 use Rattle.main_channel.specs.Leaves.{pin_begin}
 use Rattle.main_channel.specs.Numbers.{found_number}
 use Rattle.main_channel.proofs.top.add_bank_pins.Goals as goal

@@ -1,7 +1,7 @@
 use Rattle.std.proofs.Common.{◌≡◌, ℕ, ◌++◌}
 use Rattle.sram_netlist.specs.InstanceList.{tabulate_lists}
 use Rattle.sram_plan.specs.PlanNumbers.{organization}
-use Rattle.macro_cells.specs.LeafSides.{leaf_width}
+use Rattle.floorplan.specs.LeafSides.{leaf_width}
 use Rattle.main_channel.specs.Banks.{bank_pins}
 use Rattle.main_channel.specs.Leaves.{pin_begin}
 use Rattle.main_channel.specs.Numbers.{found_number, IsNetNumbering}

@@ -3,8 +3,8 @@ use Rattle.std.proofs.Common.{arith}
 use Rattle.std.proofs.lemmas.Int.{ints}
 use Rattle.sram_plan.specs.PlanNumbers.{numbers_of, organization}
 use Rattle.cell_roles.specs.declared.role.Role.TheVariants.{Bitcell}
-use Rattle.macro_cells.specs.LeafSides.{leaf_width}
-use Rattle.macro_cells.proofs.SideLaws.{width_is}
+use Rattle.floorplan.specs.LeafSides.{leaf_width}
+use Rattle.floorplan.proofs.SideLaws.{width_is}
 use Rattle.main_channel.proofs.StepLaws.{bit_more, all_bits}
 use Rattle.main_channel.specs.Leaves.{pin_begin}
 use Rattle.main_channel.specs.Numbers.{found_number}

@@ -18,8 +18,8 @@ returns-clause-is c =
     let look = found_number c.args.numbers.now in
     let unequal = c.if-plan-eq0.false in
     write_more c.args.plan.now.write_size _ _ _ (omega (arith, unequal)) (two_lists _ _ _ _ _
-    (named_as look c.as_bytes.result.now (with_number (codes "d") c.args.bit) _ (c.args.x +ℤ pin_begin c.args.kit.now Write 0) _ _ c.in_ok-add_leaf_pin.ensures.is (c.as_bytes.ensures ∙ c.in_ok-data.ensures) (omega (arith, ints, a, b)))
-    (named_as look c.as_bytes-2.result.now (enable_name (organization c.args.plan.now) c.args.bank c.args.bit) _ (c.args.x +ℤ pin_begin c.args.kit.now Write 3) _ _ c.in_ok-add_leaf_pin-2.ensures.is (c.as_bytes-2.ensures ∙ (c.in_ok-enable.ensures ∙ c.write_enable.ensures)) (omega (arith, ints, a, b))))
+    (named_as look c.as_bytes.result.now (with_number (codes "d") c.args.slice.bit) _ (c.args.slice.x +ℤ pin_begin c.args.kit.now Write 0) _ _ c.in_ok-add_leaf_pin.ensures.is (c.as_bytes.ensures ∙ c.in_ok-data.ensures) (omega (arith, ints, a, b)))
+    (named_as look c.as_bytes-2.result.now (enable_name (organization c.args.plan.now) c.args.slice.bank c.args.slice.bit) _ (c.args.slice.x +ℤ pin_begin c.args.kit.now Write 3) _ _ c.in_ok-add_leaf_pin-2.ensures.is (c.as_bytes-2.ensures ∙ (c.in_ok-enable.ensures ∙ c.write_enable.ensures)) (omega (arith, ints, a, b))))
 
 pub returns-clause-main : goal.returns-clause-main
 returns-clause-main c = λ nets num all. c.in_ok-add_leaf_pin-2.ensures.main nets num (c.in_ok-add_leaf_pin.ensures.main nets num all)

@@ -3,8 +3,8 @@ use Rattle.std.proofs.Common.{pos, ap, ◌∙◌, arith}
 use Rattle.cell_roles.specs.declared.role.Role.{Role}
 use Rattle.cell_roles.specs.declared.role.Role.TheVariants.{Driver}
 use Rattle.sram_netlist.specs.Netlist.{row_gate}
-use Rattle.macro_cells.specs.LeafSides.{leaf_width}
-use Rattle.macro_cells.proofs.SideLaws.{width_is}
+use Rattle.floorplan.specs.LeafSides.{leaf_width}
+use Rattle.floorplan.proofs.SideLaws.{width_is}
 use Rattle.std.proofs.lemmas.Int.{ints}
 use Rattle.main_channel.proofs.top.columns_of.Goals as goal
 

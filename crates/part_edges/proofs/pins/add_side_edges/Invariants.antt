@@ -8,7 +8,7 @@ use Rattle.part_edges.proofs.pins.add_side_edges.Given as goal
 
 abbrev pub invariant-loop-demand : goal.invariant-loop-demand
 invariant-loop-demand l = record {
-  edges : l.edges.items ++ edges_at l.side (side_pins l.role l.nets l.place (map plain_demand l.rest) l.pins) ≡ l.fn.edges.items ++ edges_at l.side (side_pins l.role l.nets l.place (map plain_demand l.demands) l.fn.pins);
+  edges : l.edges.items ++ edges_at l.side (side_pins l.leaf.role l.nets l.leaf.place (map plain_demand l.rest) l.pins) ≡ l.fn.edges.items ++ edges_at l.side (side_pins l.leaf.role l.nets l.leaf.place (map plain_demand l.demands) l.fn.pins);
   near : AllByRecursion (λ (pin : LeafPin). IsReachable pin.rect) l.pins;
 }
 

@@ -1,7 +1,7 @@
 -- The shapes of a leaf's pins stand in the order of demands.
 use Rattle.std.proofs.Common.{length, ap, subst, sym, ◌∙◌, arith}
 use Rattle.or_geom.specs.declared.shape.Rect.{Rect}
-use Rattle.macro_cells.proofs.DemandLaws.{left_in_kit, pin_is, seven_in_kit}
+use Rattle.floorplan.proofs.DemandLaws.{left_in_kit, pin_is, seven_in_kit}
 use Rattle.port_data.proofs.LeafLaws.{left_read, pin_there}
 use Rattle.leaf_tables.specs.NearLeaf.{IsLeafLength}
 use Rattle.port_data.proofs.leaves.pin_left.Goals as goal

@@ -8,12 +8,12 @@ use Rattle.channel_router.specs.declared.channel.Channel.{Channel}
 use Rattle.channel_router.specs.Channel.{IsChannel}
 use Rattle.channel_router.specs.Routed.{HasClosePins, IsRouted, IsRouteFault}
 use Rattle.sram_plan.specs.PlanNumbers.{organization}
-use Rattle.macro_cells.specs.LayoutOfKit.{layout_kit}
+use Rattle.floorplan.specs.LayoutOfKit.{layout_kit}
 use Rattle.port_data.specs.Pins.{column_channel}
 use Rattle.port_data.proofs.RoutedLaws.{column_routed, column_fault}
 use Rattle.port_data.specs.Column.{IsColumnFault, IsNearColumnChannel, IsNearColumnRouted}
 use Rattle.port_data.proofs.ChannelLaws.{is_channel, is_near}
-use Rattle.macro_cells.proofs.DemandLaws.{seven_layers}
+use Rattle.floorplan.proofs.DemandLaws.{seven_layers}
 use Rattle.port_data.proofs.KitLaws.{near_kit}
 use Rattle.port_data.proofs.TrackCountLaws.{few_tracks}
 use Rattle.port_data.proofs.routing.channel.Goals as goal

@@ -4,7 +4,7 @@ use Rattle.channel_router.specs.declared.channel.ChannelPin.{ChannelPin}
 use Rattle.sram_netlist.specs.InstanceList.{tabulate_lists}
 use Rattle.port_data.specs.declared.lines.LineEnds.{LineEnds}
 use Rattle.port_data.specs.Pins.{choice_pins, column_lines}
-use Rattle.macro_cells.specs.LayoutOfKit.{layout_kit}
+use Rattle.floorplan.specs.LayoutOfKit.{layout_kit}
 use Rattle.port_data.proofs.top.top_pins.Goals as goal
 
 pub returns : goal.returns

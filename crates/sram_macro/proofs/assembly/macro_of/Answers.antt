@@ -4,11 +4,11 @@ use Rattle.std.specs.List.{AllByRecursion}
 use Rattle.tech_rules.specs.declared.tech.Layer.{Layer}
 use Rattle.sram_plan.specs.View.{IsView}
 use Rattle.sram_plan.specs.PlanNumbers.{organization}
-use Rattle.macro_cells.specs.LayoutOfKit.{layout_kit}
+use Rattle.floorplan.specs.LayoutOfKit.{layout_kit}
 use Rattle.std.proofs.lemmas.Option.{same_Some}
 use Rattle.tech_rules.specs.declared.tech.Wire.{Wire}
 use Rattle.macro_layout.specs.Floorplan.{IsFloorplan}
-use Rattle.macro_wires.specs.FloorplanNumbers.{floorplan_of}
+use Rattle.floorplan.specs.FloorplanNumbers.{floorplan_of}
 use Rattle.sram_macro.specs.View.{macro_view}
 use Rattle.sram_macro.specs.Macro.{AreWiresOf, macro_bits}
 use Rattle.sram_plan.specs.declared.view.SignalPin.{SignalPin}

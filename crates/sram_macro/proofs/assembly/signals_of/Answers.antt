@@ -2,7 +2,7 @@
 use Rattle.std.proofs.Common.{◌≡◌, ℕ, pos, List, sym, subst, ◌∙◌}
 use Rattle.std.specs.List.{AllByRecursion}
 use Rattle.sram_plan.specs.PlanNumbers.{organization}
-use Rattle.macro_cells.specs.LayoutOfKit.{layout_kit}
+use Rattle.floorplan.specs.LayoutOfKit.{layout_kit}
 use Rattle.sram_macro.specs.Signals.{IsWritablePin, AreOnTracks, signal_names, input_count, signals_on_tracks}
 use Rattle.sram_macro.proofs.LabelFacts.{signals_are_writable}
 use Rattle.sram_macro.proofs.AssemblyLaws.{on_tracks}

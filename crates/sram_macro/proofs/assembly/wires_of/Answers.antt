@@ -6,8 +6,8 @@ use Rattle.tech_rules.specs.declared.tech.Wire.{Wire}
 use Rattle.cell_builder.specs.declared.cell.PlacedLabel.{PlacedLabel}
 use Rattle.cell_builder.specs.Writable.{IsWritableText}
 use Rattle.sram_plan.specs.PlanNumbers.{organization}
-use Rattle.macro_cells.specs.LayoutOfKit.{layout_kit}
-use Rattle.macro_wires.specs.FloorplanNumbers.{floorplan_of}
+use Rattle.floorplan.specs.LayoutOfKit.{layout_kit}
+use Rattle.floorplan.specs.FloorplanNumbers.{floorplan_of}
 use Rattle.or_geom.specs.declared.shape.Shape.{Shape}
 use Rattle.macro_layout.specs.Floorplan.{IsFloorplan}
 use Rattle.bank_layout.specs.Near.{IsDrawableWire}

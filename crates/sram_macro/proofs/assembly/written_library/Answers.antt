@@ -1,7 +1,7 @@
 -- By the laws of libraries.
 use Rattle.std.proofs.Common.{refl}
 use Rattle.sram_plan.specs.PlanNumbers.{organization}
-use Rattle.macro_cells.specs.LayoutOfKit.{layout_kit}
+use Rattle.floorplan.specs.LayoutOfKit.{layout_kit}
 use Rattle.sram_macro.specs.Library.{macro_list, drawing_with}
 use Rattle.port_lists.specs.Held.{held_of}
 use Rattle.sram_macro.specs.Macro.{macro_bits, names_of_macro}

@@ -4,7 +4,7 @@ use Rattle.std.proofs.lemmas.Int.{ints}
 use Rattle.tech_rules.specs.Drawing.{pitch}
 use Rattle.sram_plan.specs.PlanNumbers.{numbers_of, organization}
 use Rattle.port_lists.proofs.NumberLaws.{banks_are}
-use Rattle.macro_wires.specs.FloorplanNumbers.{floorplan_of, IsUpTo}
+use Rattle.floorplan.specs.FloorplanNumbers.{floorplan_of, IsUpTo}
 use Rattle.sram_macro.proofs.ExtentLaws.{trunk_is, bank_end_is, bank_end_near, few_banks, some_banks, first_width, kept}
 use Rattle.sram_macro.proofs.extents.extents_of.Goals as goal
 

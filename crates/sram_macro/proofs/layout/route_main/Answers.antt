@@ -1,7 +1,7 @@
 -- The main channel, routed.
 use Rattle.tech_rules.specs.declared.route.RouteFault.{RouteFault}
 use Rattle.sram_plan.specs.PlanNumbers.{organization}
-use Rattle.macro_cells.specs.LayoutOfKit.{layout_kit}
+use Rattle.floorplan.specs.LayoutOfKit.{layout_kit}
 use Rattle.sram_macro.specs.Layout.{IsMainOf}
 use Rattle.sram_macro.proofs.LayoutLaws.{stands_across, main_routed, main_fault, err_as}
 use Rattle.sram_macro.proofs.layout.route_main.Goals as goal

@@ -2,7 +2,7 @@
 use Rattle.std.proofs.Common.{◌∙◌, arith}
 use Rattle.sram_plan.specs.PlanNumbers.{organization}
 use Rattle.macro_layout.specs.Wires.{IsPowerWire, IsGroundWire}
-use Rattle.macro_wires.specs.FloorplanNumbers.{floorplan_of}
+use Rattle.floorplan.specs.FloorplanNumbers.{floorplan_of}
 use Rattle.sram_macro.proofs.ExtentLaws.{kept}
 use Rattle.sram_macro.proofs.LayoutLaws.{both_added, begun_as}
 use Rattle.sram_macro.proofs.layout.top_wires.Goals as goal

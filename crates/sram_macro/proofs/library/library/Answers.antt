@@ -1,18 +1,22 @@
 -- Three cells more, and the library of all.
-use Rattle.std.proofs.Common.{ap, subst, sym, ◌∙◌, arith}
+use Rattle.std.proofs.Common.{[], ap, subst, sym, ◌∙◌, arith}
 use Rattle.std.specs.List.{AllByRecursion}
 use Rattle.cell_builder.specs.CellList.{CellList}
 use Rattle.cell_builder.specs.Flat.{HasLayers}
 use Rattle.cell_builder.specs.Finish.{IsLibraryOf}
 use Rattle.sram_plan.specs.PlanNumbers.{organization}
-use Rattle.macro_cells.specs.LayoutOfKit.{layout_kit}
+use Rattle.floorplan.specs.LayoutOfKit.{layout_kit}
 use Rattle.macro_layout.specs.Cells.{bank_cell, logic_row_cell, macro_cell}
-use Rattle.macro_wires.specs.FloorplanNumbers.{floorplan_of}
+use Rattle.floorplan.specs.FloorplanNumbers.{floorplan_of}
 use Rattle.sram_macro.specs.Library.{part_cells, macro_list, drawing_with}
 use Rattle.port_lists.specs.Held.{held_of}
 use Rattle.sram_macro.specs.Macro.{macro_bits}
-use Rattle.sram_macro.proofs.LibraryLaws.{three_more, all_cells, few_parts, one_longer, still_adopted, now_adopted, list_is, on_layers}
+use Rattle.sram_macro.proofs.LibraryLaws.{three_more, all_cells, few_parts, still_adopted, now_adopted, same_cells, list_is, on_layers}
+use Rattle.bitcell_array.proofs.RowLaws.{one_longer}
 use Rattle.sram_macro.proofs.library.library.Goals as goal
+
+pub draw_parts-requires-clause-none : goal.draw_parts-requires-clause-none
+draw_parts-requires-clause-none c = same_cells _ _ c.args.kit.now.lib.structs [] (ap (λ (l : CellList). l.cells) c.in_ok-cells.ensures) c.in_ok-adopt.ensures.ok
 
 pub draw-requires : goal.draw-requires
 draw-requires c =

@@ -1,0 +1,9 @@
+pub mod CountLaws
+pub mod FloorplanLaws
+pub mod JoinerLaws
+pub mod BarLaws
+pub mod SupplyLaws
+pub mod SideLaws
+pub mod PlaceLaws
+pub mod DemandLaws
+pub mod UprightLaws

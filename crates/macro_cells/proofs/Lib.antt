@@ -1,4 +1,0 @@
-pub mod SideLaws
-pub mod PlaceLaws
-pub mod DemandLaws
-pub mod UprightLaws

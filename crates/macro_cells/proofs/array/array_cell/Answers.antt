@@ -1,6 +1,0 @@
--- The instances are those that are stated.
-use Rattle.macro_cells.proofs.PlaceLaws.{cell_from_none}
-use Rattle.macro_cells.proofs.array.array_cell.Goals as goal
-
-pub returns : goal.returns
-returns c = cell_from_none _ _ _ _ _ c.in_ok-bare_cell.ensures c.new-instances.ensures.items c.in_ok-add_rows.ensures

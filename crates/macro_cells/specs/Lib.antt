@@ -1,3 +1,0 @@
-pub mod LeafSides
-pub mod LayoutOfKit
-pub mod Demanded

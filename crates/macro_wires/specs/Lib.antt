@@ -1,5 +1,0 @@
-pub mod Sides
-pub mod FloorplanNumbers
-pub mod Lowered
-pub mod Bars
-pub mod Trunks

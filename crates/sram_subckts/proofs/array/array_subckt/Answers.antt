@@ -1,6 +1,0 @@
--- The name, the ports and the instances are those that are stated.
-use Rattle.sram_subckts.proofs.SubcktLaws.{made_same, from_none}
-use Rattle.sram_subckts.proofs.array.array_subckt.Goals as goal
-
-pub returns : goal.returns
-returns c roles = made_same c.subckt_of.result _ _ _ _ _ _ c.subckt_of.ensures c.in_ok-part_name.ensures c.in_ok-ports.ensures (from_none _ _ _ (c.in_ok-add_rows.ensures roles) c.new-instances.ensures.items)
