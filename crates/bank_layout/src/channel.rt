@@ -1,4 +1,4 @@
-ghost use Rattle.std.specs.Prelude.{◌≡◌, ◌^◌, pos, OnOk, Contains};
+ghost use Rattle.std.specs.Prelude.{◌^◌, pos, OnOk, Contains};
 ghost use Rattle.or_geom.specs.declared.shape.Shape.{Shape};
 ghost use Rattle.or_geom.specs.Adds.{Adds};
 ghost use Rattle.or_geom.specs.Gathering.{SomeGives};

@@ -1,9 +1,7 @@
 ghost use Rattle.std.specs.Prelude.{◌≡◌, ◌++◌, List, codes, IfOk, OnOk};
-ghost use Rattle.std.specs.List.{AllByRecursion};
-ghost use Rattle.sram_netlist.specs.InstanceList.{tabulate};
 ghost use Rattle.sram_netlist.specs.Numbers.{ArePlanNumbers};
 ghost use Rattle.sram_plan.specs.PlanNumbers.{numbers_of, organization};
-ghost use Rattle.sram_deck.specs.Deck.{made_subckt, array_ports, array_row, array_instances, pre_ports, pre_column};
+ghost use Rattle.sram_deck.specs.Deck.{made_subckt, array_ports, array_row, array_instances, pre_ports};
 ghost use Rattle.sram_deck.specs.Deck.{pre_instances};
 ghost use Rattle.tech_rules.specs.declared.tech.RoleName.{RoleName};
 ghost use Rattle.port_lists.specs.Cells.{cell_in};

@@ -1,4 +1,4 @@
-ghost use Rattle.std.specs.Prelude.{◌≡◌, ◌≤◌, ◌+◌, ◌*◌, ◌++◌, ℕ, List, pos, ◌+ℤ◌, IfOk, OnOk};
+ghost use Rattle.std.specs.Prelude.{◌≡◌, ◌≤◌, ◌+◌, ◌*◌, ◌++◌, ℕ, pos, ◌+ℤ◌, IfOk, OnOk};
 ghost use Rattle.or_geom.specs.Distance.{IsReachable};
 ghost use Rattle.leaf_tables.specs.Kits.{IsKit};
 ghost use Rattle.leaf_tables.specs.declared.part.Edge.{Edge};

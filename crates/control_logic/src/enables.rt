@@ -2,7 +2,7 @@ ghost use Rattle.std.specs.Prelude.{◌≡◌, ◌++◌, ◌∷◌, [], ◌≤�
 ghost use Rattle.sram_netlist.specs.Organization.{power_of_two};
 ghost use Rattle.sram_netlist.specs.Netlist.{enable_inputs, enables_of, bank_input, mask_input};
 ghost use Rattle.sram_netlist.specs.Names.{net_name};
-ghost use Rattle.sram_netlist.specs.Instances.{Gn, Gi};
+ghost use Rattle.sram_netlist.specs.Instances.{Gn};
 ghost use Rattle.sram_netlist.specs.InstanceList.{tabulate_lists, bank_cells, banks_cells, enable_gates, enable_cells};
 ghost use Rattle.sram_netlist.specs.Numbers.{ArePlanNumbers};
 ghost use Rattle.sram_plan.specs.PlanNumbers.{numbers_of, organization};

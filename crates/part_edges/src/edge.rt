@@ -1,4 +1,4 @@
-ghost use Rattle.std.specs.Prelude.{◌≡◌, IfOk, IsPermutation, IsSorted};
+ghost use Rattle.std.specs.Prelude.{◌≡◌};
 ghost use Rattle.part_edges.specs.PartPins.{edge_at, edge_order, AreInOrder};
 
 use leaf_tables::Edge;

@@ -6,7 +6,7 @@ ghost use Rattle.cell_roles.specs.Roles.{role_ports};
 ghost use Rattle.leaf_shapes.specs.Demands.{plain_demand};
 ghost use Rattle.leaf_tables.specs.Kits.{IsKit};
 ghost use Rattle.part_edges.specs.PartPins.{placed_pin, port_place, net_of, side_pins, leaf_pins, part_pins, edges_at};
-ghost use Rattle.part_edges.specs.PartPins.{AreInOrder, AreEdgesOf};
+ghost use Rattle.part_edges.specs.PartPins.{AreEdgesOf};
 
 use crate::edge::{edge_at, sorted_edges};
 use crate::side::{Side, is_at_side};

@@ -1,4 +1,4 @@
-ghost use Rattle.std.specs.Prelude.{◌≡◌, ◌↔◌, IsTrue};
+ghost use Rattle.std.specs.Prelude.{◌≡◌};
 ghost use Rattle.leaf_shapes.specs.declared.fit.Fit.{Fit};
 ghost use Rattle.part_edges.specs.PartPins.{is_at_side, reaches};
 

@@ -1,4 +1,4 @@
-ghost use Rattle.std.specs.Prelude.{◌≡◌, ◌<◌, ◌≤◌, ◌*◌, ◌^◌, ◌++◌, ℕ, length, pos, ◌-ℤ◌, ◌≤ℤ◌, Some, IfOk, IfErr, OnOk};
+ghost use Rattle.std.specs.Prelude.{◌≡◌, ◌<◌, ◌≤◌, ◌*◌, ◌^◌, ◌++◌, ℕ, length, pos, ◌≤ℤ◌, Some, IfOk, IfErr, OnOk};
 ghost use Rattle.std.specs.Prelude.{OnErr};
 ghost use Rattle.std.specs.List.{AllByRecursion};
 ghost use Rattle.or_geom.specs.Place.{IsNearPoint};
@@ -12,7 +12,6 @@ ghost use Rattle.port_lists.specs.Cells.{cell_in};
 ghost use Rattle.macro_layout.specs.Places.{Floorplan, bit_width};
 ghost use Rattle.macro_layout.specs.Floorplan.{IsFloorplan, column_role};
 ghost use Rattle.floorplan.specs.LayoutOfKit.{layout_kit};
-ghost use Rattle.floorplan.specs.Sides.{AreSidesOf};
 ghost use Rattle.part_edges.specs.Additions.{with_subckt};
 ghost use Rattle.part_edges.specs.PartPins.{part_pins, AreEdgesOf};
 ghost use Rattle.port_data.specs.DataPart.{data_part_subckt, data_roles, IsDataDrawn, IsDataBuilt, IsDataRefused};

@@ -1,4 +1,4 @@
-ghost use Rattle.std.specs.Prelude.{◌≡◌, ◌≤◌, ◌*◌, ℕ, IfOk, IfErr, IsTrue, ◌<◌, ◌↔◌};
+ghost use Rattle.std.specs.Prelude.{◌≡◌, ◌*◌, IfOk, IfErr, ◌<◌};
 ghost use Rattle.cell_roles.specs.declared.role.Role.TheVariants.{Bitcell, Sense, Write};
 ghost use Rattle.cell_roles.specs.Roles.{role_name};
 ghost use Rattle.leaf_tables.specs.Kits.{IsKit};
@@ -6,7 +6,7 @@ ghost use Rattle.sram_netlist.specs.Organization.{words_per_row};
 ghost use Rattle.sram_netlist.specs.Numbers.{ArePlanNumbers};
 ghost use Rattle.sram_plan.specs.PlanNumbers.{numbers_of, organization};
 ghost use Rattle.floorplan.specs.LayoutOfKit.{layout_kit};
-ghost use Rattle.port_data.specs.Column.{IsNarrowFault, AreWideSlices, IsTooWide};
+ghost use Rattle.port_data.specs.Column.{IsNarrowFault, AreWideSlices};
 
 use cell_roles::Role;
 use floorplan::leaf_width;

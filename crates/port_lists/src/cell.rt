@@ -1,4 +1,4 @@
-ghost use Rattle.std.specs.Prelude.{◌≡◌, ◌++◌, map, codes, IfOk};
+ghost use Rattle.std.specs.Prelude.{◌≡◌, ◌++◌, map, IfOk};
 ghost use Rattle.cell_roles.specs.Roles.{supplies};
 ghost use Rattle.sram_deck.specs.Deck.{subckt_instance, made_subckt};
 ghost use Rattle.port_lists.specs.Cells.{cell_in, fixed_cell_in, named_cell};

@@ -1,4 +1,4 @@
-ghost use Rattle.std.specs.Prelude.{◌≡◌, ◌++◌, ◌∷◌, ◌≤◌, [], map, IfOk, OnOk};
+ghost use Rattle.std.specs.Prelude.{◌≡◌, ◌++◌, ◌∷◌, ◌≤◌, [], map, OnOk};
 ghost use Rattle.sram_netlist.specs.Organization.{Organization};
 ghost use Rattle.sram_netlist.specs.Instances.{Pn, Pi};
 ghost use Rattle.sram_netlist.specs.Netlist.{picks, lowest_bit, gate_of};
