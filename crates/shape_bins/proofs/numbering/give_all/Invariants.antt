@@ -7,7 +7,7 @@ abbrev pub invariant-loop-at : goal.invariant-loop-at
 invariant-loop-at l = record {
   within : l.at ≤ length l.nodes;
   full : AreFull l.nodes l.given l.full;
-  given : IsGivenBefore l.nodes l.layer l.query l.number l.at l.fn.given l.given l.fn.out.items l.out.items;
+  given : IsGivenBefore l.nodes l.layer l.fn.query l.number l.at l.fn.given l.given l.fn.out.items l.out.items;
 }
 
 abbrev pub decreases-loop-at : goal.decreases-loop-at
