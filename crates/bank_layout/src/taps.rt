@@ -85,8 +85,7 @@ fn choice_tap(rail: u32, low: i64, track: u32, wire: &Wire) -> Tap
     ensures { result ≡ record {
       rail = rail;
       y = low +ℤ channel_height wire.now track;
-      end = rail_x wire.now rail +ℤ
-          wire.now.width;
+      end = rail_x wire.now rail +ℤ wire.now.width;
     } }
 {
     Tap {

@@ -1,7 +1,9 @@
-//! Laws of what there is: each channel has a routing, any numbers have a lowest close two or none, and rails have their shapes.
+//! Laws of what there is: each channel has a routing, any numbers have a lowest close two or none, and rails have their
+//! shapes.
 #![tactic(auto)]
 
-ghost use Rattle.channel_answers.specs.Answers.{ChannelsAreRouted, ClosePinsAreFound, CloseNumbersAreFound, RailsHaveShapes};
+ghost use Rattle.channel_answers.specs.Answers.{ChannelsAreRouted, ClosePinsAreFound, CloseNumbersAreFound};
+ghost use Rattle.channel_answers.specs.Answers.{RailsHaveShapes};
 
 /// Each channel has a routing, with as many tracks as nets at most.
 pub fn channels_are_routed()

@@ -1,5 +1,5 @@
-//! The floorplan of a memory, the joiners of its banks, and its supply wires; and the sides and places of the leaf cells
-//! on it.
+//! The floorplan of a memory, the joiners of its banks, and its supply wires; and the sides and places of its leaf
+//! cells.
 #![tactic(auto)]
 
 mod counts;

@@ -10,8 +10,8 @@ use port_lists::cell_names;
 use spice_netlist::{FlatFault, flat_rows};
 use std::alloc::Global;
 
-/// The flat rows of a macro's netlist. Its subcircuits, `made`, stand behind those of the kit, so that both together are
-/// whole; leaves are the cells of the roles.
+/// The flat rows of a macro's netlist. Its subcircuits, `made`, stand behind those of the kit, so that both together
+/// are whole; leaves are the cells of the roles.
 pub fn rows_of(alloc: Global, kit: &Kit, name: &Name, made: &Deck) -> Result<Rows, Memory>
     requires { HasFlatRows kit.now name.now made.now }
     ensures { IfOk result (λ rows. AreFlatRows (subckts_with kit.now made.now) name.now

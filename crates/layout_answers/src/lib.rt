@@ -1,4 +1,5 @@
-//! Laws of layouts: a structure of a library has a report, nets and a comparison with rows, or a reason why it has no flat layout.
+//! Laws of layouts: a structure of a library has a report, nets and a comparison with rows, or a reason why it has no
+//! flat layout.
 #![tactic(auto)]
 
 ghost use Rattle.layout_answers.specs.LayoutAnswers.{LayoutsHaveComparisons, LayoutsHaveNets, LayoutsHaveReports};

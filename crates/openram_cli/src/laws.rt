@@ -13,8 +13,8 @@ pub fn layouts_have_outcomes()
     reports_are_there();
 }
 
-/// A law for readers: over files of bytes what a command reads has an outcome, and words of any command but `kit` and those
-/// that build a memory, and words that are no command, have an answer.
+/// A law for readers: over files of bytes what a command reads has an outcome, and words of any command but `kit` and
+/// those that build a memory, and words that are no command, have an answer.
 pub fn answers_are_there()
     ensures inputs { InputsHaveOutcomes }
     ensures answers { AnswersAreThere }

@@ -76,7 +76,8 @@ struct PlacedLeaf {
     place: Place,
 }
 
-/// Adds the edges of a leaf cell's pins at a side, where these are demanded of them. The cell has its ports on the nets.
+/// Adds the edges of a leaf cell's pins at a side, where these are demanded of them. The cell has its ports on the
+/// nets.
 fn add_side_edges(
     alloc: Global,
     leaf: PlacedLeaf,
