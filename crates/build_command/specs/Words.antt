@@ -51,12 +51,12 @@ abbrev pub told_form : FormWords → List ℕ
 told_form form = form.object.now
 
 abbrev pub told_files : RomForm → RomFiles
-told_files form = record { config = form.config.now; content = form.content.now }
+told_files form = record { config = form.files.config.now; content = form.files.content.now }
 
 abbrev pub told_request : Asked → Making
 told_request (asked.Build config) = build config.now
 told_request (asked.Demo number) = demo number
-told_request (asked.Rom config content) = rom config.now content.now
+told_request (asked.Rom files) = rom files.config.now files.content.now
 
 -- how many workers may do it is no part of what is asked
 abbrev pub told_making : declared.Making → Making

@@ -16,8 +16,7 @@ ghost use Rattle.build_command.specs.Made.{order_of_rom, IsOrderMade};
 use crate::design::Design;
 use crate::rom_design::RomDesign;
 use crate::success::success_line;
-use leaf_tables::Kit;
-use macro_build::{BuildFault, Built, build};
+use macro_build::{BuildFault, Built, Order, build};
 use or_geom::{Items, Memory, Name};
 use or_host::MemFile;
 use port_lists::Contents;
@@ -111,33 +110,38 @@ fn refusal_in(layers: Items<Layer>, fault: BuildFault) -> Refusal
     }
 }
 
-/// Builds the memory of a configuration, a kit, a plan and contents, and makes all that is written and printed of it.
+/// Builds the memory of a design that holds these contents, and makes all that is written and printed of it.
 fn make_ordered<R: Threads + Sync, G: Gate + Sync>(
     rt: &R,
     alloc: Global,
     gate: &G,
-    config: &Config,
-    kit: Kit,
-    plan: &Plan,
+    design: Design,
     contents: Contents<'_>,
     workers: u8,
 ) -> Result<Made, Refusal>
-    requires config { IsConfig config.now }
-    requires kit { IsKit kit }
-    requires plan { ArePlanNumbers (numbers_of plan.now) }
-    requires held { FitsPlan plan.now (held_of contents) }
-    requires cells { HasCellsFor kit (held_of contents) }
+    requires config { IsConfig design.config }
+    requires kit { IsKit design.kit }
+    requires plan { ArePlanNumbers (numbers_of design.plan) }
+    requires held { FitsPlan design.plan (held_of contents) }
+    requires cells { HasCellsFor design.kit (held_of contents) }
     requires some { 0 < workers }
     requires at_most { workers ≤ 64 }
-    ensures made { UnlessMemory (IsOrderMade (ordered config.now kit plan.now (held_of contents.entry))) result }
+    ensures made { UnlessMemory (IsOrderMade
+        (ordered design.config design.kit design.plan (held_of contents.entry))) result }
     ensures names { IfOk result (λ made. HaveAsciiNames made.views) }
     ensures done { IfOk result (λ made. made.reply.status ≡ 0) }
     ensures read { is_read_failed result ≡ false }
     ensures words { is_usage_outcome result ≡ false }
 {
-    let name = &config.output_name;
-    match build(rt, alloc, gate, &kit, plan, name, contents, workers) {
-        Ok(built) => Ok(made_of(alloc, config, plan, built)?),
+    let Design { config, plan, kit } = design;
+    let order = Order {
+        kit: &kit,
+        plan: &plan,
+        name: &config.output_name,
+        contents,
+    };
+    match build(rt, alloc, gate, &order, workers) {
+        Ok(built) => Ok(made_of(alloc, &config, &plan, built)?),
         Err(fault) => {
             let tech = kit.tech;
             Err(refusal_in(tech.layers, fault))
@@ -162,9 +166,7 @@ pub fn make_design<R: Threads + Sync, G: Gate + Sync>(
     ensures read { is_read_failed result ≡ false }
     ensures words { is_usage_outcome result ≡ false }
 {
-    let Design { config, plan, kit } = design;
-    let contents = Contents::Stored;
-    make_ordered(rt, alloc, gate, &config, kit, &plan, contents, workers)
+    make_ordered(rt, alloc, gate, design, Contents::Stored, workers)
 }
 
 /// Builds the read-only memory of a design and words.
@@ -187,6 +189,7 @@ pub fn make_rom<R: Threads + Sync, G: Gate + Sync>(
     let RomDesign { design, words } = rom;
     let Design { config, plan, kit } = design;
     let plan = read_only(&plan);
+    let design = Design { config, plan, kit };
     let contents = Contents::Fixed(words.as_slice());
-    make_ordered(rt, alloc, gate, &config, kit, &plan, contents, workers)
+    make_ordered(rt, alloc, gate, design, contents, workers)
 }

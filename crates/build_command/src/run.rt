@@ -13,7 +13,7 @@ use crate::demo_files::demo_files;
 use crate::design::read_design;
 use crate::made::{Made, make_design, make_rom};
 use crate::rom_design::read_rom;
-use crate::words::{Asked, Making};
+use crate::words::{Asked, Making, RomFiles};
 use command_steps::{finish, finish_unwritten, no_memory, refuse, write_files};
 use or_host::{MemFile, Sink, Store, SureStore};
 use reply_lines::Refusal;
@@ -46,20 +46,19 @@ fn work_on_rom<R: Threads + Sync, G: Gate + Sync, S: Store>(
     rt: &R,
     alloc: Global,
     gate: &G,
-    config: &str,
-    content: &str,
+    asked: RomFiles<'_>,
     workers: u8,
     store: &mut S,
 ) -> Result<Made, Refusal>
     requires some { 0 < workers }
     requires at_most { workers ≤ 64 }
-    ensures read { HasRead (λ files. IsRomWork files config.now content.now) result (S.state store.old)
-        (S.state store.new) }
+    ensures read { HasRead (λ files. IsRomWork files asked.entry.config.now asked.entry.content.now) result
+        (S.state store.old) (S.state store.new) }
     ensures names { IfOk result (λ made. HaveAsciiNames made.views) }
     ensures done { IfOk result (λ made. made.reply.status ≡ 0) }
     ensures words { is_usage_outcome result ≡ false }
 {
-    let memory = read_rom(alloc, config, content, store)?;
+    let memory = read_rom(alloc, asked.config, asked.content, store)?;
     make_rom(rt, alloc, gate, memory, workers)
 }
 
@@ -121,18 +120,17 @@ fn build_rom<R: Threads + Sync, G: Gate + Sync, S: Store, K: Sink>(
     rt: &R,
     alloc: Global,
     gate: &G,
-    config: &str,
-    content: &str,
+    asked: RomFiles<'_>,
     workers: u8,
     store: &mut S,
     out: &mut K,
 ) -> u8
     requires some { 0 < workers }
     requires at_most { workers ≤ 64 }
-    ensures { IsMakingRun (rom config.now content.now) result (outside_at (S.state store.old) (K.state out.old))
-        (outside_at (S.state store.new) (K.state out.new)) }
+    ensures { IsMakingRun (rom asked.entry.config.now asked.entry.content.now) result
+        (outside_at (S.state store.old) (K.state out.old)) (outside_at (S.state store.new) (K.state out.new)) }
 {
-    match work_on_rom(rt, alloc, gate, config, content, workers, store) {
+    match work_on_rom(rt, alloc, gate, asked, workers, store) {
         Ok(made) => put_out(alloc, &made, store, out),
         Err(refusal) => refuse(alloc, &refusal, out),
     }
@@ -221,8 +219,6 @@ pub fn make<R: Threads + Sync, G: Gate + Sync, S: Store, K: Sink>(
     match making.asked {
         Asked::Build { config } => build_from(rt, alloc, gate, config, making.workers, store, out),
         Asked::Demo { number } => demonstrate(rt, alloc, gate, number, making.workers, store, out),
-        Asked::Rom { config, content } => {
-            build_rom(rt, alloc, gate, config, content, making.workers, store, out)
-        }
+        Asked::Rom(files) => build_rom(rt, alloc, gate, files, making.workers, store, out),
     }
 }

@@ -15,11 +15,17 @@ struct FormWords<'a> {
     workers: u8,
 }
 
-/// The files of a read-only memory's configuration and of its words, and how many workers may do it.
+/// The files of a read-only memory's configuration and of its words.
+#[derive(Clone, Copy)]
+pub struct RomFiles<'a> {
+    pub config: &'a str,
+    pub content: &'a str,
+}
+
+/// They, and how many workers may do it.
 #[derive(Clone, Copy)]
 struct RomForm<'a> {
-    config: &'a str,
-    content: &'a str,
+    files: RomFiles<'a>,
     workers: u8,
 }
 
@@ -38,7 +44,7 @@ pub enum Asked<'a> {
     /// The demonstration with a number: `demo N WORKERS`.
     Demo { number: u16 },
     /// The read-only memory of a configuration and of the words of a data file: `rom CONFIG DATA WORKERS`.
-    Rom { config: &'a str, content: &'a str },
+    Rom(RomFiles<'a>),
 }
 
 fn is_build(command: &String) -> bool
@@ -112,12 +118,11 @@ fn rom_form_words(words: &[String]) -> Option<RomForm<'_>>
             let Some(workers) = workers_in(workers) else {
                 return None;
             };
-            let (config, content) = (config.as_str(), content.as_str());
-            Some(RomForm {
-                config,
-                content,
-                workers,
-            })
+            let files = RomFiles {
+                config: config.as_str(),
+                content: content.as_str(),
+            };
+            Some(RomForm { files, workers })
         }
         _ => None,
     }
@@ -154,12 +159,8 @@ pub fn making_in(words: &[String]) -> Option<Making<'_>>
         });
     }
     if let Some(form) = rom_form_words(words) {
-        let asked = Asked::Rom {
-            config: form.config,
-            content: form.content,
-        };
         return Some(Making {
-            asked,
+            asked: Asked::Rom(form.files),
             workers: form.workers,
         });
     }

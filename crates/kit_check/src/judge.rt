@@ -104,81 +104,79 @@ fn differs<'b, R: Threads + Sync>(
 }
 
 /// Whether a loose shape of a leaf cell touches a shape outside of its instance.
-fn touches_outside<'b>(
+fn touches_outside<'b, M: Maker>(
     alloc: Global,
     bump: &'b Bump,
-    kit: &Kit,
-    leaves: &[LooseLeaf],
-    name: &Name,
+    trial: &Trial<M>,
     lib: &Library,
     flat: &Flat<'b>,
     bins: &Bins<'b>,
 ) -> Result<bool, Memory>
-    requires kit { IsKit kit.now }
+    requires kit { IsKit trial.now.kit.now }
     requires writable { IsWritable lib.now }
-    requires flat { AreFlatLists kit.now.tech.layers lib.now.structs name.now (lists_of flat.now) }
+    requires flat { AreFlatLists trial.now.kit.now.tech.layers lib.now.structs trial.now.name.now (lists_of flat.now) }
     requires bins { bins.now ≡ flat.now.shapes.now }
-    requires leaves { AreLooseLeaves kit.now leaves.now }
-    ensures { IfOk result (λ found. IsTrue found ↔ TouchesOutside kit.now name.now lib.now.structs) }
+    requires leaves { AreLooseLeaves trial.now.kit.now trial.now.leaves.now }
+    ensures { IfOk result (λ found. IsTrue found
+        ↔ TouchesOutside trial.now.kit.now trial.now.name.now lib.now.structs) }
 {
-    has_loose_contact(alloc, bump, &kit.tech, lib, name, bins, leaves)
+    let tech = &trial.kit.tech;
+    has_loose_contact(alloc, bump, tech, lib, trial.name, bins, trial.leaves)
 }
 
 /// The number of the first fault of a flat macro.
-fn flat_fault<'b, R: Threads + Sync>(
+fn flat_fault<'b, R: Threads + Sync, M: Maker>(
     rt: &R,
     alloc: Global,
     bump: &'b Bump,
-    kit: &Kit,
-    leaves: &[LooseLeaf],
-    name: &Name,
+    trial: &Trial<M>,
     lib: &Library,
     deck: &Deck,
     flat: &Flat<'b>,
 ) -> Result<Option<u32>, Memory>
-    requires kit { IsKit kit.now }
-    requires made { IsGoodMacro kit.now name.now lib.now deck.now }
-    requires leaves { AreLooseLeaves kit.now leaves.now }
-    requires flat { AreFlatLists kit.now.tech.layers lib.now.structs name.now (lists_of flat.now) }
+    requires kit { IsKit trial.now.kit.now }
+    requires made { IsGoodMacro trial.now.kit.now trial.now.name.now lib.now deck.now }
+    requires leaves { AreLooseLeaves trial.now.kit.now trial.now.leaves.now }
+    requires flat { AreFlatLists trial.now.kit.now.tech.layers lib.now.structs trial.now.name.now (lists_of flat.now) }
     requires rises { IsStrictlySortedBy shape_order flat.now.shapes.now }
     requires reach { AreReachable flat.now.shapes.now }
     requires few { length flat.now.shapes.now ≤ 16777216 }
     requires few_labels { length flat.now.labels.now ≤ 2 ^ 22 }
-    ensures { IfOk result (λ found. MatchOption found (IsFaultlessMacro kit.now name.now lib.now deck.now)
-        (IsMacroFaultNumber kit.now name.now lib.now deck.now)) }
+    ensures { IfOk result (λ found. MatchOption found
+        (IsFaultlessMacro trial.now.kit.now trial.now.name.now lib.now deck.now)
+        (IsMacroFaultNumber trial.now.kit.now trial.now.name.now lib.now deck.now)) }
 {
     let bins = index(alloc, bump, flat)?;
-    if breaks_rule(rt, alloc, kit, flat, &bins)? {
+    if breaks_rule(rt, alloc, trial.kit, flat, &bins)? {
         return Ok(Some(81));
     }
-    if differs(rt, alloc, kit, name, deck, flat, &bins)? {
+    if differs(rt, alloc, trial.kit, trial.name, deck, flat, &bins)? {
         return Ok(Some(82));
     }
-    if touches_outside(alloc, bump, kit, leaves, name, lib, flat, &bins)? {
+    if touches_outside(alloc, bump, trial, lib, flat, &bins)? {
         return Ok(Some(83));
     }
     Ok(None)
 }
 
 /// The number of the first fault of a made macro.
-fn macro_fault<R: Threads + Sync>(
+fn macro_fault<R: Threads + Sync, M: Maker>(
     rt: &R,
     alloc: Global,
-    kit: &Kit,
-    leaves: &[LooseLeaf],
-    name: &Name,
+    trial: &Trial<M>,
     lib: &Library,
     deck: &Deck,
 ) -> Result<Option<u32>, Memory>
-    requires kit { IsKit kit.now }
-    requires made { IsGoodMacro kit.now name.now lib.now deck.now }
-    requires leaves { AreLooseLeaves kit.now leaves.now }
-    ensures { IfOk result (λ found. MatchOption found (IsFaultlessMacro kit.now name.now lib.now deck.now)
-        (IsMacroFaultNumber kit.now name.now lib.now deck.now)) }
+    requires kit { IsKit trial.now.kit.now }
+    requires made { IsGoodMacro trial.now.kit.now trial.now.name.now lib.now deck.now }
+    requires leaves { AreLooseLeaves trial.now.kit.now trial.now.leaves.now }
+    ensures { IfOk result (λ found. MatchOption found
+        (IsFaultlessMacro trial.now.kit.now trial.now.name.now lib.now deck.now)
+        (IsMacroFaultNumber trial.now.kit.now trial.now.name.now lib.now deck.now)) }
 {
     let bump = Bump::new(alloc);
-    match flat_of(alloc, &bump, kit, name, lib) {
-        Ok(flat) => flat_fault(rt, alloc, &bump, kit, leaves, name, lib, deck, &flat),
+    match flat_of(alloc, &bump, trial.kit, trial.name, lib) {
+        Ok(flat) => flat_fault(rt, alloc, &bump, trial, lib, deck, &flat),
         Err(FlattenFault::TooDeep { .. }) => Ok(Some(33)),
         Err(FlattenFault::TooMany { .. }) => Ok(Some(34)),
         Err(FlattenFault::Far { .. }) => Ok(Some(35)),
@@ -203,7 +201,7 @@ pub fn window_fault<R: Threads + Sync, M: Maker>(
 {
     let plan = plan_of(window);
     match trial.maker.make(alloc, trial.kit, &plan, trial.name) {
-        Ok((lib, deck)) => macro_fault(rt, alloc, trial.kit, trial.leaves, trial.name, &lib, &deck),
+        Ok((lib, deck)) => macro_fault(rt, alloc, trial, &lib, &deck),
         Err(PartFault::Close { .. }) => Ok(Some(71)),
         Err(PartFault::TapsClose { .. }) => Ok(Some(72)),
         Err(PartFault::SliceTooNarrow { .. }) => Ok(None),

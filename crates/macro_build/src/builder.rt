@@ -9,13 +9,10 @@ ghost use Rattle.macro_build.specs.Built.{IsBuilt, IsBuildFault};
 ghost use Rattle.macro_build.specs.Memory.{FitsPlan};
 
 use crate::built::{BuildFault, Built};
+use crate::order::Order;
 use crate::sound::check_sound;
 use crate::views::views;
-use leaf_tables::Kit;
-use or_geom::Name;
-use port_lists::Contents;
 use sram_macro::assemble_with;
-use sram_plan::Plan;
 use std::alloc::Global;
 use std::thread::Threads;
 use tile_checker::Gate;
@@ -30,23 +27,22 @@ pub fn build<R: Threads + Sync, G: Gate + Sync>(
     rt: &R,
     alloc: Global,
     gate: &G,
-    kit: &Kit,
-    plan: &Plan,
-    name: &Name,
-    contents: Contents<'_>,
+    order: &Order,
     workers: u8,
 ) -> Result<Built, BuildFault>
-    requires kit { IsKit kit.now }
-    requires plan { ArePlanNumbers (numbers_of plan.now) }
-    requires name { IsTrue (is_output_name name.now) }
-    requires held { FitsPlan plan.now (held_of contents) }
-    requires cells { HasCellsFor kit.now (held_of contents) }
+    requires kit { IsKit order.now.kit.now }
+    requires plan { ArePlanNumbers (numbers_of order.now.plan.now) }
+    requires name { IsTrue (is_output_name order.now.name.now) }
+    requires held { FitsPlan order.now.plan.now (held_of order.now.contents) }
+    requires cells { HasCellsFor order.now.kit.now (held_of order.now.contents) }
     requires some { 0 < workers }
     requires at_most { workers ≤ 64 }
-    ensures built { IfOk result (IsBuilt kit.now plan.now (held_of contents.entry) name.now) }
-    ensures fault { IfErr result (IsBuildFault kit.now plan.now (held_of contents.entry) name.now) }
+    ensures built { IfOk result (IsBuilt order.now.kit.now order.now.plan.now (held_of order.now.contents)
+        order.now.name.now) }
+    ensures fault { IfErr result (IsBuildFault order.now.kit.now order.now.plan.now (held_of order.now.contents)
+        order.now.name.now) }
 {
-    let made = assemble_with(alloc, kit, plan, name, contents)?;
-    check_sound(rt, alloc, gate, kit, plan, name, contents, &made, workers)?;
-    Ok(views(alloc, kit, plan, name, contents, &made)?)
+    let made = assemble_with(alloc, order.kit, order.plan, order.name, order.contents)?;
+    check_sound(rt, alloc, gate, order, &made, workers)?;
+    Ok(views(alloc, order, &made)?)
 }

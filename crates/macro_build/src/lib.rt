@@ -5,9 +5,11 @@
 mod builder;
 mod built;
 mod counts;
+mod order;
 mod rows;
 mod sound;
 mod views;
 
 pub use builder::build;
 pub use built::{BuildFault, Built};
+pub use order::Order;

@@ -7,6 +7,7 @@ ghost use Rattle.sram_macro.specs.Macro.{IsMacro};
 ghost use Rattle.sram_macro.specs.Leaves.{leaf_names};
 ghost use Rattle.macro_build.specs.Built.{all_subckts};
 
+use crate::order::Order;
 use cell_roles::Role;
 use leaf_tables::Kit;
 use netlist::{Rows, joined_decks};
@@ -14,7 +15,6 @@ use or_geom::{Memory, Name};
 use port_lists::{Contents, cell_names, fixed_cell_of};
 use spice_netlist::{FlatFault, flat_rows};
 use sram_macro::Macro;
-use sram_plan::Plan;
 use sram_rows::rows_equal_netlist;
 use std::alloc::Global;
 
@@ -33,24 +33,18 @@ fn leaf_names(alloc: Global, kit: &Kit, contents: Contents<'_>) -> Result<Vec<Na
 
 /// The flat rows of the macro's netlist, whose subcircuits stand behind those of the kit, so that both together are
 /// whole.
-pub fn rows_of(
-    alloc: Global,
-    kit: &Kit,
-    plan: &Plan,
-    name: &Name,
-    contents: Contents<'_>,
-    made: &Macro,
-) -> Result<Rows, Memory>
-    requires plan { ArePlanNumbers (numbers_of plan.now) }
-    requires made { IsMacro kit.now plan.now (held_of contents) name.now made.now }
-    ensures { IfOk result (λ rows. AreFlatRows (all_subckts kit.now made.now) name.now
-        (leaf_names kit.now (held_of contents.entry)) rows.pins) }
+pub fn rows_of(alloc: Global, order: &Order, made: &Macro) -> Result<Rows, Memory>
+    requires plan { ArePlanNumbers (numbers_of order.now.plan.now) }
+    requires made { IsMacro order.now.kit.now order.now.plan.now (held_of order.now.contents)
+        order.now.name.now made.now }
+    ensures { IfOk result (λ rows. AreFlatRows (all_subckts order.now.kit.now made.now) order.now.name.now
+        (leaf_names order.now.kit.now (held_of order.now.contents)) rows.pins) }
 {
     // The call does nothing when the program runs: its contract is the law that no fault but want of memory comes.
     rows_equal_netlist();
-    let deck = joined_decks(alloc, &kit.deck, &made.deck)?;
-    let leaves = leaf_names(alloc, kit, contents)?;
-    match flat_rows(alloc, &deck, name, &leaves) {
+    let deck = joined_decks(alloc, &order.kit.deck, &made.deck)?;
+    let leaves = leaf_names(alloc, order.kit, order.contents)?;
+    match flat_rows(alloc, &deck, order.name, &leaves) {
         Ok(rows) => Ok(rows),
         Err(fault) => match fault {
             FlatFault::Memory => Err(Memory),

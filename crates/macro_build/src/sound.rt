@@ -13,16 +13,14 @@ ghost use Rattle.macro_build.specs.Built.{IsBuildFault, IsSoundMacro};
 ghost use Rattle.macro_build.specs.Checks.{IsFirstDiffering};
 
 use crate::built::BuildFault;
+use crate::order::Order;
 use crate::rows::rows_of;
 use bumpalo::Bump;
 use cell_hierarchy::{Flat, flatten};
-use leaf_tables::Kit;
 use net_extractor::{NetDiff, compare, extract};
-use or_geom::{Memory, Name};
-use port_lists::Contents;
+use or_geom::Memory;
 use shape_bins::{Bins, index};
 use sram_macro::Macro;
-use sram_plan::Plan;
 use std::alloc::Global;
 use std::thread::Threads;
 use tile_checker::{Gate, first_violation};
@@ -31,46 +29,44 @@ use tile_checker::{Gate, first_violation};
 fn flat_of<'b>(
     alloc: Global,
     bump: &'b Bump,
-    kit: &Kit,
-    _plan: &Plan,
-    name: &Name,
-    _contents: Contents<'_>,
+    order: &Order,
     made: &Macro,
 ) -> Result<Flat<'b>, BuildFault>
-    requires kit { IsKit kit.now }
-    requires made { IsMacro kit.now _plan.now (held_of _contents) name.now made.now }
-    ensures flat { IfOk result (λ flat. AreFlatLists kit.now.tech.layers made.now.lib.structs name.now
-        (lists_of flat)) }
+    requires kit { IsKit order.now.kit.now }
+    requires made { IsMacro order.now.kit.now order.now.plan.now (held_of order.now.contents)
+        order.now.name.now made.now }
+    ensures flat { IfOk result (λ flat. AreFlatLists order.now.kit.now.tech.layers made.now.lib.structs
+        order.now.name.now (lists_of flat)) }
     ensures rises { IfOk result (λ flat. IsStrictlySortedBy shape_order flat.shapes.now) }
     ensures reach { IfOk result (λ flat. AreReachable flat.shapes.now) }
     ensures few { IfOk result (λ flat. length flat.shapes.now ≤ 16777216) }
     ensures few_labels { IfOk result (λ flat. length flat.labels.now ≤ 2 ^ 22) }
-    ensures fault { IfErr result (IsBuildFault kit.now _plan.now (held_of _contents.entry) name.now) }
+    ensures fault { IfErr result (IsBuildFault order.now.kit.now order.now.plan.now (held_of order.now.contents)
+        order.now.name.now) }
 {
-    Ok(flatten(alloc, bump, &made.lib, &kit.tech, name)?)
+    Ok(flatten(alloc, bump, &made.lib, &order.kit.tech, order.name)?)
 }
 
 /// The first difference of the nets of a flat layout from the macro's netlist.
 fn net_difference<'b, R: Threads + Sync>(
     rt: &R,
     alloc: Global,
-    kit: &Kit,
-    plan: &Plan,
-    name: &Name,
-    contents: Contents<'_>,
+    order: &Order,
     made: &Macro,
     flat: &Flat<'b>,
     bins: &Bins<'b>,
 ) -> Result<Option<NetDiff>, Memory>
-    requires plan { ArePlanNumbers (numbers_of plan.now) }
-    requires made { IsMacro kit.now plan.now (held_of contents) name.now made.now }
+    requires plan { ArePlanNumbers (numbers_of order.now.plan.now) }
+    requires made { IsMacro order.now.kit.now order.now.plan.now (held_of order.now.contents)
+        order.now.name.now made.now }
     requires rises { IsStrictlySortedBy shape_order flat.now.shapes.now }
     requires bins { bins.now ≡ flat.now.shapes.now }
     requires few_labels { length flat.now.labels.now ≤ 2 ^ 22 }
-    ensures { IfOk result (IsFirstDiffering kit.now (held_of contents.entry) name.now made.now (lists_of flat.now)) }
+    ensures { IfOk result (IsFirstDiffering order.now.kit.now (held_of order.now.contents) order.now.name.now
+        made.now (lists_of flat.now)) }
 {
-    let nets = extract(rt, alloc, &kit.tech, flat, bins)?;
-    let rows = rows_of(alloc, kit, plan, name, contents, made)?;
+    let nets = extract(rt, alloc, &order.kit.tech, flat, bins)?;
+    let rows = rows_of(alloc, order, made)?;
     Ok(compare(alloc, &nets, &rows)?)
 }
 
@@ -79,30 +75,29 @@ pub fn check_sound<R: Threads + Sync, G: Gate + Sync>(
     rt: &R,
     alloc: Global,
     gate: &G,
-    kit: &Kit,
-    plan: &Plan,
-    name: &Name,
-    contents: Contents<'_>,
+    order: &Order,
     made: &Macro,
     workers: u8,
 ) -> Result<(), BuildFault>
-    requires kit { IsKit kit.now }
-    requires plan { ArePlanNumbers (numbers_of plan.now) }
-    requires made { IsMacro kit.now plan.now (held_of contents) name.now made.now }
+    requires kit { IsKit order.now.kit.now }
+    requires plan { ArePlanNumbers (numbers_of order.now.plan.now) }
+    requires made { IsMacro order.now.kit.now order.now.plan.now (held_of order.now.contents)
+        order.now.name.now made.now }
     requires some { 0 < workers }
     requires at_most { workers ≤ 64 }
-    ensures sound { OnOk result (IsSoundMacro kit.now plan.now (held_of contents.entry) name.now made.now) }
-    ensures fault { IfErr result (IsBuildFault kit.now plan.now (held_of contents.entry) name.now) }
+    ensures sound { OnOk result (IsSoundMacro order.now.kit.now order.now.plan.now (held_of order.now.contents)
+        order.now.name.now made.now) }
+    ensures fault { IfErr result (IsBuildFault order.now.kit.now order.now.plan.now (held_of order.now.contents)
+        order.now.name.now) }
 {
     let bump = Bump::new(alloc);
-    let flat = flat_of(alloc, &bump, kit, plan, name, contents, made)?;
+    let flat = flat_of(alloc, &bump, order, made)?;
     let bins = index(alloc, &bump, &flat)?;
-    if let Some(violation) = first_violation(rt, alloc, gate, &kit.tech, &flat, &bins, workers)? {
+    let tech = &order.kit.tech;
+    if let Some(violation) = first_violation(rt, alloc, gate, tech, &flat, &bins, workers)? {
         return Err(BuildFault::RuleBroken(violation));
     }
-    if let Some(difference) = net_difference(
-        rt, alloc, kit, plan, name, contents, made, &flat, &bins,
-    )? {
+    if let Some(difference) = net_difference(rt, alloc, order, made, &flat, &bins)? {
         return Err(BuildFault::NetsDiffer(difference));
     }
     Ok(())

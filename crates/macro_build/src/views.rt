@@ -16,6 +16,7 @@ ghost use Rattle.macro_build.specs.Written.{SpellSoundLayout};
 
 use crate::built::Built;
 use crate::counts::leaf_count;
+use crate::order::Order;
 use gds_stream::write_gds;
 use leaf_tables::Kit;
 use macro_views::{lef_text, verilog_text};
@@ -70,71 +71,56 @@ fn kit_lines(alloc: Global, kit: &Kit) -> Result<Vec<u8>, Memory>
 }
 
 /// The netlist: that of the kit, and the macro's subcircuits behind it.
-fn joined_text(
-    alloc: Global,
-    kit: &Kit,
-    _plan: &Plan,
-    _name: &Name,
-    _contents: Contents<'_>,
-    made: &Macro,
-) -> Result<Vec<u8>, Memory>
-    requires kit { IsKit kit.now }
-    requires plan { ArePlanNumbers (numbers_of _plan.now) }
-    requires name { IsTrue (is_output_name _name.now) }
-    requires made { IsMacro kit.now _plan.now (held_of _contents) _name.now made.now }
-    ensures { IfOk result (λ text. text.items ≡ appended kit.now.deck kit.now.text made.now.deck.subckts) }
+fn joined_text(alloc: Global, order: &Order, made: &Macro) -> Result<Vec<u8>, Memory>
+    requires kit { IsKit order.now.kit.now }
+    requires plan { ArePlanNumbers (numbers_of order.now.plan.now) }
+    requires name { IsTrue (is_output_name order.now.name.now) }
+    requires made { IsMacro order.now.kit.now order.now.plan.now (held_of order.now.contents)
+        order.now.name.now made.now }
+    ensures { IfOk result (λ text. text.items
+        ≡ appended order.now.kit.now.deck order.now.kit.now.text made.now.deck.subckts) }
 {
     // These calls do nothing when the program runs: their contracts are the laws that the subcircuits can be written.
     cells_are_names();
     written_subckts_are_writable();
-    let mut text = kit_lines(alloc, kit)?;
+    let mut text = kit_lines(alloc, order.kit)?;
     text.extend_from_slice(&write_spice(alloc, made.deck.subckts.as_slice())?)?;
     Ok(text)
 }
 
 /// The same, which is read as the reference netlist.
-fn spice_text(
-    alloc: Global,
-    kit: &Kit,
-    plan: &Plan,
-    name: &Name,
-    contents: Contents<'_>,
-    made: &Macro,
-) -> Result<Vec<u8>, Memory>
-    requires kit { IsKit kit.now }
-    requires plan { ArePlanNumbers (numbers_of plan.now) }
-    requires name { IsTrue (is_output_name name.now) }
-    requires made { IsMacro kit.now plan.now (held_of contents) name.now made.now }
-    ensures text { IfOk result (λ text. text.items ≡ appended kit.now.deck kit.now.text made.now.deck.subckts) }
-    ensures read { IfOk result (λ text. IsReadInLowerCase kit.now plan.now
-        (held_of contents.entry) name.now text.items) }
-    ensures netlist { IfOk result (λ text. IsReferenceNetlist kit.now plan.now
-        (held_of contents.entry) name.now text.items) }
+fn spice_text(alloc: Global, order: &Order, made: &Macro) -> Result<Vec<u8>, Memory>
+    requires kit { IsKit order.now.kit.now }
+    requires plan { ArePlanNumbers (numbers_of order.now.plan.now) }
+    requires name { IsTrue (is_output_name order.now.name.now) }
+    requires made { IsMacro order.now.kit.now order.now.plan.now (held_of order.now.contents)
+        order.now.name.now made.now }
+    ensures text { IfOk result (λ text. text.items
+        ≡ appended order.now.kit.now.deck order.now.kit.now.text made.now.deck.subckts) }
+    ensures read { IfOk result (λ text. IsReadInLowerCase order.now.kit.now order.now.plan.now
+        (held_of order.now.contents) order.now.name.now text.items) }
+    ensures netlist { IfOk result (λ text. IsReferenceNetlist order.now.kit.now order.now.plan.now
+        (held_of order.now.contents) order.now.name.now text.items) }
 {
     // So do these: that the subcircuits are read back, and that they are the reference netlist.
     cells_are_names();
     written_subckts_are_read();
     rows_equal_netlist();
-    Ok(joined_text(alloc, kit, plan, name, contents, made)?)
+    Ok(joined_text(alloc, order, made)?)
 }
 
 /// The layout's bytes.
-fn gds_bytes(
-    alloc: Global,
-    _kit: &Kit,
-    _plan: &Plan,
-    _name: &Name,
-    _contents: Contents<'_>,
-    made: &Macro,
-) -> Result<Vec<u8>, Memory>
-    requires kit { IsKit _kit.now }
-    requires plan { ArePlanNumbers (numbers_of _plan.now) }
-    requires held { IsHeld _kit.now _plan.now (held_of _contents) }
-    requires sound { IsSoundMacro _kit.now _plan.now (held_of _contents) _name.now made.now }
+fn gds_bytes(alloc: Global, _order: &Order, made: &Macro) -> Result<Vec<u8>, Memory>
+    requires kit { IsKit _order.now.kit.now }
+    requires plan { ArePlanNumbers (numbers_of _order.now.plan.now) }
+    requires held { IsHeld _order.now.kit.now _order.now.plan.now (held_of _order.now.contents) }
+    requires sound { IsSoundMacro _order.now.kit.now _order.now.plan.now (held_of _order.now.contents)
+        _order.now.name.now made.now }
     ensures bytes { IfOk result (λ bytes. bytes.items ≡ canonical made.now.lib) }
-    ensures layout { IfOk result (λ bytes. SpellSoundLayout _kit.now _plan.now
-        (held_of _contents.entry) _name.now bytes.items) }
-    ensures covered { IfOk result (λ bytes. SpellCoveredLayout _kit.now _name.now made.now.view bytes.items) }
+    ensures layout { IfOk result (λ bytes. SpellSoundLayout _order.now.kit.now _order.now.plan.now
+        (held_of _order.now.contents) _order.now.name.now bytes.items) }
+    ensures covered { IfOk result (λ bytes. SpellCoveredLayout _order.now.kit.now _order.now.name.now made.now.view
+        bytes.items) }
 {
     // These calls do nothing when the program runs: their contracts are the laws that what is written is flat as what
     // was checked, that this is the stated layout, which the boxes of the LEF cover, and that its rows are those of the
@@ -195,34 +181,29 @@ fn behaviour(
 }
 
 /// The views of a sound macro, and what is told of it.
-pub fn views(
-    alloc: Global,
-    kit: &Kit,
-    plan: &Plan,
-    name: &Name,
-    contents: Contents<'_>,
-    made: &Macro,
-) -> Result<Built, Memory>
-    requires kit { IsKit kit.now }
-    requires plan { ArePlanNumbers (numbers_of plan.now) }
-    requires name { IsTrue (is_output_name name.now) }
-    requires held { FitsPlan plan.now (held_of contents) }
-    requires cells { HasCellsFor kit.now (held_of contents) }
-    requires sound { IsSoundMacro kit.now plan.now (held_of contents) name.now made.now }
-    ensures { IfOk result (IsBuilt kit.now plan.now (held_of contents.entry) name.now) }
+pub fn views(alloc: Global, order: &Order, made: &Macro) -> Result<Built, Memory>
+    requires kit { IsKit order.now.kit.now }
+    requires plan { ArePlanNumbers (numbers_of order.now.plan.now) }
+    requires name { IsTrue (is_output_name order.now.name.now) }
+    requires held { FitsPlan order.now.plan.now (held_of order.now.contents) }
+    requires cells { HasCellsFor order.now.kit.now (held_of order.now.contents) }
+    requires sound { IsSoundMacro order.now.kit.now order.now.plan.now (held_of order.now.contents)
+        order.now.name.now made.now }
+    ensures { IfOk result (IsBuilt order.now.kit.now order.now.plan.now (held_of order.now.contents)
+        order.now.name.now) }
 {
-    netlist_answers(plan, contents);
-    let spice = spice_text(alloc, kit, plan, name, contents, made)?;
-    let gds = gds_bytes(alloc, kit, plan, name, contents, made)?;
+    netlist_answers(order.plan, order.contents);
+    let spice = spice_text(alloc, order, made)?;
+    let gds = gds_bytes(alloc, order, made)?;
     let lef = lef_text(alloc, &made.view)?;
-    let verilog = behaviour(alloc, plan, name, contents)?;
+    let verilog = behaviour(alloc, order.plan, order.name, order.contents)?;
     Ok(Built {
         spice,
         gds,
         lef,
         verilog,
         tracks: made.tracks,
-        leaves: leaf_count(plan),
+        leaves: leaf_count(order.plan),
         width: made.view.width,
         height: made.view.height,
     })

@@ -10,12 +10,12 @@ use Rattle.build_command.proofs.made.make_ordered.Goals as goal
 
 pub returns-in_ok-made_of-in-Ok-clause-names : goal.returns-in_ok-made_of-in-Ok-clause-names
 returns-in_ok-made_of-in-Ok-clause-names g c =
-    subst (λ (made : Made). HaveAsciiNames made.views) (sym c.in_ok-made_of-in-Ok.ensures) (views_ascii c.args.config.now c.in-Ok.built c.requires.config)
+    subst (λ (made : Made). HaveAsciiNames made.views) (sym c.in_ok-made_of-in-Ok.ensures) (views_ascii c.args.design.config c.in-Ok.built c.requires.config)
 
 pub returns-in_err-made_of-in-Ok-clause-made : goal.returns-in_err-made_of-in-Ok-clause-made
 returns-in_err-made_of-in-Ok-clause-made g c =
     let p = err_from_is_err_and c.from_residual.result c.from_residual.ensures.1 in
-    rw p.1 (memory_instead (IsOrderMade (ordered c.args.config.now c.args.kit c.args.plan.now (held_of c.args.contents))) p.0 p.2)
+    rw p.1 (memory_instead (IsOrderMade (ordered c.args.design.config c.args.design.kit c.args.design.plan (held_of c.args.contents))) p.0 p.2)
 
 pub returns-in_err-made_of-in-Ok-clause-read : goal.returns-in_err-made_of-in-Ok-clause-read
 returns-in_err-made_of-in-Ok-clause-read g c =

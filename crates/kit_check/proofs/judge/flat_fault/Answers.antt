@@ -8,15 +8,15 @@ use Rattle.kit_check.proofs.judge.flat_fault.Goals as goal
 
 pub returns-then-branch : goal.returns-then-branch
 returns-then-branch g c =
-    let kit = c.args.kit.now in
+    let kit = c.args.trial.now.kit.now in
     let lists = lists_of c.args.flat.now in
-    broken kit c.args.name.now c.args.lib.now c.args.deck.now lists c.requires.flat
+    broken kit c.args.trial.now.name.now c.args.lib.now c.args.deck.now lists c.requires.flat
     (subst (λ (b : Bool). MatchBool b (HasViolations kit.tech.rules lists.shapes) (IsReport kit.tech.rules lists.shapes [])) c.if-branch.true c.in_ok-breaks_rule.ensures)
 
 pub returns-then-branch-2 : goal.returns-then-branch-2
 returns-then-branch-2 g c =
-    let kit = c.args.kit.now in
-    let name = c.args.name.now in
+    let kit = c.args.trial.now.kit.now in
+    let name = c.args.trial.now.name.now in
     let deck = c.args.deck.now in
     let lists = lists_of c.args.flat.now in
     let clean = subst (λ (b : Bool). MatchBool b (HasViolations kit.tech.rules lists.shapes) (IsReport kit.tech.rules lists.shapes [])) c.if-branch.false c.in_ok-breaks_rule.ensures in
@@ -25,8 +25,8 @@ returns-then-branch-2 g c =
 
 pub returns-then-branch-3 : goal.returns-then-branch-3
 returns-then-branch-3 g c =
-    let kit = c.args.kit.now in
-    let name = c.args.name.now in
+    let kit = c.args.trial.now.kit.now in
+    let name = c.args.trial.now.name.now in
     let lib = c.args.lib.now in
     let deck = c.args.deck.now in
     let lists = lists_of c.args.flat.now in
@@ -36,8 +36,8 @@ returns-then-branch-3 g c =
 
 pub returns : goal.returns
 returns g c =
-    let kit = c.args.kit.now in
-    let name = c.args.name.now in
+    let kit = c.args.trial.now.kit.now in
+    let name = c.args.trial.now.name.now in
     let lib = c.args.lib.now in
     let deck = c.args.deck.now in
     let lists = lists_of c.args.flat.now in

@@ -8,31 +8,31 @@ use Rattle.macro_build.proofs.builder.build.Goals as goal
 
 pub assemble_with-requires-clause-contents : goal.assemble_with-requires-clause-contents
 assemble_with-requires-clause-contents g c =
-    is_held c.args.kit.now c.args.plan.now (held_of c.args.contents) c.requires.plan c.requires.held c.requires.cells
+    is_held c.args.order.now.kit.now c.args.order.now.plan.now (held_of c.args.order.now.contents) c.requires.plan c.requires.held c.requires.cells
 
 pub returns-in_err-made-clause-fault : goal.returns-in_err-made-clause-fault
 returns-in_err-made-clause-fault g c =
-    let kit = c.args.kit.now in
-    let plan = c.args.plan.now in
-    let held = held_of c.args.contents in
-    let name = c.args.name.now in
+    let kit = c.args.order.now.kit.now in
+    let plan = c.args.order.now.plan.now in
+    let held = held_of c.args.order.now.contents in
+    let name = c.args.order.now.name.now in
     let p = err_from_is_err_and c.from_residual.result c.from_residual.ensures.1 in
     rw p.1 (subst (IsBuildFault kit plan held name) (sym p.2) (part_cause kit plan held name c.in_err-made.field-0.0 c.in_err-made.ensures.fault))
 
 pub returns-in_err-check_sound-clause-fault : goal.returns-in_err-check_sound-clause-fault
 returns-in_err-check_sound-clause-fault g c =
-    let kit = c.args.kit.now in
-    let plan = c.args.plan.now in
-    let held = held_of c.args.contents in
-    let name = c.args.name.now in
+    let kit = c.args.order.now.kit.now in
+    let plan = c.args.order.now.plan.now in
+    let held = held_of c.args.order.now.contents in
+    let name = c.args.order.now.name.now in
     let p = err_from_is_err_and c.from_residual-in_err-check_sound.result c.from_residual-in_err-check_sound.ensures.1 in
     rw p.1 (subst (IsBuildFault kit plan held name) (sym p.2) c.in_err-check_sound.ensures.fault)
 
 pub returns-in_err-views-clause-fault : goal.returns-in_err-views-clause-fault
 returns-in_err-views-clause-fault g c =
-    let kit = c.args.kit.now in
-    let plan = c.args.plan.now in
-    let held = held_of c.args.contents in
-    let name = c.args.name.now in
+    let kit = c.args.order.now.kit.now in
+    let plan = c.args.order.now.plan.now in
+    let held = held_of c.args.order.now.contents in
+    let name = c.args.order.now.name.now in
     let p = err_from_is_err_and c.from_residual-in_err-views.result c.from_residual-in_err-views.ensures.1 in
     rw p.1 (subst (IsBuildFault kit plan held name) (sym p.2) tt)

@@ -1,0 +1,13 @@
+use leaf_tables::Kit;
+use or_geom::Name;
+use port_lists::Contents;
+use sram_plan::Plan;
+
+/// What is to be built: of the leaf cells of a kit and by a plan, the macro of this name, and what its bits are.
+#[derive(Clone, Copy)]
+pub struct Order<'a> {
+    pub kit: &'a Kit,
+    pub plan: &'a Plan,
+    pub name: &'a Name,
+    pub contents: Contents<'a>,
+}
