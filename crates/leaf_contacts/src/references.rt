@@ -31,6 +31,14 @@ pub struct Grid {
     pub down: Point,
 }
 
+/// An element of a cell, with its index there and, where it refers to a structure, the index of that structure's cell.
+#[derive(Clone, Copy)]
+struct CellElement<'a> {
+    element: &'a Element,
+    index: usize,
+    target: usize,
+}
+
 /// The references and one more, in the arena.
 fn steps_with<'b>(
     alloc: Global,
@@ -205,36 +213,33 @@ fn content_of<'a>(tree: &ReachedCells<'a>, cell: usize) -> (&'a [Element], &'a [
     (structure.elements.as_slice(), cell.targets.as_slice())
 }
 
-/// Adds the cells that an element of the cell places there, if they count. The element has this index, and refers to
-/// the cell at the target's.
+/// Adds the cells that an element of the cell places there, if they count.
 fn add_element<'b>(
     alloc: Global,
     bump: &'b Bump,
     tree: &ReachedCells,
     outer: &Stand<'b>,
-    element: &Element,
-    index: usize,
-    target: usize,
+    entry: CellElement,
     out: &mut Vec<Stand<'b>>,
 ) -> Result<(), Memory>
     requires tree { AreReachedCells tree.now }
     requires near { IsNearPoint outer.now.place.at }
-    requires element { IsElementAt tree.now outer.now.cell index element.now target }
+    requires element { IsElementAt tree.now outer.now.cell entry.index entry.element.now entry.target }
     ensures { OnOk result ((chain : List Reference) (name : List ℕ) → IsStandOf tree.now chain outer.now
         → IsCellNamed tree.now outer.now.cell name
-        → AddsBelow tree.now chain (IsLiveReference tree.now name index) out.old.items out.new.items) }
+        → AddsBelow tree.now chain (IsLiveReference tree.now name entry.index) out.old.items out.new.items) }
 {
-    match element {
+    match entry.element {
         Element::Sref { place, .. } => {
-            if !counts_at(tree.summaries, target) {
+            if !counts_at(tree.summaries, entry.target) {
                 return Ok(());
             }
             let step = ReferenceStep {
-                element: index,
+                element: entry.index,
                 column: 0,
                 row: 0,
             };
-            let made = stand_below(alloc, bump, tree, outer, step, target, *place)?;
+            let made = stand_below(alloc, bump, tree, outer, step, entry.target, *place)?;
             out.push(made)?;
             Ok(())
         }
@@ -246,12 +251,12 @@ fn add_element<'b>(
             down,
             ..
         } => {
-            if !counts_at(tree.summaries, target) {
+            if !counts_at(tree.summaries, entry.target) {
                 return Ok(());
             }
             let grid = Grid {
-                element: index,
-                target,
+                element: entry.index,
+                target: entry.target,
                 place: *place,
                 columns: columns.unsigned_abs(),
                 rows: rows.unsigned_abs(),
@@ -281,17 +286,12 @@ pub fn add_below<'b>(
 {
     let (elements, targets) = content_of(tree, outer.cell);
     for index in 0..elements.len() {
-        let element = &elements[index];
-        add_element(
-            alloc,
-            bump,
-            tree,
-            outer,
-            element,
+        let entry = CellElement {
+            element: &elements[index],
             index,
-            targets[index],
-            out,
-        )?;
+            target: targets[index],
+        };
+        add_element(alloc, bump, tree, outer, entry, out)?;
     }
     Ok(())
 }

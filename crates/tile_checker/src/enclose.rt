@@ -14,6 +14,15 @@ use crate::violation::Violation;
 use or_geom::{Items, Memory, Rect};
 use shape_bins::Bins;
 
+/// An enclose rule with its number.
+#[derive(Clone, Copy)]
+pub struct EncloseRule<'t> {
+    pub number: u32,
+    pub layer: u16,
+    pub by: &'t Items<u16>,
+    pub min: Minimum,
+}
+
 /// The rectangle, grown by the minimum on all sides.
 pub fn grown(rect: Rect, min: Minimum) -> Rect
     requires { IsReachable rect }
@@ -39,29 +48,27 @@ fn is_enclosed(bins: &Bins, area: Rect, layers: &[u16]) -> bool
     false
 }
 
-/// Adds the shape if it is of the layer and none of the layers `by` encloses it.
+/// Adds the shape if it is of the layer and none of the rule's layers `by` encloses it.
 pub fn add_encloses(
     bins: &Bins,
-    number: u32,
-    layer: u16,
-    by: &Items<u16>,
-    min: Minimum,
+    rule: EncloseRule,
     first: First,
     out: &mut Vec<Violation>,
 ) -> Result<(), Memory>
     requires reach { AreReachable bins.now }
     requires at { IsAt bins.now first }
     ensures { OnOk result (Adds out.old.items out.new.items
-        (IsFrom number (kind.Enclose layer by.now min.value) bins.now first)) }
+        (IsFrom rule.entry.number (kind.Enclose rule.entry.layer rule.entry.by.now rule.entry.min.value) bins.now
+        first)) }
 {
-    if first.shape.layer != layer {
+    if first.shape.layer != rule.layer {
         return Ok(());
     }
-    if is_enclosed(bins, grown(first.shape.rect, min), by.as_slice()) {
+    if is_enclosed(bins, grown(first.shape.rect, rule.min), rule.by.as_slice()) {
         return Ok(());
     }
     Ok(out.push(Violation {
-        rule: number,
+        rule: rule.number,
         first: first.shape,
         second: None,
     })?)

@@ -1,4 +1,4 @@
-ghost use Rattle.std.specs.Prelude.{◌≡◌, None, IfOk};
+ghost use Rattle.std.specs.Prelude.{IfOk};
 ghost use Rattle.std.specs.List.Sorted.{IsStrictlySortedBy};
 ghost use Rattle.or_geom.specs.Distance.{IsReachable};
 ghost use Rattle.or_geom.specs.Reachable.{AreReachable};
@@ -12,36 +12,11 @@ ghost use Rattle.tile_checker.specs.WideArea.{IsSeen};
 use crate::earliest::{earliest_of, is_past, is_past_first};
 use crate::first::{First, shape_at};
 use crate::in_tile::{add_violations, list_firsts};
+use crate::notes::Notes;
 use crate::violation::Violation;
-use crate::width::WideArea;
 use or_geom::{Memory, Rect};
 use shape_bins::Bins;
-use std::alloc::Global;
 use tech_rules::Rule;
-
-/// What a worker uses again from look to look: lists, of which `found` has what one first shape breaks, and what the
-/// last shape showed of the next ones.
-#[derive(Drop)]
-pub struct Notes {
-    pub alloc: Global,
-    pub near: Vec<usize>,
-    pub found: Vec<Violation>,
-    pub seen: Option<WideArea>,
-}
-
-impl Notes {
-    /// Nothing yet.
-    pub fn new(alloc: Global) -> Notes
-        ensures { result.seen ≡ None }
-    {
-        Notes {
-            alloc,
-            near: Vec::new(alloc),
-            found: Vec::new(alloc),
-            seen: None,
-        }
-    }
-}
 
 /// The first of what is kept and of what breaks the rule, has this first shape, and is owned by the tile. A shape that
 /// has only later violations isn't looked at.
@@ -66,17 +41,7 @@ fn first_of_shape(
         return Ok(kept);
     }
     notes.found.clear();
-    add_violations(
-        notes.alloc,
-        bins,
-        number,
-        rule,
-        tile,
-        first,
-        &mut notes.near,
-        &mut notes.seen,
-        &mut notes.found,
-    )?;
+    add_violations(bins, number, rule, tile, first, notes)?;
     Ok(earliest_of(kept, &notes.found))
 }
 

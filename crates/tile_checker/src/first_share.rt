@@ -10,7 +10,8 @@ ghost use Rattle.tile_checker.specs.Share.{IsOwn};
 ghost use Rattle.tile_checker.specs.Tiles.{AreTiles, IsFoundIn};
 ghost use Rattle.tile_checker.specs.WideArea.{IsSeen};
 
-use crate::first_in_tile::{Notes, first_of_rule};
+use crate::first_in_tile::first_of_rule;
+use crate::notes::Notes;
 use crate::share::is_own;
 use crate::violation::Violation;
 use or_geom::{Memory, Rect};

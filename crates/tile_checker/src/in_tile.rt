@@ -11,16 +11,16 @@ ghost use Rattle.tile_checker.specs.Firsts.{IsAt, ArePlaces};
 ghost use Rattle.tile_checker.specs.Tiles.{AreFirstPlaces, IsNearOnSome, IsFromIn, IsFromPlace, IsViolationIn};
 ghost use Rattle.tile_checker.specs.WideArea.{IsSeen};
 
-use crate::enclose::{add_encloses, grown};
+use crate::enclose::{EncloseRule, add_encloses, grown};
 use crate::first::{First, shape_at};
 use crate::minimum::Minimum;
+use crate::notes::Notes;
 use crate::owner::has_corner;
 use crate::space::{SpaceRule, add_spaces};
 use crate::violation::Violation;
-use crate::width::{WideArea, add_widths};
-use or_geom::{Items, Memory, Rect};
+use crate::width::{WidthRule, add_widths};
+use or_geom::{Memory, Rect};
 use shape_bins::Bins;
-use std::alloc::Global;
 use tech_rules::Rule;
 
 /// Adds the places of all shapes of the two layers that meet the area.
@@ -64,36 +64,29 @@ pub fn list_firsts(
 
 /// Adds the shape if it is of the layer and too narrow, and the tile has its corner.
 fn add_own_widths(
-    alloc: Global,
     bins: &Bins,
-    number: u32,
-    layer: u16,
-    min: Minimum,
+    rule: WidthRule,
     tile: Rect,
     first: First,
-    seen: &mut Option<WideArea>,
-    out: &mut Vec<Violation>,
+    notes: &mut Notes,
 ) -> Result<(), Memory>
     requires reach { AreReachable bins.now }
     requires at { IsAt bins.now first }
-    requires seen { IsSeen bins.now seen.old }
-    ensures seen { IsSeen bins.now seen.new }
-    ensures adds { OnOk result (Adds out.old.items out.new.items
-        (IsFromIn number (kind.Width layer min.value) bins.now tile first)) }
+    requires seen { IsSeen bins.now notes.old.seen }
+    ensures seen { IsSeen bins.now notes.new.seen }
+    ensures adds { OnOk result (Adds notes.old.found.items notes.new.found.items
+        (IsFromIn rule.number (kind.Width rule.layer rule.min.value) bins.now tile first)) }
 {
     if !has_corner(tile, first.shape.rect) {
         return Ok(());
     }
-    add_widths(alloc, bins, number, layer, min, first, seen, out)
+    add_widths(bins, rule, first, notes)
 }
 
 /// Adds the shape if it is of the layer, none of the layers `by` encloses it, and the tile has its corner.
 fn add_own_encloses(
     bins: &Bins,
-    number: u32,
-    layer: u16,
-    by: &Items<u16>,
-    min: Minimum,
+    rule: EncloseRule,
     tile: Rect,
     first: First,
     out: &mut Vec<Violation>,
@@ -101,39 +94,41 @@ fn add_own_encloses(
     requires reach { AreReachable bins.now }
     requires at { IsAt bins.now first }
     ensures { OnOk result (Adds out.old.items out.new.items
-        (IsFromIn number (kind.Enclose layer by.now min.value) bins.now tile first)) }
+        (IsFromIn rule.entry.number (kind.Enclose rule.entry.layer rule.entry.by.now rule.entry.min.value) bins.now
+        tile first)) }
 {
     if !has_corner(tile, first.shape.rect) {
         return Ok(());
     }
-    add_encloses(bins, number, layer, by, min, first, out)
+    add_encloses(bins, rule, first, out)
 }
 
-/// Adds what breaks the rule, has this first shape, and is owned by the tile. `near` is a list to use again, and `seen`
-/// what the last shape showed of the next ones.
+/// Adds what breaks the rule, has this first shape, and is owned by the tile.
 pub fn add_violations(
-    alloc: Global,
     bins: &Bins,
     number: u32,
     rule: &Rule,
     tile: Rect,
     first: First,
-    near: &mut Vec<usize>,
-    seen: &mut Option<WideArea>,
-    out: &mut Vec<Violation>,
+    notes: &mut Notes,
 ) -> Result<(), Memory>
     requires minimum { HasMinimum rule.now }
     requires rises { IsStrictlySortedBy shape_order bins.now }
     requires reach { AreReachable bins.now }
     requires at { IsAt bins.now first }
-    requires seen { IsSeen bins.now seen.old }
-    ensures seen { IsSeen bins.now seen.new }
-    ensures adds { OnOk result (Adds out.old.items out.new.items (IsFromIn number rule.now bins.now tile first)) }
+    requires seen { IsSeen bins.now notes.old.seen }
+    ensures seen { IsSeen bins.now notes.new.seen }
+    ensures adds { OnOk result (Adds notes.old.found.items notes.new.found.items
+        (IsFromIn number rule.now bins.now tile first)) }
 {
     match rule {
         Rule::Width { layer, min } => {
-            let min = Minimum { value: *min };
-            add_own_widths(alloc, bins, number, *layer, min, tile, first, seen, out)
+            let width = WidthRule {
+                number,
+                layer: *layer,
+                min: Minimum { value: *min },
+            };
+            add_own_widths(bins, width, tile, first, notes)
         }
         Rule::Space { layer, other, min } => {
             let space = SpaceRule {
@@ -142,34 +137,36 @@ pub fn add_violations(
                 other: *other,
                 min: Minimum { value: *min },
             };
-            add_spaces(bins, space, tile, first, near, out)
+            add_spaces(bins, space, tile, first, &mut notes.near, &mut notes.found)
         }
         Rule::Enclose { layer, by, min } => {
-            let min = Minimum { value: *min };
-            add_own_encloses(bins, number, *layer, by, min, tile, first, out)
+            let enclose = EncloseRule {
+                number,
+                layer: *layer,
+                by,
+                min: Minimum { value: *min },
+            };
+            add_own_encloses(bins, enclose, tile, first, &mut notes.found)
         }
     }
 }
 
 /// Adds what breaks the rule, has its first shape at one of the places, and is owned by the tile.
 fn add_of_firsts(
-    alloc: Global,
     bins: &Bins,
     number: u32,
     rule: &Rule,
     tile: Rect,
     firsts: &[usize],
-    near: &mut Vec<usize>,
-    seen: &mut Option<WideArea>,
-    out: &mut Vec<Violation>,
+    notes: &mut Notes,
 ) -> Result<(), Memory>
     requires minimum { HasMinimum rule.now }
     requires rises { IsStrictlySortedBy shape_order bins.now }
     requires reach { AreReachable bins.now }
     requires firsts { ArePlaces bins.now firsts.now }
-    requires seen { IsSeen bins.now seen.old }
-    ensures seen { IsSeen bins.now seen.new }
-    ensures adds { OnOk result (Adds out.old.items out.new.items
+    requires seen { IsSeen bins.now notes.old.seen }
+    ensures seen { IsSeen bins.now notes.new.seen }
+    ensures adds { OnOk result (Adds notes.old.found.items notes.new.found.items
         (SomeGives (IsFromPlace number rule.now bins.now tile) firsts.now)) }
 {
     let shapes = bins.shapes();
@@ -178,31 +175,29 @@ fn add_of_firsts(
             place: *place,
             shape: shape_at(shapes, *place),
         };
-        add_violations(alloc, bins, number, rule, tile, first, near, seen, out)?;
+        add_violations(bins, number, rule, tile, first, notes)?;
     }
     Ok(())
 }
 
-/// Adds what breaks the rule and the tile owns. `firsts` and `near` are lists to use again.
+/// Adds what breaks the rule and the tile owns. `firsts` is a list to use again.
 pub fn add_of_rule(
-    alloc: Global,
     bins: &Bins,
     number: u32,
     rule: &Rule,
     tile: Rect,
     firsts: &mut Vec<usize>,
-    near: &mut Vec<usize>,
-    seen: &mut Option<WideArea>,
-    out: &mut Vec<Violation>,
+    notes: &mut Notes,
 ) -> Result<(), Memory>
     requires minimum { HasMinimum rule.now }
     requires rises { IsStrictlySortedBy shape_order bins.now }
     requires reach { AreReachable bins.now }
     requires tile { IsReachable tile }
-    requires seen { IsSeen bins.now seen.old }
-    ensures seen { IsSeen bins.now seen.new }
-    ensures adds { OnOk result (Adds out.old.items out.new.items (IsViolationIn number rule.now bins.now tile)) }
+    requires seen { IsSeen bins.now notes.old.seen }
+    ensures seen { IsSeen bins.now notes.new.seen }
+    ensures adds { OnOk result (Adds notes.old.found.items notes.new.found.items
+        (IsViolationIn number rule.now bins.now tile)) }
 {
     list_firsts(bins, rule, tile, firsts)?;
-    add_of_firsts(alloc, bins, number, rule, tile, firsts, near, seen, out)
+    add_of_firsts(bins, number, rule, tile, firsts, notes)
 }

@@ -14,6 +14,7 @@ mod gate;
 mod in_tile;
 mod laws;
 mod minimum;
+mod notes;
 mod owner;
 mod share;
 mod sides;

@@ -11,8 +11,8 @@ ghost use Rattle.tile_checker.specs.Share.{IsShare};
 ghost use Rattle.tile_checker.specs.WideArea.{IsSeen};
 
 use crate::in_tile::add_of_rule;
+use crate::notes::Notes;
 use crate::violation::Violation;
-use crate::width::WideArea;
 use or_geom::{Memory, Rect};
 use shape_bins::Bins;
 use std::alloc::Global;
@@ -20,36 +20,23 @@ use tech_rules::{Rule, Tech};
 
 /// Adds what breaks one of the rules and the tile owns.
 fn add_of_tile(
-    alloc: Global,
     bins: &Bins,
     rules: &[Rule],
     tile: Rect,
     firsts: &mut Vec<usize>,
-    near: &mut Vec<usize>,
-    seen: &mut Option<WideArea>,
-    out: &mut Vec<Violation>,
+    notes: &mut Notes,
 ) -> Result<(), Memory>
     requires minimums { All HasMinimum rules.now }
     requires few { length rules.now ≤ 256 }
     requires rises { IsStrictlySortedBy shape_order bins.now }
     requires reach { AreReachable bins.now }
     requires tile { IsReachable tile }
-    requires seen { IsSeen bins.now seen.old }
-    ensures seen { IsSeen bins.now seen.new }
-    ensures adds { OnOk result (Adds out.old.items out.new.items (IsFoundIn rules.now bins.now tile)) }
+    requires seen { IsSeen bins.now notes.old.seen }
+    ensures seen { IsSeen bins.now notes.new.seen }
+    ensures adds { OnOk result (Adds notes.old.found.items notes.new.found.items (IsFoundIn rules.now bins.now tile)) }
 {
     for number in 0..rules.len() {
-        add_of_rule(
-            alloc,
-            bins,
-            number as u32,
-            &rules[number],
-            tile,
-            firsts,
-            near,
-            seen,
-            out,
-        )?;
+        add_of_rule(bins, number as u32, &rules[number], tile, firsts, notes)?;
     }
     Ok(())
 }
@@ -80,23 +67,12 @@ pub fn share_of(
 {
     let rules = tech.rules.as_slice();
     let mut firsts = Vec::new(alloc);
-    let mut near = Vec::new(alloc);
-    let mut seen = None;
-    let mut list = Vec::new(alloc);
+    let mut notes = Notes::new(alloc);
     for index in 0..tiles.len() {
         if !is_own(index, worker, workers) {
             continue;
         }
-        add_of_tile(
-            alloc,
-            bins,
-            rules,
-            tiles[index],
-            &mut firsts,
-            &mut near,
-            &mut seen,
-            &mut list,
-        )?;
+        add_of_tile(bins, rules, tiles[index], &mut firsts, &mut notes)?;
     }
-    Ok(list)
+    Ok(notes.found)
 }

@@ -13,11 +13,20 @@ ghost use Rattle.tile_checker.specs.WideArea.{IsWideArea, IsSeen};
 use crate::first::First;
 use crate::frame::Frame;
 use crate::minimum::Minimum;
+use crate::notes::Notes;
 use crate::sides::covered_box;
 use crate::violation::Violation;
 use or_geom::{Memory, Point, Rect, holds};
 use shape_bins::Bins;
 use std::alloc::Global;
+
+/// A width rule with its number.
+#[derive(Clone, Copy)]
+pub struct WidthRule {
+    pub number: u32,
+    pub layer: u16,
+    pub min: Minimum,
+}
 
 /// An area that the layer covers, with both sides at least `least`.
 #[derive(Clone, Copy)]
@@ -124,31 +133,30 @@ fn has_width(
 
 /// Adds the shape if it is of the layer and too narrow.
 pub fn add_widths(
-    alloc: Global,
     bins: &Bins,
-    number: u32,
-    layer: u16,
-    min: Minimum,
+    rule: WidthRule,
     first: First,
-    seen: &mut Option<WideArea>,
-    out: &mut Vec<Violation>,
+    notes: &mut Notes,
 ) -> Result<(), Memory>
     requires reach { AreReachable bins.now }
     requires at { IsAt bins.now first }
-    requires seen { IsSeen bins.now seen.old }
-    ensures seen { IsSeen bins.now seen.new }
-    ensures adds { OnOk result (Adds out.old.items out.new.items
-        (IsFrom number (kind.Width layer min.value) bins.now first)) }
+    requires seen { IsSeen bins.now notes.old.seen }
+    ensures seen { IsSeen bins.now notes.new.seen }
+    ensures adds { OnOk result (Adds notes.old.found.items notes.new.found.items
+        (IsFrom rule.number (kind.Width rule.layer rule.min.value) bins.now first)) }
 {
-    if first.shape.layer != layer {
+    if first.shape.layer != rule.layer {
         return Ok(());
     }
-    if has_width(alloc, bins, layer, first.shape.rect, min, seen)? {
+    let rect = first.shape.rect;
+    let seen = &mut notes.seen;
+    if has_width(notes.alloc, bins, rule.layer, rect, rule.min, seen)? {
         return Ok(());
     }
-    Ok(out.push(Violation {
-        rule: number,
+    let narrow = Violation {
+        rule: rule.number,
         first: first.shape,
         second: None,
-    })?)
+    };
+    Ok(notes.found.push(narrow)?)
 }

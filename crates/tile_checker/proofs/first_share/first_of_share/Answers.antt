@@ -1,17 +1,12 @@
-use Rattle.std.proofs.Common.{◌≡◌, List, length, Option, None, refl, sym, subst}
+use Rattle.std.proofs.Common.{length, refl, sym}
 use Rattle.std.proofs.lemmas.Option.{slice_get_read}
+use Rattle.tile_checker.proofs.BoxLaws.{nothing_seen}
 use Rattle.tile_checker.proofs.ReportLaws.{minimums}
 use Rattle.tile_checker.proofs.FirstFoundLaws.{all_tiles, next_tile, no_tiles, tile_passed}
-use Rattle.or_geom.specs.declared.shape.Shape.{Shape}
-use Rattle.tile_checker.specs.declared.width.WideArea.{WideArea}
-use Rattle.tile_checker.specs.WideArea.{IsSeen}
 use Rattle.tile_checker.proofs.first_share.first_of_share.Goals as goal
 
-nothing_seen : (shapes : List Shape) (seen : Option WideArea) → seen ≡ None → IsSeen shapes seen
-nothing_seen shapes seen none = subst (λ (a : Option WideArea). IsSeen shapes a) (sym none) tt
-
 pub loop-index-init : goal.loop-index-init
-loop-index-init c = record { first = no_tiles c.args.tech.now.rules c.args.bins.now c.args.tiles.now c.args.workers c.args.worker; seen = nothing_seen c.args.bins.now _ c.new-notes.ensures }
+loop-index-init c = record { first = no_tiles c.args.tech.now.rules c.args.bins.now c.args.tiles.now c.args.workers c.args.worker; seen = nothing_seen c.args.bins.now _ c.new-notes.ensures.seen }
 
 pub first_of_tile-requires-clause-minimums : goal.first_of_tile-requires-clause-minimums
 first_of_tile-requires-clause-minimums c = minimums c.args.tech.now.layers c.args.tech.now.rules _ c.as_slice-rules.ensures c.requires.tech.rules

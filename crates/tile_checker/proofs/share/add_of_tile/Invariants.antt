@@ -5,6 +5,6 @@ use Rattle.tile_checker.proofs.share.add_of_tile.Given as goal
 
 abbrev pub invariant-loop-number : goal.invariant-loop-number
 invariant-loop-number l = record {
-  adds : Adds l.fn.out.items l.out.items (IsFoundBelow l.rules l.bins l.fn.tile l.number);
-  seen : IsSeen l.bins l.seen;
+  adds : Adds l.fn.notes.found.items l.notes.found.items (IsFoundBelow l.rules l.bins l.fn.tile l.number);
+  seen : IsSeen l.bins l.notes.seen;
 }

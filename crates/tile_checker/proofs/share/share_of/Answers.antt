@@ -1,7 +1,17 @@
-use Rattle.std.proofs.Common.{refl, sym}
+use Rattle.std.proofs.Common.{List, [], refl, sym, subst}
+use Rattle.or_geom.specs.Adds.{Adds}
+use Rattle.tile_checker.specs.declared.violation.Violation.{Violation}
+use Rattle.tile_checker.proofs.BoxLaws.{nothing_seen}
 use Rattle.tile_checker.proofs.ReportLaws.{minimums}
-use Rattle.tile_checker.proofs.FirstLaws.{own_passes, own_goes_on, own_share}
+use Rattle.tile_checker.proofs.FirstLaws.{IsOwnBelow, own_begins, own_passes, own_goes_on, own_share}
 use Rattle.tile_checker.proofs.share.share_of.Goals as goal
+
+pub loop-index-init : goal.loop-index-init
+loop-index-init c = record {
+  adds = subst (λ (l : List Violation). Adds [] l (IsOwnBelow c.args.tech.now.rules c.args.bins.now c.args.tiles.now c.args.workers c.args.worker 0)) (sym c.new-notes.ensures.found)
+      (own_begins c.args.tech.now.rules c.args.bins.now c.args.tiles.now c.args.workers c.args.worker);
+  seen = nothing_seen c.args.bins.now _ c.new-notes.ensures.seen;
+}
 
 pub add_of_tile-requires-clause-minimums : goal.add_of_tile-requires-clause-minimums
 add_of_tile-requires-clause-minimums c = minimums c.args.tech.now.layers c.args.tech.now.rules _ c.as_slice-rules.ensures c.requires.tech.rules

@@ -6,6 +6,6 @@ use Rattle.tile_checker.proofs.share.share_of.Given as goal
 
 abbrev pub invariant-loop-index : goal.invariant-loop-index
 invariant-loop-index l = record {
-  adds : Adds [] l.list.items (IsOwnBelow l.fn.tech.rules l.bins l.tiles l.workers l.worker l.index);
-  seen : IsSeen l.bins l.seen;
+  adds : Adds [] l.notes.found.items (IsOwnBelow l.fn.tech.rules l.bins l.tiles l.workers l.worker l.index);
+  seen : IsSeen l.bins l.notes.seen;
 }
