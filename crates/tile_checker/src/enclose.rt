@@ -51,15 +51,14 @@ fn is_enclosed(bins: &Bins, area: Rect, layers: &[u16]) -> bool
 /// Adds the shape if it is of the layer and none of the rule's layers `by` encloses it.
 pub fn add_encloses(
     bins: &Bins,
-    rule: EncloseRule,
+    rule: &EncloseRule,
     first: First,
     out: &mut Vec<Violation>,
 ) -> Result<(), Memory>
     requires reach { AreReachable bins.now }
     requires at { IsAt bins.now first }
     ensures { OnOk result (Adds out.old.items out.new.items
-        (IsFrom rule.entry.number (kind.Enclose rule.entry.layer rule.entry.by.now rule.entry.min.value) bins.now
-        first)) }
+        (IsFrom rule.now.number (kind.Enclose rule.now.layer rule.now.by.now rule.now.min.value) bins.now first)) }
 {
     if first.shape.layer != rule.layer {
         return Ok(());

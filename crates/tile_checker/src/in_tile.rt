@@ -86,7 +86,7 @@ fn add_own_widths(
 /// Adds the shape if it is of the layer, none of the layers `by` encloses it, and the tile has its corner.
 fn add_own_encloses(
     bins: &Bins,
-    rule: EncloseRule,
+    rule: &EncloseRule,
     tile: Rect,
     first: First,
     out: &mut Vec<Violation>,
@@ -94,8 +94,7 @@ fn add_own_encloses(
     requires reach { AreReachable bins.now }
     requires at { IsAt bins.now first }
     ensures { OnOk result (Adds out.old.items out.new.items
-        (IsFromIn rule.entry.number (kind.Enclose rule.entry.layer rule.entry.by.now rule.entry.min.value) bins.now
-        tile first)) }
+        (IsFromIn rule.now.number (kind.Enclose rule.now.layer rule.now.by.now rule.now.min.value) bins.now tile first)) }
 {
     if !has_corner(tile, first.shape.rect) {
         return Ok(());
@@ -146,7 +145,7 @@ pub fn add_violations(
                 by,
                 min: Minimum { value: *min },
             };
-            add_own_encloses(bins, enclose, tile, first, &mut notes.found)
+            add_own_encloses(bins, &enclose, tile, first, &mut notes.found)
         }
     }
 }
