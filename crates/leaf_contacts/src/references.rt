@@ -219,15 +219,15 @@ fn add_element<'b>(
     bump: &'b Bump,
     tree: &ReachedCells,
     outer: &Stand<'b>,
-    entry: CellElement,
+    entry: &CellElement,
     out: &mut Vec<Stand<'b>>,
 ) -> Result<(), Memory>
     requires tree { AreReachedCells tree.now }
     requires near { IsNearPoint outer.now.place.at }
-    requires element { IsElementAt tree.now outer.now.cell entry.index entry.element.now entry.target }
+    requires element { IsElementAt tree.now outer.now.cell entry.now.index entry.now.element.now entry.now.target }
     ensures { OnOk result ((chain : List Reference) (name : List ℕ) → IsStandOf tree.now chain outer.now
         → IsCellNamed tree.now outer.now.cell name
-        → AddsBelow tree.now chain (IsLiveReference tree.now name entry.index) out.old.items out.new.items) }
+        → AddsBelow tree.now chain (IsLiveReference tree.now name entry.now.index) out.old.items out.new.items) }
 {
     match entry.element {
         Element::Sref { place, .. } => {
@@ -291,7 +291,7 @@ pub fn add_below<'b>(
             index,
             target: targets[index],
         };
-        add_element(alloc, bump, tree, outer, entry, out)?;
+        add_element(alloc, bump, tree, outer, &entry, out)?;
     }
     Ok(())
 }
