@@ -3,8 +3,8 @@
 
 ghost use Rattle.macro_answers.specs.Answers.{MacrosOrFaultsAreThere};
 
-/// Whatever the kit, the plan and what is held, there is a macro of the name or a fault of a part other than that memory
-/// runs out.
+/// Whatever the kit, the plan and what is held, there is a macro of the name, or a fault of a part other than that
+/// memory runs out.
 pub fn macros_or_faults_are_there()
     ensures { MacrosOrFaultsAreThere }
 {}
