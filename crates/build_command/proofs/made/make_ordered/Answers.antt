@@ -8,8 +8,8 @@ use Rattle.build_command.proofs.NameLaws.{views_ascii}
 use Rattle.build_command.proofs.StepLaws.{memory_instead, memory_reads, memory_words}
 use Rattle.build_command.proofs.made.make_ordered.Goals as goal
 
-pub returns-in_ok-made_of-in-Ok-clause-names : goal.returns-in_ok-made_of-in-Ok-clause-names
-returns-in_ok-made_of-in-Ok-clause-names g c =
+pub returns-in-Ok-clause-names : goal.returns-in-Ok-clause-names
+returns-in-Ok-clause-names g c =
     subst (λ (made : Made). HaveAsciiNames made.views) (sym c.in_ok-made_of-in-Ok.ensures) (views_ascii c.args.design.config c.in-Ok.built c.requires.config)
 
 pub returns-in_err-made_of-in-Ok-clause-made : goal.returns-in_err-made_of-in-Ok-clause-made
