@@ -35,7 +35,7 @@ use Rattle.kit_nets.specs.KitLeaf.{KnownLeaf}
 use Rattle.kit_nets.proofs.KnownLaws.{known_source}
 use Rattle.kit_nets.proofs.KitPinLaws.{kit_pin_drawn}
 
--- the first that has p of one list stands where the first that has q of the other does (as in `macro_cells`)
+-- the first that has p of one list stands where the first that has q of the other does (as in `floorplan`)
 same_place : {A B : Type 0} (p : A → Bool) (q : B → Bool) (xs : List A) (ys : List B) → length xs ≡ length ys → ((k : ℕ) (x : A) (y : B) → slice_get xs k ≡ Some x → slice_get ys k ≡ Some y → p x ≡ q y) → position_or_len p xs ≡ position_or_len q ys
 same_place p q [] [] sized same = refl
 same_place p q [] (y ∷ ys) sized same = absurd (omega (arith, sized))
