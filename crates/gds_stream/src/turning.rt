@@ -67,7 +67,8 @@ pub fn append_closed(
     requires others { AllByRecursion IsShort others.now }
     requires before { AllByRecursion IsShort before.now }
     ensures { OnOk result (out.new.items ≡ out.old.items ++ points_bytes
-        (closed_ring (if forward then first ∷ (others.now ++ before.now) else turn.other_way (first ∷ (others.now ++ before.now))))) }
+        (closed_ring (if forward then first ∷ (others.now ++ before.now) else turn.other_way
+        (first ∷ (others.now ++ before.now))))) }
 {
     append_point(out, first)?;
     if forward {

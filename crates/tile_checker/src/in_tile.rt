@@ -94,7 +94,8 @@ fn add_own_encloses(
     requires reach { AreReachable bins.now }
     requires at { IsAt bins.now first }
     ensures { OnOk result (Adds out.old.items out.new.items
-        (IsFromIn rule.now.number (kind.Enclose rule.now.layer rule.now.by.now rule.now.min.value) bins.now tile first)) }
+        (IsFromIn rule.now.number (kind.Enclose rule.now.layer rule.now.by.now rule.now.min.value) bins.now
+        tile first)) }
 {
     if !has_corner(tile, first.shape.rect) {
         return Ok(());

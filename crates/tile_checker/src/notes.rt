@@ -4,13 +4,17 @@ use crate::violation::Violation;
 use crate::width::WideArea;
 use std::alloc::Global;
 
-/// What a worker keeps from look to look: places near a shape, in a list to use again, the violations that it found,
-/// and what the last shape showed of the next ones.
+/// What a worker hands from function to function and carries from shape to shape: one record, so that these functions
+/// take fewer parameters.
 #[derive(Drop)]
 pub struct Notes {
+    /// The allocator of a search for a wide area.
     pub alloc: Global,
+    /// Indices of the shapes near the one that is looked at, in a list that each search uses again.
     pub near: Vec<usize>,
+    /// The violations found: all of the worker's, or those of one shape where only the first violation is asked for.
     pub found: Vec<Violation>,
+    /// The wide area found last: the next shapes often lie in it too.
     pub seen: Option<WideArea>,
 }
 
