@@ -22,7 +22,7 @@ pub struct RomFiles<'a> {
     pub content: &'a str,
 }
 
-/// They, and how many workers may do it.
+/// These files, and how many workers may do it.
 #[derive(Clone, Copy)]
 struct RomForm<'a> {
     files: RomFiles<'a>,

@@ -1,4 +1,4 @@
--- The library of a list of cells.
+-- A list of cells has a library.
 use Rattle.std.proofs.Common.{ℕ, List, [], ◌∷◌, ◌++◌, refl}
 use Rattle.or_geom.specs.ShapeOrder.{shape_order}
 use Rattle.or_geom.proofs.ShapeOrderLaws.{shape_total}

@@ -3,7 +3,7 @@ use or_geom::Name;
 use port_lists::Contents;
 use sram_plan::Plan;
 
-/// What is to be built: of the leaf cells of a kit and by a plan, the macro of this name, and what its bits are.
+/// What is to be built: a macro of this name, from a kit's leaf cells, by a plan; and what its bits are.
 #[derive(Clone, Copy)]
 pub struct Order<'a> {
     pub kit: &'a Kit,
