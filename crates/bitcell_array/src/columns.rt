@@ -13,7 +13,7 @@ ghost use Rattle.part_edges.specs.PartPins.{edge_at};
 ghost use Rattle.bitcell_array.specs.Columns.{column_edges, AreColumnEdges};
 
 use cell_roles::Role;
-use floorplan::LeafSides;
+use floorplan::{LeafSides, column_x};
 use leaf_tables::{Edge, Kit, LeafPin, leaf_of};
 use or_geom::{Items, Memory};
 use part_edges::{edge_at, sorted_edges};
@@ -100,14 +100,4 @@ fn line_edge(alloc: Global, net: Spelling, x: u32, line: &LeafPin) -> Result<Edg
     ensures { IfOk result (λ edge. edge ≡ edge_at (spelled net) (pos x +ℤ line.now.rect.x1)) }
 {
     Ok(edge_at(spell(alloc, net)?, i64::from(x) + line.rect.x1))
-}
-
-/// So many widths to the right of `from`.
-fn column_x(from: u32, column: u32, width: u32) -> u32
-    requires from { from ≤ 131072 }
-    requires column { column ≤ 256 }
-    requires width { width ≤ 65536 }
-    ensures { result ≡ from + column * width }
-{
-    from + column * width
 }
