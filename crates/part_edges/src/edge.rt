@@ -2,8 +2,7 @@ ghost use Rattle.std.specs.Prelude.{◌≡◌};
 ghost use Rattle.part_edges.specs.PartPins.{edge_at, edge_order, AreInOrder};
 
 use leaf_tables::Edge;
-use or_geom::{Items, Memory, Name};
-use std::alloc::Global;
+use or_geom::{Items, Name};
 use std::cmp::Ordering;
 
 /// A net that comes to an edge at x.

@@ -15,7 +15,7 @@ use cell_roles::Role;
 use leaf_shapes::{Demand, LeafPin, demands};
 use leaf_tables::{Edge, Edges, Kit, leaf_of};
 use netlist::Instance;
-use or_geom::{Items, Memory, Name, Place};
+use or_geom::{Memory, Name, Place};
 use std::alloc::Global;
 
 /// Whether the port at the place has this name.

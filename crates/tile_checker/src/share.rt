@@ -6,7 +6,7 @@ ghost use Rattle.or_geom.specs.Distance.{IsReachable};
 ghost use Rattle.or_geom.specs.Reachable.{AreReachable};
 ghost use Rattle.tech_rules.specs.Facts.{IsTech};
 ghost use Rattle.tile_checker.specs.Minimum.{HasMinimum};
-ghost use Rattle.tile_checker.specs.Tiles.{IsViolationIn, IsFoundIn, AreTiles};
+ghost use Rattle.tile_checker.specs.Tiles.{IsFoundIn, AreTiles};
 ghost use Rattle.tile_checker.specs.Share.{IsShare};
 ghost use Rattle.tile_checker.specs.WideArea.{IsSeen};
 

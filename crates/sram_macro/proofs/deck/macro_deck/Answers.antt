@@ -2,7 +2,6 @@
 use Rattle.std.proofs.Common.{List, [], ◌∷◌, ◌++◌, append_assoc, ap, ◌∙◌}
 use Rattle.std.specs.Prelude.{codes}
 use Rattle.tech_rules.specs.declared.tech.RoleName.{RoleName}
-use Rattle.netlist.specs.declared.deck.Subckt.{Subckt}
 use Rattle.port_lists.specs.Cells.{cell_in}
 use Rattle.port_lists.specs.Held.{held_of}
 use Rattle.port_lists.proofs.SubcktLaws.{from_none}

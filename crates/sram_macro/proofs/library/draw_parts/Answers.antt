@@ -1,11 +1,10 @@
 -- The cells of the array, and that of the data.
-use Rattle.std.proofs.Common.{[], ◌∷◌, ◌++◌, length, append_assoc, ap, ◌∙◌, arith}
-use Rattle.cell_builder.specs.declared.cell.DrawnCell.{DrawnCell}
+use Rattle.std.proofs.Common.{[], ◌∷◌, ◌++◌, append_assoc, ap, ◌∙◌, arith}
 use Rattle.cell_builder.specs.CellList.{CellList}
 use Rattle.port_lists.specs.Held.{held_of}
 use Rattle.sram_plan.specs.PlanNumbers.{organization}
 use Rattle.floorplan.specs.LayoutOfKit.{layout_kit}
-use Rattle.macro_layout.specs.Cells.{row_cell, array_cell, pre_cell, data_cell}
+use Rattle.macro_layout.specs.Cells.{array_cell, pre_cell, data_cell}
 use Rattle.floorplan.specs.FloorplanNumbers.{floorplan_of}
 use Rattle.bitcell_array.specs.ArrayPart.{row_cells, array_cells}
 use Rattle.sram_macro.specs.Macro.{macro_bits}
