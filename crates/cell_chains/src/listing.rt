@@ -1,4 +1,4 @@
-ghost use Rattle.std.specs.Prelude.{◌≡◌, ◌<◌, List, ℕ, length, Contains, All, IfOk};
+ghost use Rattle.std.specs.Prelude.{◌≡◌, ◌<◌, length, All, IfOk};
 ghost use Rattle.reference_graph.specs.BottomUp.{IsBottomUp};
 ghost use Rattle.cell_chains.specs.Numbering.{texts, AreNumberedNodes};
 ghost use Rattle.cell_chains.specs.Listing.{IsKnown, IsListed, AreListed};

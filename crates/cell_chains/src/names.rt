@@ -1,4 +1,4 @@
-ghost use Rattle.std.specs.Prelude.{◌≡◌, ◌∷◌, ◌++◌, List, ℕ, Contains, IfOk, OnOk, IfSome, IfNone, option_copied};
+ghost use Rattle.std.specs.Prelude.{◌≡◌, ◌∷◌, ◌++◌, Contains, IfOk, OnOk, IfSome, IfNone, option_copied};
 ghost use Rattle.gds_library.specs.declared.library.Structure.{Structure};
 ghost use Rattle.cell_chains.specs.Hierarchy.{referred_name};
 ghost use Rattle.cell_chains.specs.Numbering.{texts, referred_names, all_referred, Rises, IsNodeNamed, AreNodeNames};

@@ -1,6 +1,4 @@
 ghost use Rattle.std.specs.Prelude.{◌≡◌, IfOk, IfErr};
-ghost use Rattle.std.specs.Option.{option_copied};
-ghost use Rattle.spice_text.specs.Words.{before_assignment};
 ghost use Rattle.device_entries.specs.Lines.{begins_with_m, entry_in_words, AreLineEntries, IsLineFault};
 ghost use Rattle.device_entries.specs.LineSteps.{ReadsAs};
 

@@ -1,4 +1,4 @@
-ghost use Rattle.std.specs.Prelude.{◌≡◌, ◌+◌, ◌<◌, ◌≤◌, length, map, slice_get, Some, Contains, IfOk, OnOk};
+ghost use Rattle.std.specs.Prelude.{◌≡◌, ◌+◌, ◌<◌, ◌≤◌, length, map, slice_get, Some, IfOk, OnOk};
 ghost use Rattle.or_geom.specs.Reachable.{AreReachable};
 ghost use Rattle.cell_hierarchy.specs.Plain.{plain_label};
 ghost use Rattle.drawn_devices.specs.ChannelBoxes.{AreChannelBoxes, low_cell};

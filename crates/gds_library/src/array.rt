@@ -5,7 +5,7 @@ ghost use Rattle.gds_records.specs.Bytes.{records_of, MatchesReader};
 ghost use Rattle.gds_records.specs.Reading.{taken_at};
 ghost use Rattle.gds_records.specs.Values.{IsShort};
 ghost use Rattle.gds_records.specs.declared.error.Demand.TheVariants as demand;
-ghost use Rattle.gds_library.specs.Values.{counts_of, Lattice};
+ghost use Rattle.gds_library.specs.Values.{counts_of};
 ghost use Rattle.gds_library.specs.ReadElements.{three_points_of, displacement_of, step_of, pitch_of, lattice_in};
 ghost use Rattle.gds_library.specs.ReadElements.{lattice_of, aref_at};
 ghost use Rattle.gds_library.specs.Arrays.{AreShortPoints, as_counts, as_lattice, as_three};

@@ -7,7 +7,7 @@ ghost use Rattle.gds_records.specs.declared.error.Demand.TheVariants as demand;
 ghost use Rattle.rectilinear.proofs.SimpleTest.{straight_test};
 ghost use Rattle.rectilinear.specs.Simple.{AllStraight};
 ghost use Rattle.gds_library.specs.Values.{segments, path_kind_of, width_of};
-ghost use Rattle.gds_library.specs.ReadElements.{spine_in, spine_of, drawn_at, wide_at, spine_at, track_at, path_at};
+ghost use Rattle.gds_library.specs.ReadElements.{spine_of, drawn_at, wide_at, spine_at, track_at, path_at};
 
 use crate::library::Element;
 use crate::property::{layers_from, properties_from};

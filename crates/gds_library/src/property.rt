@@ -1,7 +1,4 @@
 ghost use Rattle.gds_records.specs.Bytes.{records_of, MatchesReader};
-ghost use Rattle.gds_records.specs.Reading.{taken_at};
-ghost use Rattle.gds_records.specs.Values.{point_of};
-ghost use Rattle.gds_records.specs.declared.error.Demand.TheVariants as demand;
 ghost use Rattle.gds_library.specs.ReadElements.{layers_at, property_at, properties_at};
 ghost use Rattle.std.specs.Prelude.{ℤ};
 

@@ -1,4 +1,4 @@
-ghost use Rattle.std.specs.Prelude.{◌≡◌, ◌≤◌, ◌-◌, ◌↔◌, None, Ok, Err, drop, length, IsTrue, IfOk, IfErr};
+ghost use Rattle.std.specs.Prelude.{◌≡◌, ◌≤◌, ◌-◌, ◌↔◌, None, Ok, Err, length, IsTrue, IfOk, IfErr};
 ghost use Rattle.gds_records.specs.Bytes.{records_of, length_in};
 ghost use Rattle.gds_records.specs.declared.error.RecordError.TheVariants as error;
 ghost use Rattle.gds_library.specs.ReadLibrary.{library_at};

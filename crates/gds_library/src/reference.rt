@@ -1,13 +1,12 @@
 ghost use Rattle.std.specs.Prelude.{◌≡◌, pos, Some};
-ghost use Rattle.std.specs.Option.{option_map};
 ghost use Rattle.gds_records.specs.Bytes.{records_of, MatchesReader};
 ghost use Rattle.gds_records.specs.Reading.{taken_at, or_at};
-ghost use Rattle.gds_records.specs.Values.{point_of, first_point_of};
+ghost use Rattle.gds_records.specs.Values.{point_of};
 ghost use Rattle.gds_records.specs.declared.error.Demand.TheVariants as demand;
 ghost use Rattle.or_geom.specs.declared.place.Orient.{Orient};
 ghost use Rattle.or_geom.specs.declared.shape.Point.{Point};
 ghost use Rattle.gds_library.specs.declared.transform.Turn.TheVariants.{Zero};
-ghost use Rattle.gds_library.specs.Values.{mirror_of, upright_of, turn_of, counts_of};
+ghost use Rattle.gds_library.specs.Values.{mirror_of, upright_of, turn_of};
 ghost use Rattle.gds_library.specs.ReadElements.{named_at, turn_at, orient_at, place_at, sref_at};
 
 use crate::library::Element;

@@ -1,16 +1,12 @@
-ghost use Rattle.std.specs.Prelude.{◌≡◌, ◌↔◌, ◌==◌, IfOk, IsTrue};
-ghost use Rattle.std.specs.Option.{option_map};
-ghost use Rattle.gds_records.specs.Bytes.{records_of, MatchesReader, AreZero};
+ghost use Rattle.std.specs.Prelude.{◌≡◌, ◌↔◌, ◌==◌};
+ghost use Rattle.gds_records.specs.Bytes.{records_of, MatchesReader};
 ghost use Rattle.gds_records.specs.Reading.{taken_at};
-ghost use Rattle.gds_records.specs.Values.{int32_of, points_from};
 ghost use Rattle.gds_records.specs.declared.error.Demand.TheVariants as demand;
 ghost use Rattle.gds_library.specs.Values.{is_near_nanometre, units_of, is_unit};
 
 use crate::limits::{NANOMETRE, NANOMETRE_EXPONENT, ROUNDING};
 use gds_records::code::UNITS;
 use gds_records::{Demand, RecordError, next, unmet};
-use or_geom::{Memory, Point};
-use std::alloc::Global;
 
 /// Whether a mantissa is that of one nanometre, but for rounding.
 fn is_near(mantissa: u64) -> bool

@@ -1,4 +1,4 @@
-ghost use Rattle.std.specs.Prelude.{◌≡◌, ◌<◌, ◌↔◌, ◌⊎◌, ◌+◌, ℕ, Contains, IsTrue, length, slice_index};
+ghost use Rattle.std.specs.Prelude.{◌≡◌, ◌<◌, ◌↔◌, ◌⊎◌, ◌+◌, ℕ, IsTrue};
 ghost use Rattle.kit_rules.specs.First.{FindsWithout};
 ghost use Rattle.leaf_shapes.specs.Outline.{IsWireLayer};
 ghost use Rattle.kit_rules.specs.WireRules.{IsEnclosedCut, IsOwnSpace, IsWireRule};

@@ -1,4 +1,4 @@
-ghost use Rattle.std.specs.Prelude.{◌≡◌, ◌∷◌, [], pos, ◌≤ℤ◌, IfOk};
+ghost use Rattle.std.specs.Prelude.{◌≡◌, ◌∷◌, pos, ◌≤ℤ◌, IfOk};
 ghost use Rattle.or_geom.specs.Distance.{IsNear};
 ghost use Rattle.layer_tests.specs.Routes.{two_pins};
 

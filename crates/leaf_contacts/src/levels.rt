@@ -1,4 +1,4 @@
-ghost use Rattle.std.specs.Prelude.{◌<◌, ℕ, suc, [], IfOk};
+ghost use Rattle.std.specs.Prelude.{◌<◌, suc, [], IfOk};
 ghost use Rattle.leaf_contacts.specs.Stands.{AreStandsAt, AreStandsBelow, IsStandOf, AreReachedCells};
 
 use crate::cells::ReachedCells;

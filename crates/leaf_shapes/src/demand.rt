@@ -1,4 +1,4 @@
-ghost use Rattle.std.specs.Prelude.{◌≡◌, map, slice_index};
+ghost use Rattle.std.specs.Prelude.{◌≡◌, map};
 ghost use Rattle.leaf_shapes.specs.Demands.{metal_layer, plain_demand, role_demands};
 
 use crate::fit::Fit::{self, *};

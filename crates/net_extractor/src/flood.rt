@@ -1,7 +1,4 @@
-ghost use Rattle.std.specs.Prelude.{◌≡◌, ◌+◌, ◌<◌, length, slice_get, slice_index_or, Contains, None, Some, OnOk};
-ghost use Rattle.std.specs.List.Sorted.{IsStrictlySortedBy};
-ghost use Rattle.or_geom.specs.Gathering.{SomeGives};
-ghost use Rattle.or_geom.specs.ShapeOrder.{shape_order};
+ghost use Rattle.std.specs.Prelude.{◌≡◌, ◌+◌, ◌<◌, length, slice_get, slice_index_or, None, Some, OnOk};
 ghost use Rattle.shape_bins.specs.declared.query.Query.TheVariants.{Overlaps};
 ghost use Rattle.shape_bins.specs.Numbers.{GivesAll};
 ghost use Rattle.net_extractor.specs.Contacts.{IsHitOnSome, TouchesAt, TouchesOnLayerAt};

@@ -1,4 +1,4 @@
-ghost use Rattle.std.specs.Prelude.{◌≡◌, ◌++◌, IfOk, OnOk};
+ghost use Rattle.std.specs.Prelude.{◌≡◌, ◌++◌, IfOk};
 ghost use Rattle.rectilinear.specs.Corners.{is_zero, is_up, is_down, is_right, is_left, is_run, steps, turns_after};
 ghost use Rattle.rectilinear.specs.Corners.{last_of, corners_of};
 

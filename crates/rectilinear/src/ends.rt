@@ -1,8 +1,7 @@
-ghost use Rattle.std.specs.Prelude.{◌≡◌, ◌≢◌, ◌≤◌, length, true, false, int_lt, IsTrue, ◌↔◌, IfOk, OnOk};
+ghost use Rattle.std.specs.Prelude.{◌≡◌, ◌≢◌, ◌≤◌, length, true, false, int_lt, IsTrue, ◌↔◌, OnOk};
 ghost use Rattle.rectilinear.specs.Rows.{Rise, IsPlace, HasAt, IsToggled};
 
 use or_geom::Memory;
-use std::alloc::Global;
 
 /// Where the inside of a ring begins or ends in a row.
 #[derive(Clone, Copy, Debug, PartialEq, Eq, PartialOrd, Ord)]

@@ -1,5 +1,5 @@
 ghost use Rattle.std.specs.Prelude.{◌≡◌, ◌∷◌, ◌↔◌, ◌≤ℤ◌, IsTrue, IfOk};
-ghost use Rattle.rectilinear.specs.Simple.{IsOn, IsStraight, MeetAtMostThere, MeetAsNeighbours, MeetAcross};
+ghost use Rattle.rectilinear.specs.Simple.{IsStraight, MeetAtMostThere, MeetAsNeighbours, MeetAcross};
 ghost use Rattle.rectilinear.specs.Simple.{AllStraight, PairsMeet, IsSimple};
 ghost use Rattle.rectilinear.specs.Extents.{IsExtentOf, IsCommon, IsExtentAround, IsEmpty, HoldsSides, IsAtMostPoint};
 

@@ -1,5 +1,5 @@
 ghost use Rattle.std.specs.Prelude.{◌≡◌, ◌*◌, ◌<◌, ◌≤◌, ◌↔◌, length, IfErr, IfOk, IsTrue};
-ghost use Rattle.rom_data.specs.Words.{bytes_per_word, data_length, little_endian, FitsWord, AreRomWords, AreWordsOf};
+ghost use Rattle.rom_data.specs.Words.{bytes_per_word, data_length, little_endian, FitsWord, AreWordsOf};
 ghost use Rattle.rom_data.specs.Words.{IsRomFault};
 
 use crate::fault::RomFault;

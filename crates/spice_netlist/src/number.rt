@@ -3,7 +3,7 @@ ghost use Rattle.spice_netlist.specs.Numbers.{IsNumberOf};
 ghost use Rattle.spice_netlist.specs.NetTable.{table_nets};
 
 use indexmap::IndexSet;
-use or_geom::{Items, Memory, Name};
+use or_geom::Memory;
 use std::alloc::Global;
 
 /// Nets in the order in which they came, which are numbered by their indices.

@@ -1,5 +1,4 @@
 ghost use Rattle.std.specs.Prelude.{◌≡◌, take, IfOk};
-ghost use Rattle.std.specs.List.{list_any};
 ghost use Rattle.spice_text.specs.Words.{before_assignment, is_assignment};
 ghost use Rattle.spice_text.specs.Statements.{meaning_of, statement_of};
 ghost use Rattle.spice_text.specs.ReaderViews.{keyword_of, said};

@@ -1,4 +1,4 @@
-ghost use Rattle.std.specs.Prelude.{◌≡◌, IfOk, position, map, not, ◌∷◌};
+ghost use Rattle.std.specs.Prelude.{◌≡◌, IfOk, position, map, ◌∷◌};
 ghost use Rattle.std.specs.Char.{to_ascii_lowercase};
 ghost use Rattle.std.specs.List.{position_or_len};
 ghost use Rattle.spice_text.specs.LogicalLines.{is_blank};

@@ -1,5 +1,5 @@
-ghost use Rattle.std.specs.Prelude.{◌≡◌, ℕ, ◌<◌, ◌≤◌, ◌%◌, ◌||◌, ◌&&◌, pos, List, length, IfOk, IfSome, IsTrue};
-ghost use Rattle.std.specs.List.{list_all, list_any};
+ghost use Rattle.std.specs.Prelude.{◌≡◌, ◌<◌, ◌≤◌, ◌%◌, ◌||◌, ◌&&◌, pos, IfOk, IfSome, IsTrue};
+ghost use Rattle.std.specs.List.{list_all};
 ghost use Rattle.sram_netlist.specs.Membership.{IsOneOf};
 ghost use Rattle.toml_keys.specs.Fault.{MatchesUnless};
 ghost use Rattle.toml_keys.specs.Keys.{optional};

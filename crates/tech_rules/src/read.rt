@@ -1,6 +1,6 @@
 ghost use Rattle.tech_rules.specs.Fault.{tech_faults};
 ghost use Rattle.tech_rules.specs.declared.fault.TechFault.TheVariants.{Memory};
-ghost use Rattle.std.specs.Prelude.{◌≡◌, ◌≢◌, [], IfOk, IfErr};
+ghost use Rattle.std.specs.Prelude.{◌≡◌, ◌≢◌, IfOk, IfErr};
 ghost use Rattle.toml.specs.View.{view};
 ghost use Rattle.std.specs.Option.{ForSome};
 ghost use Rattle.tech_rules.specs.Facts.{AreSizes, IsTech};

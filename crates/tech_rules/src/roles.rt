@@ -1,11 +1,10 @@
 ghost use Rattle.tech_rules.specs.Fault.{tech_faults};
 ghost use Rattle.tech_rules.specs.declared.fault.TechFault.TheVariants.{Memory};
-ghost use Rattle.std.specs.Prelude.{◌≡◌, [], filter, map};
+ghost use Rattle.std.specs.Prelude.{◌≡◌, map};
 ghost use Rattle.std.specs.List.{list_all};
-ghost use Rattle.toml_keys.specs.Fault.{MatchesUnless, in_turn};
-ghost use Rattle.toml_keys.specs.Keys.{has_key};
+ghost use Rattle.toml_keys.specs.Fault.{MatchesUnless};
 ghost use Rattle.toml_keys.specs.Section.{section_of};
-ghost use Rattle.tech_rules.specs.Roles.{role_names, roles_in, is_cell_byte, is_cell_name, role_cell, role_rows};
+ghost use Rattle.tech_rules.specs.Roles.{is_cell_byte, is_cell_name, role_cell, role_rows};
 ghost use Rattle.tech_rules.specs.Roles.{cells_of, rows_of, roles_under, rows_under};
 
 use crate::fault::TechFault;
