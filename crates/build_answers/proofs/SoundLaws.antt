@@ -1,5 +1,5 @@
 -- A macro is flat, has a report, has nets and rows, and is sound where the report is empty and the nets are alike.
-use Rattle.std.proofs.Common.{◌≡◌, ◌≢◌, ◌⊎◌, inl, inr, ℕ, List, [], ◌∷◌, Some, refl, sym, ap, subst, ◌∙◌}
+use Rattle.std.proofs.Common.{◌≡◌, ◌≢◌, ◌⊎◌, inl, inr, ℕ, List, [], ◌∷◌, refl, ◌∙◌}
 use Rattle.std.specs.Prelude.{All}
 use Rattle.tech_rules.specs.Facts.{IsRule}
 use Rattle.tech_rules.specs.declared.tech.Layer.{Layer}

@@ -12,7 +12,6 @@ use Rattle.or_geom.specs.declared.shape.Point.{Point}
 use Rattle.or_geom.specs.declared.shape.Rect.{Rect}
 use Rattle.or_geom.specs.declared.shape.Shape.{Shape}
 use Rattle.or_geom.proofs.ListLaws.{all_contained, contains_cases, contains_first, contains_later, contains_none}
-use Rattle.or_geom.proofs.PlaceLaws.{same_point}
 use Rattle.shape_bins.proofs.CoverLaws.{shape_over}
 use Rattle.tech_rules.specs.declared.tech.Device.{Device}
 use Rattle.tech_rules.specs.declared.tech.Tech.{Tech}
@@ -22,7 +21,6 @@ use Rattle.cell_hierarchy.specs.FlatLists.{point_order}
 use Rattle.net_extractor.specs.Binding.{Binds}
 use Rattle.net_extractor.specs.Difference.{in_lower_case}
 use Rattle.drawn_devices.specs.declared.drawn.Channel.{Channel}
-use Rattle.drawn_devices.specs.declared.drawn.DrawnDevices.{DrawnDevices}
 use Rattle.drawn_devices.specs.declared.drawn.Flow.{Flow}
 use Rattle.drawn_devices.specs.declared.drawn.NetName.{NetName}
 use Rattle.drawn_devices.specs.declared.drawn.Side.{Side}
@@ -30,15 +28,15 @@ use Rattle.drawn_devices.specs.declared.drawn.Terminals.{Terminals}
 use Rattle.drawn_devices.specs.Cells.{ShareSide}
 use Rattle.drawn_devices.specs.Channels.{IsChannelCell, ChannelOf, IsLeastCell}
 use Rattle.drawn_devices.specs.Diffusion.{IsActive, IsDiffusion}
-use Rattle.drawn_devices.specs.Drawn.{AreNetNumbers, IsNumberAlong, AreTerminals, TerminalsAre, IsDrawnChannel, IsNetName, IsListed, channel_order}
-use Rattle.drawn_devices.specs.Names.{label_anchor, IsNamed}
+use Rattle.drawn_devices.specs.Drawn.{AreNetNumbers, IsNumberAlong, TerminalsAre, IsDrawnChannel, IsNetName}
+use Rattle.drawn_devices.specs.Names.{label_anchor}
 use Rattle.drawn_devices.specs.Nets.{Member, Drawn, Diffused, IsMember, MembersTouch}
-use Rattle.drawn_devices.specs.Sides.{IsAlong, IsOpen, first_side, second_side}
+use Rattle.drawn_devices.specs.Sides.{IsOpen, first_side, second_side}
 use Rattle.drawn_devices.specs.Sound.{IsGateOf, IsSoundChannel}
 use Rattle.drawn_devices.proofs.CellLaws.{Has, box_linked}
 use Rattle.drawn_devices.proofs.LayerLaws.{decide_active}
 use Rattle.flat_answers.proofs.DecisionLaws.{Decided, decide_both, decide_name, decide_not}
-use Rattle.flat_answers.proofs.ListedLaws.{IsOrder, Listed, Ordered, all_by_contained, decide_all, listed_as, listed_below, listed_none, listed_one, listed_ordered, listed_over, listed_where}
+use Rattle.flat_answers.proofs.ListedLaws.{IsOrder, Listed, all_by_contained, decide_all, listed_as, listed_below, listed_none, listed_one, listed_ordered, listed_over, listed_where}
 use Rattle.flat_answers.proofs.OrderLaws.{equal_number, equal_parts, points_in_order}
 use Rattle.net_answers.proofs.ToldLaws.{bound_or_none, one_bound}
 use Rattle.device_answers.specs.DeviceAnswers.{DrawnDevicesAreThere}

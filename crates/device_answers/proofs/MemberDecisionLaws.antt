@@ -4,16 +4,14 @@ use Rattle.std.specs.Prelude.{Contains}
 use Rattle.std.proofs.lemmas.Bool.{cases_eq}
 use Rattle.or_geom.specs.declared.shape.Point.{Point}
 use Rattle.or_geom.specs.declared.shape.Shape.{Shape}
-use Rattle.or_geom.specs.Covered.{HasCell}
-use Rattle.or_geom.specs.Gathering.{SomeHas}
 use Rattle.shape_bins.proofs.CoverLaws.{shape_over}
 use Rattle.tech_rules.specs.declared.tech.Connect.{Connect}
 use Rattle.tech_rules.specs.declared.tech.Tech.{Tech}
-use Rattle.tech_rules.specs.Touch.{IsConductor, IsCutTo, Joins, Touch}
+use Rattle.tech_rules.specs.Touch.{IsCutTo, Joins, Touch}
 use Rattle.tech_rules.proofs.LinkedLaws.{linked_back, linked_itself, linked_on}
 use Rattle.net_extractor.proofs.ExtractLaws.{touch_turned}
 use Rattle.told_nets.proofs.TellLaws.{told_conductor}
-use Rattle.drawn_devices.specs.Cells.{LiesOn, ShareSide}
+use Rattle.drawn_devices.specs.Cells.{ShareSide}
 use Rattle.drawn_devices.specs.Diffusion.{IsActive, IsDiffusion}
 use Rattle.drawn_devices.specs.Drawn.{AreNetNumbers}
 use Rattle.drawn_devices.specs.Nets.{Member, Drawn, Diffused, IsMember, IsUnderCut, MembersTouch, AreOnDrawnNet}

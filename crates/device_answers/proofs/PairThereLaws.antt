@@ -1,6 +1,6 @@
 -- The transistors of a layout and of a subcircuit are alike, or have a first difference.
 use Rattle.std.proofs.Common.{◌≡◌, ◌≢◌, ◌⊎◌, inl, inr, ℕ, zero, suc, ◌+◌, ◌<◌, Bool, true, false, cond, List, [], ◌∷◌, length, Option, Some, None, refl, sym, ap, subst, ◌∙◌, arith}
-use Rattle.std.specs.Prelude.{Contains, count_by, slice_get, IsTrue}
+use Rattle.std.specs.Prelude.{Contains, count_by, slice_get}
 use Rattle.std.specs.Ordering.{eq_by_cmp, is_eq}
 use Rattle.std.specs.declared.cmp.Ordering.{Ordering}
 use Rattle.std.specs.declared.cmp.Ordering.TheVariants.{Less, Equal, Greater}
@@ -8,7 +8,7 @@ use Rattle.std.proofs.lemmas.Bool.{cases_eq, cases_lt}
 use Rattle.std.proofs.lemmas.Cmp.{on_total, then_total, tied_itself}
 use Rattle.std.proofs.lemmas.List.Sums.{sum_by-cons}
 use Rattle.std.proofs.lemmas.Option.{same_Some}
-use Rattle.or_geom.specs.Least.{name_order, IsLeast}
+use Rattle.or_geom.specs.Least.{name_order}
 use Rattle.or_geom.proofs.ListLaws.{contains_first, contains_later}
 use Rattle.tech_rules.specs.declared.tech.Device.{Device}
 use Rattle.spice_text.specs.Words.{lower}
@@ -17,8 +17,7 @@ use Rattle.drawn_devices.specs.declared.drawn.Channel.{Channel}
 use Rattle.drawn_devices.specs.declared.drawn.NetName.{NetName}
 use Rattle.drawn_devices.specs.declared.drawn.Terminals.{Terminals}
 use Rattle.device_entries.specs.declared.entry.DeviceEntry.{DeviceEntry}
-use Rattle.device_entries.specs.declared.uneven.Uneven.TheVariants as uneven
-use Rattle.device_entries.specs.Counts.{how_often, AreEven}
+use Rattle.device_entries.specs.Counts.{how_often}
 use Rattle.device_entries.specs.Entries.{entry_of}
 use Rattle.device_entries.specs.EntryOrder.{entry_order, entry_total}
 use Rattle.device_entries.proofs.OrderLaws.{one_entry, ties_are_one}
@@ -28,7 +27,7 @@ use Rattle.device_lvs.specs.ChannelEntries.{IsNotSound, AreNamed, IsNameless, Is
 use Rattle.device_lvs.specs.CompareSteps.{AreComparedAs}
 use Rattle.device_lvs.specs.Difference.{CellPair, AreComparable}
 use Rattle.device_lvs.specs.EntrySteps.{HaveDevices}
-use Rattle.device_lvs.specs.NetNames.{HasName, HasSomeName, IsOnTwoNets, ShareNet, pair_order}
+use Rattle.device_lvs.specs.NetNames.{HasSomeName, IsOnTwoNets, ShareNet, pair_order}
 use Rattle.flat_answers.proofs.DecisionLaws.{Decided, decide_as, decide_bool, decide_both, decide_name, decide_not}
 use Rattle.flat_answers.proofs.ListedLaws.{IsOrder, Listed, decide_some, listed_as, listed_either, listed_one, listed_over, listed_where}
 use Rattle.flat_answers.proofs.ListedLaws.{first_or_none as least_or_none}

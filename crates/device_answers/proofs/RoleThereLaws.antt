@@ -1,6 +1,6 @@
 -- Roles can be compared or have a fault, and leaf files have an answer or a fault.
 use Rattle.std.proofs.Common.{◌≡◌, ◌≢◌, ◌⊎◌, inl, inr, ℕ, zero, suc, ◌+◌, ◌<◌, ◌≤◌, Bool, true, List, [], ◌∷◌, length, Option, Some, None, refl, sym, subst, ◌∙◌, arith}
-use Rattle.std.specs.Prelude.{Contains, slice_get, IsTrue, filter, filter_map}
+use Rattle.std.specs.Prelude.{slice_get, filter, filter_map}
 use Rattle.std.specs.List.{AllByRecursion}
 use Rattle.std.specs.Option.{option_or}
 use Rattle.net_extractor.proofs.PlaceLaws.{at_contained}
@@ -17,9 +17,8 @@ use Rattle.device_lvs.specs.declared.difference.DeviceDiff.{DeviceDiff}
 use Rattle.device_lvs.specs.declared.fault.DeviceFault.{DeviceFault}
 use Rattle.device_lvs.specs.declared.fault.DeviceFault.TheVariants.{NoDevices, Flatten, UnknownSubckt, Nested, BadDevice, Memory}
 use Rattle.device_lvs.specs.Answer.{HasPair, IsDeviceFault, IsDeviceAnswer}
-use Rattle.device_lvs.specs.Difference.{CellPair}
 use Rattle.device_lvs.specs.EntrySteps.{HaveDevices}
-use Rattle.device_lvs.specs.Roles.{LeafFiles, subckt_of, AreFlatOf, AreListedEntries, IsListFault, IsPairOf, IsFaultOfRole}
+use Rattle.device_lvs.specs.Roles.{LeafFiles, subckt_of, AreFlatOf, AreListedEntries, IsListFault, IsFaultOfRole}
 use Rattle.device_lvs.specs.RoleSteps.{AreComparedBelow, IsRoleComparedAs}
 use Rattle.device_lvs.proofs.RoleLaws.{answers, compared_more, faults, have_devices, list_faults, role_compared}
 use Rattle.flat_answers.specs.FlatAnswers.{FlatListsOrFault}

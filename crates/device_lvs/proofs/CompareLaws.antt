@@ -1,5 +1,5 @@
 -- What the first difference is, from what is compared.
-use Rattle.std.proofs.Common.{◌≡◌, ℕ, List, Option, None, Some}
+use Rattle.std.proofs.Common.{◌≡◌, None, Some}
 use Rattle.device_lvs.specs.declared.difference.DeviceDiff.{DeviceDiff}
 use Rattle.device_lvs.specs.declared.difference.DeviceDiff.TheVariants.{NotBox, Open, Short, Nameless, Absent, Extra}
 use Rattle.device_lvs.specs.CompareSteps.{IsDifferenceOfNames}

@@ -1,7 +1,7 @@
 -- The transistors of channels, one channel after another.
-use Rattle.std.proofs.Common.{◌≡◌, ◌≢◌, ◌⊎◌, ◌↔◌, inl, inr, ℕ, zero, suc, ◌+◌, ◌<◌, ◌≤◌, List, [], ◌∷◌, ◌++◌, take, length, get_or, Option, None, Some, Result, Ok, Err, IfOk, refl, sym, ap, subst, ◌∙◌, arith, length-append}
+use Rattle.std.proofs.Common.{◌≡◌, ◌≢◌, ◌⊎◌, ◌↔◌, inl, inr, ℕ, zero, suc, ◌+◌, ◌<◌, ◌≤◌, List, [], ◌∷◌, ◌++◌, take, length, get_or, Some, Result, Ok, Err, IfOk, refl, sym, ap, subst, ◌∙◌, arith, length-append}
 use Rattle.std.specs.Prelude.{Contains, slice_get}
-use Rattle.std.proofs.lemmas.List.{take_more, take_all, length-take}
+use Rattle.std.proofs.lemmas.List.{take_more}
 use Rattle.std.proofs.lemmas.Option.{same_Some, slice_get_within, slice_get-get_or, get_or_from_slice_get}
 use Rattle.or_geom.specs.declared.memory.Memory.{Memory}
 use Rattle.or_geom.proofs.ListLaws.{contained_at}
@@ -12,7 +12,7 @@ use Rattle.drawn_devices.specs.declared.drawn.Terminals.{Terminals}
 use Rattle.device_entries.specs.declared.entry.DeviceEntry.{DeviceEntry}
 use Rattle.device_lvs.specs.declared.entries.ChannelEntries.{ChannelEntries}
 use Rattle.device_lvs.specs.declared.entries.ChannelEntries.TheVariants.{All, Nameless}
-use Rattle.device_lvs.specs.ChannelEntries.{IsNotSound, AreNamed, IsNameless, HasEntry, IsEntryOf, AreEntries, IsFirstChannel, HasNoneOf}
+use Rattle.device_lvs.specs.ChannelEntries.{AreNamed, IsNameless, IsEntryOf, AreEntries, IsFirstChannel, HasNoneOf}
 use Rattle.device_lvs.specs.EntrySteps.{AreReadAs}
 
 -- what stands in a list with one more item

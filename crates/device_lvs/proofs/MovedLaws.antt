@@ -1,9 +1,8 @@
 -- What two sides differ in doesn't depend on the numbers of nets.
-use Rattle.std.proofs.Common.{◌≡◌, ◌≢◌, inl, inr, ℕ, ℤ, pos, ◌<◌, ◌≤◌, List, [], length, get_or, Option, None, Some, refl, sym, ap, subst, ◌∙◌, arith}
-use Rattle.std.specs.Prelude.{Contains, slice_get}
+use Rattle.std.proofs.Common.{◌≡◌, ◌≢◌, inl, inr, ℕ, ℤ, pos, ◌<◌, ◌≤◌, List, length, get_or, Option, None, Some, refl, subst, ◌∙◌, arith}
+use Rattle.std.specs.Prelude.{slice_get}
 use Rattle.std.proofs.lemmas.Bool.{cases_lt}
 use Rattle.std.proofs.lemmas.Option.{slice_get_within, slice_get-get_or}
-use Rattle.or_geom.specs.declared.shape.Point.{Point}
 use Rattle.or_geom.specs.declared.shape.Shape.{Shape}
 use Rattle.or_geom.specs.Least.{IsLeast}
 use Rattle.or_geom.proofs.ListLaws.{contained_at, one_at}
@@ -13,13 +12,12 @@ use Rattle.drawn_devices.specs.declared.drawn.Channel.{Channel}
 use Rattle.drawn_devices.specs.declared.drawn.DrawnDevices.{DrawnDevices}
 use Rattle.drawn_devices.specs.Drawn.{AreDrawnDevices}
 use Rattle.device_entries.specs.declared.entry.DeviceEntry.{DeviceEntry}
-use Rattle.device_entries.specs.declared.uneven.Uneven.{Uneven}
 use Rattle.device_lvs.specs.declared.difference.DeviceDiff.{DeviceDiff}
 use Rattle.device_lvs.specs.declared.difference.DeviceDiff.TheVariants.{NotBox, Open, Short, Nameless, Absent, Extra}
-use Rattle.device_lvs.specs.NetNames.{IsOnTwoNets, ShareNet, IsLeastPair, AreNotSplit, AreNotJoined}
+use Rattle.device_lvs.specs.NetNames.{IsOnTwoNets, IsLeastPair, AreNotSplit, AreNotJoined}
 use Rattle.device_lvs.specs.ChannelEntries.{IsNotSound, IsNameless, IsEntryOf, AreEntries, IsFirstChannel, HasNoneOf}
 use Rattle.device_lvs.specs.CompareSteps.{cell_pair, AreComparedAs}
-use Rattle.device_lvs.specs.Difference.{CellPair, AreAllSound, AreWhole, AreApartNets, AreComparable, IsUnevenIn, IsAlike, IsDifferenceIn}
+use Rattle.device_lvs.specs.Difference.{CellPair, AreWhole, AreApartNets, AreComparable}
 use Rattle.device_lvs.proofs.EntryLaws.{place_of}
 use Rattle.device_lvs.proofs.TerminalLaws.{split_moved, share_moved}
 use Rattle.device_lvs.proofs.OneWayLaws.{ChannelMoved, ChannelThere, channel_there}

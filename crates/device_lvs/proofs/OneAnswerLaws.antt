@@ -1,5 +1,5 @@
 -- Leaf files have one answer or one refusal.
-use Rattle.std.proofs.Common.{◌≡◌, ◌≢◌, ◌⊎◌, inl, inr, ℕ, ◌<◌, ◌≤◌, List, [], Option, None, Some, refl, sym, ap, subst, ◌∙◌, arith}
+use Rattle.std.proofs.Common.{◌≡◌, ◌≢◌, ◌⊎◌, inl, inr, ℕ, ◌<◌, ◌≤◌, [], Option, None, Some, refl, sym, ap, subst, ◌∙◌, arith}
 use Rattle.std.specs.Prelude.{slice_get}
 use Rattle.std.specs.List.{AllByRecursion}
 use Rattle.std.proofs.lemmas.Bool.{cases_lt}
@@ -10,7 +10,7 @@ use Rattle.tech_rules.specs.declared.tech.RoleName.{RoleName}
 use Rattle.device_lvs.specs.declared.difference.DeviceDiff.{DeviceDiff}
 use Rattle.device_lvs.specs.declared.fault.DeviceFault.{DeviceFault}
 use Rattle.device_lvs.specs.declared.fault.DeviceFault.TheVariants.{NoDevices, Flatten, UnknownSubckt, Nested, BadDevice, Memory}
-use Rattle.device_lvs.specs.Answer.{HasPair, IsRoleAlike, IsRoleDifference, IsFirstRoleFault, IsDeviceFault, IsFirstDeviceDiff, AreAlikeDevices, IsDeviceAnswer}
+use Rattle.device_lvs.specs.Answer.{HasPair, IsRoleAlike, IsRoleDifference, IsFirstRoleFault, IsDeviceFault, IsFirstDeviceDiff, IsDeviceAnswer}
 use Rattle.device_lvs.specs.OneAnswer.{DeviceAnswersAreUnique, DeviceFaultsAreUnique, DeviceFaultsExcludeAnswers}
 use Rattle.device_lvs.specs.Roles.{LeafFiles, IsFaultOfRole}
 use Rattle.device_lvs.proofs.OneRoleLaws.{role_is_one, one_role_fault, fault_or_pair}

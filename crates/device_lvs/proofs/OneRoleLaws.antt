@@ -1,33 +1,30 @@
 -- A role is compared in one way, or it can't be for one reason.
-use Rattle.std.proofs.Common.{◌≡◌, ◌≢◌, ◌⊎◌, inl, inr, ℕ, ◌<◌, ◌≤◌, Bool, true, List, [], length, Option, None, Some, IsTrue, refl, sym, ap, subst, ◌∙◌, arith}
-use Rattle.std.specs.Prelude.{Contains, slice_get}
+use Rattle.std.proofs.Common.{◌≡◌, ◌≢◌, ◌⊎◌, inl, inr, ℕ, ◌<◌, ◌≤◌, Bool, true, List, [], Option, None, Some, refl, sym, ap, subst, ◌∙◌, arith}
 use Rattle.std.specs.List.{AllByRecursion}
 use Rattle.std.proofs.lemmas.Bool.{cases_lt}
 use Rattle.std.proofs.lemmas.Option.{same_Some}
-use Rattle.or_geom.proofs.ListLaws.{contained_at, one_at}
+use Rattle.or_geom.proofs.ListLaws.{contained_at}
 use Rattle.gds_library.specs.Writable.{IsWritableCell}
 use Rattle.netlist.specs.declared.deck.Subckt.{Subckt}
 use Rattle.spice_text.specs.Words.{lower}
-use Rattle.tech_rules.specs.declared.tech.Device.{Device}
 use Rattle.tech_rules.specs.declared.tech.RoleName.{RoleName}
 use Rattle.cell_hierarchy.specs.declared.fault.FlattenFault.{FlattenFault}
 use Rattle.cell_hierarchy.specs.declared.fault.FlattenFault.TheVariants as flatten_fault
-use Rattle.cell_hierarchy.specs.FlatLists.{AreFlatLists, IsFault}
+use Rattle.cell_hierarchy.specs.FlatLists.{IsFault}
 use Rattle.cell_hierarchy.specs.Plain.{FlatLists}
 use Rattle.cell_hierarchy.proofs.TotalLaws.{one_total}
 use Rattle.cell_hierarchy.proofs.OneListsLaws.{one_pair}
 use Rattle.cell_hierarchy.proofs.OneFaultLaws.{one_fault, fault_or_lists}
-use Rattle.drawn_devices.specs.declared.drawn.DrawnDevices.{DrawnDevices}
 use Rattle.drawn_devices.specs.Drawn.{AreDrawnDevices}
 use Rattle.device_entries.specs.declared.entry.DeviceEntry.{DeviceEntry}
-use Rattle.device_entries.specs.Lines.{is_device_line, AreLineEntries, IsFirstBadLine}
+use Rattle.device_entries.specs.Lines.{AreLineEntries, IsFirstBadLine}
 use Rattle.device_lvs.specs.declared.difference.DeviceDiff.{DeviceDiff}
 use Rattle.device_lvs.specs.declared.fault.DeviceFault.{DeviceFault}
 use Rattle.device_lvs.specs.declared.fault.DeviceFault.TheVariants.{NoDevices, Flatten, UnknownSubckt, Nested, BadDevice, Memory}
 use Rattle.device_lvs.specs.Answer.{HasPair}
 use Rattle.device_lvs.specs.CompareSteps.{cell_pair, AreComparedAs}
 use Rattle.device_lvs.specs.Difference.{CellPair}
-use Rattle.device_lvs.specs.Roles.{LeafFiles, subckt_of, AreFlatOf, IsFlat, AreListedEntries, IsPairOf, LacksSubckt, IsNested, HasBadLine, IsFaultOfRole}
+use Rattle.device_lvs.specs.Roles.{LeafFiles, subckt_of, IsFlat, AreListedEntries, IsPairOf, IsFaultOfRole}
 use Rattle.device_lvs.proofs.MovedLaws.{moved, no_longer}
 use Rattle.device_lvs.proofs.OneStepLaws.{Stops, HasOne, stop_at_one, compared_is_one}
 

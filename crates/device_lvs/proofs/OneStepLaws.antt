@@ -1,6 +1,6 @@
 -- A cell and its subcircuit have one first difference, or none.
 use Rattle.std.proofs.Common.{◌≡◌, ◌≢◌, ◌⊎◌, inl, inr, ℕ, ℤ, pos, ◌<◌, List, [], ◌∷◌, length, get_or, Option, None, Some, refl, sym, ap, subst, ◌∙◌, arith}
-use Rattle.std.specs.Prelude.{Contains, slice_get}
+use Rattle.std.specs.Prelude.{slice_get}
 use Rattle.std.specs.Ordering.{ordering_then, ordering_reverse}
 use Rattle.std.specs.Cmp.{IsTotalOrder, on_total, then_total}
 use Rattle.std.specs.Cmp.Lexicographic.{nat_list_cmp_total}
@@ -9,7 +9,7 @@ use Rattle.std.specs.declared.cmp.Ordering.TheVariants.{Less, Equal, Greater}
 use Rattle.std.proofs.lemmas.Bool.{cases_lt}
 use Rattle.std.proofs.lemmas.List.{same_lists}
 use Rattle.std.proofs.lemmas.Map.Lookups.{exact_bytes}
-use Rattle.std.proofs.lemmas.Option.{same_Some, slice_get_within, slice_get-get_or}
+use Rattle.std.proofs.lemmas.Option.{same_Some, slice_get-get_or}
 use Rattle.or_geom.specs.declared.shape.Point.{Point}
 use Rattle.or_geom.specs.Least.{name_order, IsLeast}
 use Rattle.or_geom.proofs.LeastLaws.{neither_after, least_is_one}
@@ -28,10 +28,10 @@ use Rattle.device_entries.specs.EntryOrder.{entry_order, entry_total}
 use Rattle.device_entries.proofs.OrderLaws.{one_entry}
 use Rattle.device_lvs.specs.declared.difference.DeviceDiff.{DeviceDiff}
 use Rattle.device_lvs.specs.declared.difference.DeviceDiff.TheVariants.{NotBox, Open, Short, Nameless, Absent, Extra}
-use Rattle.device_lvs.specs.NetNames.{HasName, IsOnTwoNets, ShareNet, pair_order, IsLeastPair, AreNotSplit, AreNotJoined}
+use Rattle.device_lvs.specs.NetNames.{HasName, IsOnTwoNets, pair_order, IsLeastPair, AreNotSplit, AreNotJoined}
 use Rattle.device_lvs.specs.ChannelEntries.{IsNotSound, IsNameless, HasEntry, IsEntryOf, AreEntries, IsFirstChannel, HasNoneOf}
 use Rattle.device_lvs.specs.CompareSteps.{AreComparedAs, diff_of}
-use Rattle.device_lvs.specs.Difference.{CellPair, AreAllSound, IsDifferenceIn}
+use Rattle.device_lvs.specs.Difference.{CellPair, AreAllSound}
 
 -- one stage stops with a thing, or it is passed and the next one stops
 abbrev pub Stops : {D : Type 0} → (D → Type 0) → Type 0 → (D → Type 0) → D → Type 0

@@ -1,18 +1,16 @@
 -- Two readings of one cell have the same channels and names, up to the numbers of nets.
-use Rattle.std.proofs.Common.{◌≡◌, ◌≢◌, ◌↔◌, ◌⊎◌, inl, inr, ℕ, ◌<◌, ◌≤◌, List, [], ◌∷◌, map, length, get_or, Option, None, Some, refl, sym, ap, subst, ◌∙◌, arith}
+use Rattle.std.proofs.Common.{◌≡◌, ◌≢◌, ◌↔◌, ◌⊎◌, ℕ, ◌<◌, ◌≤◌, List, [], ◌∷◌, map, Option, None, Some, refl, sym, ap, subst, ◌∙◌}
 use Rattle.std.specs.Prelude.{Contains, slice_get, option_map}
-use Rattle.std.specs.Ordering.{ordering_then, nat_cmp, int_cmp}
+use Rattle.std.specs.Ordering.{ordering_then, nat_cmp}
 use Rattle.std.specs.Cmp.{IsTotalOrder, on_total, then_total, nat_cmp_total, int_cmp_total}
 use Rattle.std.specs.List.Sorted.{IsStrictlySortedBy}
 use Rattle.std.specs.List.{AllByRecursion}
 use Rattle.std.specs.declared.cmp.Ordering.{Ordering}
 use Rattle.std.specs.declared.cmp.Ordering.TheVariants.{Less}
-use Rattle.std.proofs.lemmas.Bool.{cases_lt}
-use Rattle.std.proofs.lemmas.Option.{same_Some, slice_get_within, slice_get-get_or, slice_get-map}
+use Rattle.std.proofs.lemmas.Option.{same_Some, slice_get-map}
 use Rattle.or_geom.specs.declared.shape.Point.{Point}
 use Rattle.or_geom.specs.declared.shape.Shape.{Shape}
-use Rattle.or_geom.specs.OneList.{HoldSame}
-use Rattle.or_geom.proofs.ListLaws.{contained_at, contains_map, one_at}
+use Rattle.or_geom.proofs.ListLaws.{contained_at, contains_map}
 use Rattle.or_geom.proofs.OneListLaws.{one_list}
 use Rattle.element_drawing.specs.PlainLabel.{PlainLabel}
 use Rattle.tech_rules.specs.declared.tech.Device.{Device}
@@ -24,7 +22,7 @@ use Rattle.drawn_devices.specs.declared.drawn.Terminals.{Terminals}
 use Rattle.drawn_devices.specs.Channels.{IsChannelCell}
 use Rattle.drawn_devices.specs.Drawn.{TerminalsAre, IsDrawnChannel, AreDrawnDevices}
 use Rattle.device_entries.specs.declared.entry.DeviceEntry.{DeviceEntry}
-use Rattle.device_lvs.specs.ChannelEntries.{IsNotSound, AreNamed, IsNameless, HasEntry, IsEntryOf}
+use Rattle.device_lvs.specs.ChannelEntries.{IsNotSound, IsNameless, IsEntryOf}
 use Rattle.device_lvs.proofs.EntryLaws.{place_of}
 use Rattle.device_lvs.proofs.TerminalLaws.{TerminalsMoved, terminals_moved}
 

@@ -1,10 +1,10 @@
 -- Roles one after another: the first fault, and the first difference.
 use Rattle.std.proofs.Common.{◌≡◌, ◌≢◌, inl, inr, ℕ, ◌+◌, ◌<◌, ◌≤◌, ◌==◌, Bool, true, false, List, [], length, Option, None, Some, Result, Ok, Err, IfErr, refl, sym, ap, subst, ◌∙◌, arith}
-use Rattle.std.specs.Prelude.{Contains, slice_get}
+use Rattle.std.specs.Prelude.{slice_get}
 use Rattle.std.specs.List.{find}
 use Rattle.std.specs.Option.{option_or}
 use Rattle.std.specs.Str.{bytes_eq}
-use Rattle.std.proofs.lemmas.Option.{same_Some, slice_get_within, slice_get-get_or}
+use Rattle.std.proofs.lemmas.Option.{slice_get_within}
 use Rattle.or_geom.proofs.ListLaws.{below_or, one_at}
 use Rattle.netlist.specs.declared.deck.Subckt.{Subckt}
 use Rattle.spice_text.specs.Words.{lower}
@@ -23,7 +23,7 @@ use Rattle.device_lvs.specs.CompareSteps.{AreComparedAs}
 use Rattle.device_lvs.specs.Difference.{CellPair, IsAlike}
 use Rattle.device_lvs.specs.EntrySteps.{HaveDevices}
 use Rattle.device_lvs.specs.Roles.{LeafFiles, subckt_of, AreListedEntries, IsFlat, IsPairOf, IsListFault, IsFaultOfRole}
-use Rattle.device_lvs.specs.RoleSteps.{HasEarlierCell, IsRoleComparedAs, AreComparedBelow, IsFirstBelow, IsFlattenFault, IsPlainFault}
+use Rattle.device_lvs.specs.RoleSteps.{HasEarlierCell, IsRoleComparedAs, AreComparedBelow, IsFlattenFault, IsPlainFault}
 
 pub have_devices : (tech : Tech) (lists : FlatLists) (drawn : DrawnDevices) → AreDrawnDevices tech lists.shapes lists.labels drawn → HaveDevices tech.devices drawn.channels
 have_devices tech lists drawn are = λ channel there. let of = are.each channel there in slice_get_within tech.devices channel.device of.device of.there

@@ -1,5 +1,5 @@
 -- Names in order: the least that is on two nets, and the least two on one.
-use Rattle.std.proofs.Common.{◌≡◌, ◌≢◌, ◌↔◌, ◌⊎◌, inl, inr, ℕ, ◌+◌, ◌-◌, ◌<◌, ◌≤◌, Bool, List, [], ◌∷◌, ◌++◌, map, length, get_or, Option, None, Some, true, false, refl, sym, ap, subst, ◌∙◌, arith}
+use Rattle.std.proofs.Common.{◌≡◌, ◌≢◌, ◌↔◌, ◌⊎◌, inl, inr, ℕ, ◌+◌, ◌-◌, ◌<◌, ◌≤◌, Bool, List, [], ◌∷◌, ◌++◌, map, length, get_or, Option, Some, true, false, refl, sym, ap, subst, ◌∙◌, arith}
 use Rattle.std.specs.Prelude.{Contains, slice_get, unwrap_or, option_map}
 use Rattle.std.specs.Ordering.{ordering_then, ordering_reverse, nat_cmp, is_lt}
 use Rattle.std.specs.Cmp.{IsTotalOrder, on_total, then_total, nat_cmp_total}
@@ -13,12 +13,12 @@ use Rattle.std.proofs.lemmas.Cmp.{tied_itself, alike_right}
 use Rattle.std.proofs.lemmas.List.{get_or-map, length-map}
 use Rattle.std.proofs.lemmas.List.Sorted.{IsPermutation-map, Contains-permutation, IsPermutation-sym}
 use Rattle.std.proofs.lemmas.Map.Lookups.{exact_bytes}
-use Rattle.std.proofs.lemmas.Option.{slice_get_within, get_or_from_slice_get, slice_get-get_or}
+use Rattle.std.proofs.lemmas.Option.{slice_get_within, slice_get-get_or}
 use Rattle.or_geom.specs.Least.{name_order, IsLeast}
 use Rattle.or_geom.proofs.ListLaws.{contained_at, one_at}
 use Rattle.drawn_devices.specs.declared.drawn.NetName.{NetName}
-use Rattle.device_lvs.specs.NetNames.{HasName, IsOnTwoNets, ShareNet, pair_order, IsLeastPair, AreNotSplit, AreNotJoined}
-use Rattle.device_lvs.specs.Sorted.{by_name, by_net, AreNamesSorted, AreNeighbours, AreSplitAt, AreNotSplitBelow, IsFirstSplit, AreJoinedAt, AreNotJoinedBelow, name_at, names_at, IsLeastJoined}
+use Rattle.device_lvs.specs.NetNames.{IsOnTwoNets, ShareNet, pair_order, IsLeastPair, AreNotSplit, AreNotJoined}
+use Rattle.device_lvs.specs.Sorted.{by_name, by_net, AreNamesSorted, AreSplitAt, AreNotSplitBelow, IsFirstSplit, AreJoinedAt, AreNotJoinedBelow, name_at, names_at, IsLeastJoined}
 use Rattle.device_lvs.proofs.NeighbourLaws.{IsKeyed, Parts, parted, rises}
 
 name_total : IsTotalOrder name_order

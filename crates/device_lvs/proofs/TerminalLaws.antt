@@ -1,8 +1,6 @@
 -- The terminals of a channel, by two numberings of a cell's nets.
-use Rattle.std.proofs.Common.{◌≡◌, ◌≢◌, ◌↔◌, ◌⊎◌, inl, inr, ℕ, ℤ, pos, ◌+ℤ◌, ◌-ℤ◌, ◌≤ℤ◌, ◌<ℤ◌, List, Option, None, Some, refl, sym, ap, subst, ◌∙◌, arith}
-use Rattle.std.specs.Prelude.{Contains, slice_get}
+use Rattle.std.proofs.Common.{◌≡◌, ◌≢◌, ◌↔◌, ◌⊎◌, ℕ, ℤ, pos, ◌+ℤ◌, ◌-ℤ◌, ◌≤ℤ◌, ◌<ℤ◌, List, refl, sym, subst, ◌∙◌, arith}
 use Rattle.std.proofs.lemmas.Int.{ints}
-use Rattle.std.proofs.lemmas.Option.{same_Some}
 use Rattle.or_geom.specs.declared.shape.Point.{Point}
 use Rattle.or_geom.specs.declared.shape.Rect.{Rect}
 use Rattle.or_geom.specs.declared.shape.Shape.{Shape}
@@ -12,18 +10,16 @@ use Rattle.tech_rules.specs.declared.tech.Device.{Device}
 use Rattle.tech_rules.specs.declared.tech.Tech.{Tech}
 use Rattle.tech_rules.proofs.LinkedLaws.{linked_itself}
 use Rattle.shape_bins.proofs.CoverLaws.{shape_over}
-use Rattle.drawn_devices.specs.declared.drawn.Channel.{Channel}
 use Rattle.drawn_devices.specs.declared.drawn.DrawnDevices.{DrawnDevices}
 use Rattle.drawn_devices.specs.declared.drawn.Flow.{Flow}
 use Rattle.drawn_devices.specs.declared.drawn.Flow.TheVariants.{Across, Upward}
-use Rattle.drawn_devices.specs.declared.drawn.NetName.{NetName}
 use Rattle.drawn_devices.specs.declared.drawn.Side.{Side}
 use Rattle.drawn_devices.specs.declared.drawn.Side.TheVariants.{Left, Right, Below, Above}
 use Rattle.drawn_devices.specs.declared.drawn.Terminals.{Terminals}
 use Rattle.drawn_devices.specs.Cells.{ShareSide}
-use Rattle.drawn_devices.specs.Channels.{IsChannelCell, ChannelOf, IsLeastCell}
+use Rattle.drawn_devices.specs.Channels.{IsChannelCell}
 use Rattle.drawn_devices.specs.Diffusion.{IsActive}
-use Rattle.drawn_devices.specs.Drawn.{AreNetNumbers, IsNetName, AreTerminals, IsUnsound, TerminalsAre, IsDrawnChannel, AreDrawnDevices}
+use Rattle.drawn_devices.specs.Drawn.{AreTerminals, AreDrawnDevices}
 use Rattle.drawn_devices.specs.Names.{IsNamed}
 use Rattle.drawn_devices.specs.Nets.{Member, Drawn, Diffused, IsMember}
 use Rattle.drawn_devices.specs.Sides.{IsAlong, first_side, second_side}

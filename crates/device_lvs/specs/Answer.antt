@@ -1,5 +1,5 @@
 -- The first difference of a technology's leaf cells from their subcircuits, or why there is no answer.
-use Rattle.std.specs.Prelude.{◌≡◌, ◌≢◌, ℕ, ◌<◌, List, [], slice_get, Option, Some, None}
+use Rattle.std.specs.Prelude.{◌≡◌, ◌≢◌, ℕ, ◌<◌, [], slice_get, Option, Some, None}
 use Rattle.tech_rules.specs.declared.tech.RoleName.{RoleName}
 use Rattle.device_lvs.specs.declared.difference.DeviceDiff.{DeviceDiff}
 use Rattle.device_lvs.specs.declared.fault.DeviceFault.{DeviceFault}

@@ -1,6 +1,5 @@
 -- The transistors of a layout: what its channels are compared as.
-use Rattle.std.specs.Prelude.{◌≡◌, ◌≢◌, ◌<◌, ℕ, ℤ, List, length, Contains, slice_get, Option, Some, None}
-use Rattle.or_geom.specs.declared.shape.Point.{Point}
+use Rattle.std.specs.Prelude.{◌≡◌, ◌≢◌, ◌<◌, ℕ, ℤ, List, length, Contains, slice_get, Some, None}
 use Rattle.tech_rules.specs.declared.tech.Device.{Device}
 use Rattle.spice_text.specs.Words.{lower}
 use Rattle.drawn_devices.specs.declared.drawn.Channel.{Channel}

@@ -8,7 +8,7 @@ use Rattle.device_entries.specs.declared.entry.DeviceEntry.{DeviceEntry}
 use Rattle.device_entries.specs.declared.uneven.Uneven.{Uneven}
 use Rattle.device_entries.specs.declared.uneven.Uneven.TheVariants as uneven
 use Rattle.device_lvs.specs.declared.difference.DeviceDiff.{DeviceDiff}
-use Rattle.device_lvs.specs.declared.difference.DeviceDiff.TheVariants.{NotBox, Open, Short, Nameless, Absent, Extra}
+use Rattle.device_lvs.specs.declared.difference.DeviceDiff.TheVariants.{Open, Short, Absent, Extra}
 use Rattle.device_lvs.specs.Difference.{CellPair, IsAlike, IsDifferenceIn}
 use Rattle.device_lvs.specs.NetNames.{IsOnTwoNets, IsLeastPair, AreNotSplit, AreNotJoined}
 

@@ -1,5 +1,5 @@
 -- What channels are read as.
-use Rattle.std.specs.Prelude.{◌<◌, ℕ, List, length, Contains}
+use Rattle.std.specs.Prelude.{◌<◌, List, length, Contains}
 use Rattle.tech_rules.specs.declared.tech.Device.{Device}
 use Rattle.drawn_devices.specs.declared.drawn.Channel.{Channel}
 use Rattle.drawn_devices.specs.declared.drawn.NetName.{NetName}

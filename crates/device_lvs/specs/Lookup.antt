@@ -1,5 +1,5 @@
 -- A table of names by the numbers of nets.
-use Rattle.std.specs.Prelude.{◌≡◌, ℕ, List, map}
+use Rattle.std.specs.Prelude.{◌≡◌, List, map}
 use Rattle.std.specs.List.Sorted.{IsSorted}
 use Rattle.drawn_devices.specs.declared.drawn.NetName.{NetName}
 use Rattle.device_lvs.specs.declared.lookup.NameTable.{NameTable}

@@ -24,9 +24,6 @@ use Rattle.macro_layout.specs.Channels.{IsColumnChannel, IsMainChannel, IsPinFro
 use Rattle.macro_layout.specs.Wires.{IsBar, IsWireInBank, IsOutputWire}
 use Rattle.macro_layout.specs.Stated.{IsShifted}
 use Rattle.sram_macro.specs.Stated.{TakesTracks}
-use Rattle.sram_netlist.proofs.InstanceLists.{place_in}
-use Rattle.route_laws.proofs.NumberLaws.{output_main, result_main}
-use Rattle.good_places.proofs.LaidLaws.{written_all}
 use Rattle.good_wires.specs.Drawn.{IsDrawnMemory, IsDrawnWire}
 use Rattle.good_wires.specs.Tops.{IsRailWireAt, IsTopBranch, IsOutputAt, HasTopWires}
 use Rattle.good_wires.specs.Kept.{IsAmong}

@@ -17,7 +17,7 @@ use Rattle.macro_layout.specs.LayoutKit.{LayoutKit}
 use Rattle.macro_layout.specs.Places.{Floorplan, IsPlaceOf, leaf_cell}
 use Rattle.macro_layout.specs.Layout.{IsOfLeaf}
 use Rattle.local_report.specs.Moved as local
-use Rattle.local_report.specs.Moved.{AreAlikeIn, OverlapsMoved}
+use Rattle.local_report.specs.Moved.{OverlapsMoved}
 use Rattle.local_report.specs.Seen.{HasPartner}
 use Rattle.local_report.specs.Alike.{LookAlike, HasImage}
 use Rattle.good_places.specs.Beside.{StandsMoved, moved_place}

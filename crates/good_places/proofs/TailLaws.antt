@@ -1,7 +1,6 @@
 -- Small memories have a column or a slice that stands at the end as one does here: the last, or the last but one.
 use Rattle.std.proofs.Common.{◌≡◌, ◌⊎◌, inl, inr, ◌∙◌, ℕ, ◌+◌, ◌-◌, ◌*◌, ◌<◌, ◌≤◌, sym, ap, subst, arith}
 use Rattle.std.specs.Prelude.{◌↔◌}
-use Rattle.std.proofs.Math.Nat.{mul-le-mul_right}
 use Rattle.std.proofs.lemmas.Bool.{cases_lt}
 use Rattle.good_places.specs.Beside.{AreAtOneEdge, AreNextToLast}
 use Rattle.good_places.specs.Neighbours.{AreManyAlike}

@@ -1,6 +1,5 @@
 -- Each leaf instance has a window.
 use Rattle.std.proofs.Common.{◌≡◌, inl, inr, ◌∙◌, ℕ, zero, suc, ◌+◌, ◌*◌, ◌<◌, ◌≤◌, ℤ, pos, ◌+ℤ◌, ◌≤ℤ◌, List, [], ◌∷◌, ◌++◌, refl, sym, ap, subst, arith}
-use Rattle.std.proofs.lemmas.Bool.{cases_lt}
 use Rattle.std.proofs.lemmas.Int.{ints}
 use Rattle.std.proofs.lemmas.List.{map-append}
 use Rattle.or_geom.specs.declared.place.Place.{Place}
@@ -16,16 +15,15 @@ use Rattle.sram_netlist.specs.BitCells.{Alike}
 use Rattle.macro_layout.specs.LayoutKit.{LayoutKit}
 use Rattle.macro_layout.specs.Places.{Floorplan, IsPlaceOf, StandsInRow}
 use Rattle.good_places.specs.Beside.{AreAtOneEdge, HaveOneLeftPart}
-use Rattle.good_places.specs.Leaves.{Zone, zone_of, column_zone, front_zone, slice_zone, ReachesNeighboursOnly, zone}
+use Rattle.good_places.specs.Leaves.{Zone, zone_of, column_zone, front_zone, slice_zone, ReachesNeighboursOnly}
 use Rattle.good_places.specs.Zones.{IsLaid}
 use Rattle.good_places.specs.Seen.{AreAlikeZones}
-use Rattle.good_places.specs.Neighbours.{row_with, HasNeighbours, AreManyAlike, role_widths, unit_copies}
+use Rattle.good_places.specs.Neighbours.{row_with, HasNeighbours, AreManyAlike}
 use Rattle.good_places.specs.Row.{roles_of, cell_zone, behind}
-use Rattle.good_places.specs.Kinds.{AreOfOneKind}
 use Rattle.good_places.specs.Windows.{with_bits, IsWindowOf, IsWrittenPlan, HasWindow, LeavesHaveWindows}
 use Rattle.good_places.proofs.LaidLaws.{written_all}
-use Rattle.good_places.proofs.RowEdgeLaws.{has_edge, row_neighbours, IsWideUnit}
-use Rattle.good_places.proofs.CellRowLaws.{gate_inputs, pair, pair_count, plan_row, row_roles, begin_cells, same_roles, same_fixed, AreCellsAlike, cells_alike, enable_gate}
+use Rattle.good_places.proofs.RowEdgeLaws.{row_neighbours, IsWideUnit}
+use Rattle.good_places.proofs.CellRowLaws.{gate_inputs, pair, pair_count, plan_row, row_roles, begin_cells, same_roles, same_fixed, AreCellsAlike, cells_alike}
 use Rattle.good_places.proofs.TailLaws.{has_tail, few_bits, many_columns, many_alike}
 use Rattle.good_places.proofs.PairLaws.{columns_are_alike_zones, fronts_are_alike_zones, slices_are_alike_zones, cells_are_alike_zones}
 

@@ -20,7 +20,6 @@ use Rattle.macro_layout.specs.Places.{Floorplan, leaf_cell}
 use Rattle.macro_layout.specs.Floorplan.{Tracks}
 use Rattle.macro_layout.specs.Wires.{trunk_x}
 use Rattle.local_report.specs.Moved as moved
-use Rattle.local_report.specs.Moved.{AreAlikeIn}
 use Rattle.local_report.proofs.MovedLaws.{moved_rect}
 use Rattle.good_places.specs.Leaves.{Zone, zone_of, LiesNear, AreNearZones}
 use Rattle.good_places.specs.Zones.{MovesNear}

@@ -7,7 +7,7 @@ use Rattle.std.proofs.lemmas.List.Elements.{Contains-append_right}
 use Rattle.or_geom.specs.declared.shape.Point.{Point}
 use Rattle.or_geom.specs.declared.shape.Rect.{Rect}
 use Rattle.or_geom.specs.declared.shape.Shape.{Shape}
-use Rattle.or_geom.proofs.ListLaws.{one_at, contains_none, contained_at}
+use Rattle.or_geom.proofs.ListLaws.{one_at}
 use Rattle.cell_roles.specs.declared.role.Role.TheVariants.{Inv}
 use Rattle.tech_rules.specs.declared.tech.Wire.{Wire}
 use Rattle.tech_rules.specs.Drawing.{IsBox, pitch}
@@ -15,7 +15,7 @@ use Rattle.channel_router.specs.declared.channel.Interval.{Interval}
 use Rattle.channel_router.specs.Channel.{IsPinOf, places}
 use Rattle.channel_router.specs.Tracks.{HasTrack}
 use Rattle.channel_router.specs.Wires.{IsOfNet, IsWireOf, channel_height, track_y}
-use Rattle.sram_netlist.specs.Organization.{Organization, banks_of, columns_of, words_per_row}
+use Rattle.sram_netlist.specs.Organization.{Organization, banks_of}
 use Rattle.sram_netlist.specs.Instances.{NandAt, DriverAt, PrechargeAt, SenseAt}
 use Rattle.sram_netlist.specs.InstanceList.{tabulate_lists}
 use Rattle.macro_layout.specs.LayoutKit.{LayoutKit}

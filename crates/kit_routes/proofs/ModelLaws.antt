@@ -4,7 +4,7 @@ use Rattle.std.specs.Prelude.{slice_get, if◌then◌else◌}
 use Rattle.sram_netlist.specs.Organization.{total_bits}
 use Rattle.sram_netlist.specs.Numbers.{ArePlanNumbers}
 use Rattle.sram_netlist.specs.Membership.{IsOneOf}
-use Rattle.sram_netlist.proofs.InstanceLists.{to_map, to_flat, place_in, in_front, in_back}
+use Rattle.sram_netlist.proofs.InstanceLists.{to_map, to_flat, place_in}
 use Rattle.sram_plan.specs.declared.numbers.Plan.{Plan}
 use Rattle.sram_plan.specs.Plan.{row_groups}
 use Rattle.sram_plan.specs.PlanNumbers.{numbers_of, organization, used_groups}

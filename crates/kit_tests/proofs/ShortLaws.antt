@@ -1,5 +1,5 @@
 -- A maker that gives up on large macros is a good one too.
-use Rattle.std.proofs.Common.{◌≡◌, ◌≢◌, ◌≤◌, inl, inr, ℕ, List, Result, Ok, Err, codes, sym, subst}
+use Rattle.std.proofs.Common.{◌≡◌, ◌≢◌, ◌≤◌, inl, inr, ℕ, List, Ok, Err, codes, sym, subst}
 use Rattle.std.specs.Result.{IfErr}
 use Rattle.leaf_tables.specs.declared.kit.Kit.{Kit}
 use Rattle.leaf_tables.specs.declared.part.PartFault.{PartFault}

@@ -1,6 +1,6 @@
 -- The channels and taps that are tried meet what the routers ask.
 use Rattle.std.proofs.Common.{◌≡◌, ◌⊎◌, inl, inr, ℕ, zero, suc, ◌<◌, ℤ, pos, ◌≤ℤ◌, ◌+ℤ◌, List, [], ◌∷◌, ◌++◌, refl, sym, ap, subst, ◌∙◌, arith}
-use Rattle.std.specs.Prelude.{All, Contains, Some, slice_get, slice_index}
+use Rattle.std.specs.Prelude.{All, Some, slice_get, slice_index}
 use Rattle.std.proofs.lemmas.Int.{ints}
 use mir.Syntax.{w64}
 use mir.Val.{to_z, of_z}
@@ -9,11 +9,10 @@ use Rattle.std.proofs.lemmas.Option.{same_Some}
 use Rattle.or_geom.specs.Distance.{IsNear}
 use Rattle.or_geom.proofs.ListLaws.{contains_cases, contains_first, contains_none}
 use Rattle.tech_rules.specs.declared.route.Tap.{Tap}
-use Rattle.channel_router.specs.declared.channel.Channel.{Channel}
 use Rattle.channel_router.specs.declared.channel.ChannelPin.{ChannelPin}
 use Rattle.channel_router.specs.Apart.{AreSevenLayers}
 use Rattle.channel_router.specs.Channel.{AreInChannel, IsChannel, IsPinOf}
-use Rattle.rail_bus.specs.Rails.{IsNearTap, AreNearTaps, AreOfRails, EndBeyondRails, AreTapped, IsTapOf}
+use Rattle.rail_bus.specs.Rails.{IsNearTap, AreNearTaps, AreOfRails, EndBeyondRails, AreTapped}
 use Rattle.layer_tests.specs.Routes.{two_pins, tried_wire, tap_at, two_taps}
 
 -- a number that is passed to a call

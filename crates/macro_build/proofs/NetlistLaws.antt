@@ -6,7 +6,6 @@ use Rattle.std.specs.Str.{bytes_eq}
 use Rattle.std.proofs.lemmas.Bool.{leb-true, eqb-true}
 use Rattle.std.proofs.lemmas.List.Elements.{recursion_from_All}
 use Rattle.netlist.specs.declared.deck.Deck.{Deck}
-use Rattle.netlist.specs.declared.deck.Subckt.{Subckt}
 use Rattle.spice_text.specs.Deck.{deck}
 use Rattle.spice_text.specs.Appended.{appended, with_lf}
 use Rattle.spice_text.specs.Writable.{IsName, IsNameByte, AreWritable}
@@ -19,7 +18,6 @@ use Rattle.cell_roles.specs.Roles.{role_name}
 use Rattle.cell_roles.specs.LeafRoles.{leaf_role_name}
 use Rattle.sram_netlist.specs.Numbers.{ArePlanNumbers}
 use Rattle.sram_netlist.specs.BitCells.{bit_cell, fixed_bit}
-use Rattle.sram_deck.specs.Deck.{written_subckts}
 use Rattle.sram_plan.specs.declared.numbers.Plan.{Plan}
 use Rattle.sram_plan.specs.Config.{is_identifier, is_letter_byte, is_name_char, is_output_name, starts_with_letter}
 use Rattle.sram_plan.specs.Keywords.{is_keyword}

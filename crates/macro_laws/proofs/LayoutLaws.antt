@@ -1,8 +1,6 @@
 -- A macro is laid out in one way.
-use Rattle.std.proofs.Common.{◌≡◌, ◌⊎◌, inl, inr, ℕ, suc, ◌+◌, ◌*◌, ◌<◌, ◌≤◌, ℤ, pos, ◌+ℤ◌, List, length, Contains, Some, refl, sym, ap, subst, ◌∙◌, arith}
-use Rattle.std.proofs.lemmas.Int.{ints}
+use Rattle.std.proofs.Common.{◌≡◌, ◌⊎◌, ℕ, suc, ◌+◌, ◌*◌, ◌<◌, ◌≤◌, ℤ, pos, ◌+ℤ◌, length, Some, refl, sym, ap, subst, ◌∙◌, arith}
 use Rattle.std.specs.Prelude.{◌↔◌, slice_get}
-use Rattle.or_geom.specs.declared.shape.Shape.{Shape}
 use Rattle.tech_rules.specs.declared.tech.Wire.{Wire}
 use Rattle.tech_rules.specs.Drawing.{pitch}
 use Rattle.tech_rules.specs.Facts.{AreSizes}
@@ -14,7 +12,7 @@ use Rattle.sram_netlist.specs.Organization.{Organization, bank_rows, columns_of}
 use Rattle.leaf_tables.specs.declared.kit.Kit.{Kit}
 use Rattle.macro_layout.specs.LayoutKit.{LayoutKit}
 use Rattle.macro_layout.specs.Places.{Floorplan, bit_width, bit_height, drive_width}
-use Rattle.macro_layout.specs.Floorplan.{Tracks, IsFloorplan, choice_count, column_channel_y, column_role, write_height}
+use Rattle.macro_layout.specs.Floorplan.{Tracks, IsFloorplan, column_channel_y, column_role, write_height}
 use Rattle.macro_layout.specs.Channels.{IsColumnChannel, IsTrunkAt}
 use Rattle.macro_layout.specs.Moved.{IsChannelMoved}
 use Rattle.macro_layout.proofs.RoutingLaws.{item_at}

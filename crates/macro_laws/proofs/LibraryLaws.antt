@@ -16,7 +16,7 @@ use Rattle.tech_rules.specs.declared.tech.Layer.{Layer}
 use Rattle.cell_builder.specs.declared.cell.PlacedLabel.{PlacedLabel}
 use Rattle.cell_builder.specs.declared.cell.DrawnCell.{DrawnCell}
 use Rattle.cell_builder.specs.CellList.{CellList}
-use Rattle.cell_builder.specs.Finish.{IsInOrder, IsFinishedCell, AreFinished, IsMade, IsLibraryOf}
+use Rattle.cell_builder.specs.Finish.{IsInOrder, AreFinished, IsMade, IsLibraryOf}
 use Rattle.cell_builder.specs.LabelOrder.{text_order, text_total}
 use Rattle.cell_builder.specs.Structures.{structure_of}
 use Rattle.macro_laws.proofs.SortedLaws.{one_in_order}

@@ -26,14 +26,13 @@ use Rattle.net_extractor.specs.Difference.{AreAlike}
 use Rattle.net_extractor.specs.FirstDifference.{IsFirstDifference}
 use Rattle.leaf_tables.specs.declared.kit.Kit.{Kit}
 use Rattle.leaf_tables.specs.declared.part.PartFault.{PartFault}
-use Rattle.leaf_tables.specs.declared.part.PartFault.TheVariants as part_fault
 use Rattle.leaf_tables.specs.Kits.{IsKit}
 use Rattle.sram_plan.specs.declared.numbers.Plan.{Plan}
 use Rattle.port_lists.specs.Held.{Held}
 use Rattle.macro_views.specs.Lef.{lef_text}
 use Rattle.sram_macro.specs.declared.assembly.Macro.{Macro}
 use Rattle.sram_macro.specs.Leaves.{leaf_names}
-use Rattle.sram_macro.specs.Macro.{IsMacro, IsMacroFault}
+use Rattle.sram_macro.specs.Macro.{IsMacro}
 use Rattle.macro_build.specs.Built.{all_subckts, IsChecked, AreNetsAndRows, IsSoundMacro, IsBuilt, IsUnflat, BreaksFirst, DiffersFirst, IsBuildFault}
 use Rattle.macro_build.specs.declared.built.Built.{Built}
 use Rattle.macro_build.specs.declared.built.BuildFault.{BuildFault}

@@ -1,5 +1,5 @@
 -- A kit and a plan have one macro under a name.
-use Rattle.std.proofs.Common.{◌≡◌, ◌⊎◌, inl, inr, ℕ, ◌<◌, ℤ, pos, ◌+ℤ◌, List, Contains, Some, refl, sym, ap, subst, ◌∙◌, arith}
+use Rattle.std.proofs.Common.{◌≡◌, ◌⊎◌, inl, inr, ℕ, ◌<◌, ℤ, pos, ◌+ℤ◌, List, Contains, Some, refl, sym, subst, ◌∙◌}
 use Rattle.std.proofs.lemmas.Option.{same_Some}
 use Rattle.std.specs.Prelude.{◌↔◌, Option, IfSome}
 use Rattle.std.specs.List.Sorted.{IsStrictlySortedBy}
@@ -13,11 +13,9 @@ use Rattle.channel_router.specs.declared.channel.Routed.{Routed}
 use Rattle.cell_builder.specs.Finish.{IsLibraryOf}
 use Rattle.sram_netlist.specs.BitCells.{BitCells}
 use Rattle.sram_netlist.specs.Organization.{Organization}
-use Rattle.sram_plan.specs.declared.numbers.Plan.{Plan}
 use Rattle.sram_plan.specs.declared.view.SignalPin.{SignalPin}
 use Rattle.sram_plan.specs.PlanNumbers.{organization}
 use Rattle.leaf_tables.specs.declared.kit.Kit.{Kit}
-use Rattle.leaf_tables.specs.Kits.{IsKit}
 use Rattle.macro_layout.specs.LayoutKit.{LayoutKit}
 use Rattle.macro_layout.specs.Places.{Floorplan}
 use Rattle.macro_layout.specs.Floorplan.{Tracks, IsFloorplan}
@@ -38,7 +36,7 @@ use Rattle.sram_macro.specs.declared.extents.Extents.{Extents}
 use Rattle.sram_macro.specs.Extents.{AreExtents}
 use Rattle.sram_macro.specs.Layout.{IsMainRouted}
 use Rattle.sram_macro.specs.Library.{drawing_with, macro_list}
-use Rattle.sram_macro.specs.Macro.{IsMacro, IsLaidOut, IsDrawnFrom, AreWiresOf, layout_pins, macro_bits}
+use Rattle.sram_macro.specs.Macro.{IsLaidOut, IsDrawnFrom, AreWiresOf, layout_pins, macro_bits}
 use Rattle.sram_macro.specs.Signals.{macro_labels, signals_on_tracks, signal_names, input_count}
 use Rattle.sram_macro.specs.View.{macro_view}
 use Rattle.sram_macro.proofs.MainChannelLaws.{main_wires}

@@ -9,15 +9,13 @@ use Rattle.tech_rules.specs.declared.route.Tap.{Tap}
 use Rattle.tech_rules.specs.declared.tech.Wire.{Wire}
 use Rattle.tech_rules.specs.Drawing.{pitch}
 use Rattle.tech_rules.specs.Facts.{AreSizes, IsWire}
-use Rattle.tech_rules.specs.Spacing.{AreClose, AreFirstClose}
+use Rattle.tech_rules.specs.Spacing.{AreFirstClose}
 use Rattle.channel_router.specs.declared.channel.Channel.{Channel}
 use Rattle.channel_router.specs.declared.channel.Routed.{Routed}
 use Rattle.channel_router.specs.Routed.{HasClosePins, AreFirstClosePins}
 use Rattle.rail_bus.specs.Rails.{tap_ys}
-use Rattle.cell_roles.specs.declared.role.Role.TheVariants.{Sense, Write}
 use Rattle.sram_netlist.specs.Organization.{Organization, columns_of}
 use Rattle.sram_netlist.specs.InstanceList.{tabulate}
-use Rattle.sram_plan.specs.declared.numbers.Plan.{Plan}
 use Rattle.sram_plan.specs.PlanNumbers.{organization}
 use Rattle.leaf_tables.specs.declared.kit.Kit.{Kit}
 use Rattle.leaf_tables.specs.declared.kit.Leaf.{Leaf}
@@ -36,11 +34,10 @@ use Rattle.port_data.specs.DataPart.{IsDataRefused}
 use Rattle.port_data.specs.Pins.{column_channel}
 use Rattle.row_decoder.specs.RowTaps.{corner_at, pin_tap, AreTapsOfRows}
 use Rattle.bank_layout.proofs.SameTapLaws.{same_taps}
-use Rattle.bank_layout.specs.BankTaps.{AreBankTaps, AreTapsApart, AreTapsClose, AreTapsRefused, IsBankFault, choice_tap, channel_low}
-use Rattle.sram_macro.specs.declared.assembly.Macro.{Macro}
+use Rattle.bank_layout.specs.BankTaps.{AreBankTaps, AreTapsApart, AreTapsRefused, IsBankFault, choice_tap, channel_low}
 use Rattle.sram_macro.specs.declared.layout.Layout.{Layout}
 use Rattle.sram_macro.specs.Layout.{IsMainOf, IsMainRouted, IsMainFault, IsMacroLayout, IsMainRefused, IsMacroLayoutFault}
-use Rattle.sram_macro.specs.Macro.{IsMacro, IsMacroFault, IsPartsFault, IsLaidOut, names_of_macro}
+use Rattle.sram_macro.specs.Macro.{IsPartsFault, names_of_macro}
 use Rattle.sram_macro.specs.Names.{first_taken, IsTakenFault}
 use Rattle.macro_laws.specs.OneMacro.{MacroFaultsAreUnique, MacroFaultsExcludeMacros}
 use Rattle.macro_laws.proofs.LayoutLaws.{one_column_routing}

@@ -33,7 +33,7 @@ use Rattle.reply_lines.specs.Differences.{comparison_reply}
 use Rattle.reply_lines.specs.Reply.{refusal_reply, report_status}
 use Rattle.command_steps.specs.File.{IsFile, IsTechnologyFile}
 use Rattle.command_steps.specs.Once.{IsDecided, IsLow}
-use Rattle.command_steps.specs.Outcome.{WithoutRefusal, ValueOrFault, Then}
+use Rattle.command_steps.specs.Outcome.{WithoutRefusal}
 use Rattle.build_command.specs.Design.{IsKitUnder}
 use Rattle.build_command.specs.OneDesign.{HoldBytes}
 use Rattle.design_answers.specs.DesignAnswers.{HasOutcome}
@@ -44,7 +44,7 @@ use Rattle.openram_cli.specs.declared.inputs.Inputs.{Inputs}
 use Rattle.openram_cli.specs.declared.inputs.Inputs.TheVariants as inputs
 use Rattle.openram_cli.specs.declared.inputs.Layout.{Layout}
 use Rattle.openram_cli.specs.declared.inputs.LeafCells.{LeafCells}
-use Rattle.openram_cli.specs.Answer.{IsAnswer, IsCheckAnswer, IsNetsAnswer, IsCompareAnswer, IsCommandWork, IsReplyTo, IsUsage, IsWork}
+use Rattle.openram_cli.specs.Answer.{IsAnswer, IsCommandWork, IsReplyTo, IsUsage}
 use Rattle.openram_cli.specs.Command.{Command, LayoutWords, command_of}
 use Rattle.openram_cli.specs.Command.Command.{check, nets, compare, devices, kit}
 use Rattle.openram_cli.specs.Inputs.{AreCellsOver, AreCellsWith, AreCompared, AreInputs, AreLeafCells, HasDevices, IsDeck, IsDeckFile, IsDeviceTechnology}

@@ -8,7 +8,6 @@ use Rattle.std.proofs.lemmas.Int.{ints, clamps, by_lt_z}
 use Rattle.std.proofs.lemmas.List.{length-set, length-map, get_or-map}
 use Rattle.std.proofs.lemmas.List.Elements.{All-contains, Contains-append_left, Contains-append_right, Contains-append_cases}
 use Rattle.or_geom.specs.declared.shape.Shape.{Shape}
-use Rattle.or_geom.specs.declared.shape.Rect.{Rect}
 use Rattle.or_geom.specs.Distance.{IsNear}
 use Rattle.or_geom.proofs.ListLaws.{contains_cases, contains_none, contains_first, below_or, one_at}
 use Rattle.or_geom.specs.Adds.{Adds}

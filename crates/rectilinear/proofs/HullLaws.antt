@@ -1,10 +1,10 @@
 -- Sides whose boxes are apart don't meet; lists of sides, half by half.
-use Rattle.std.proofs.Common.{◌≡◌, inl, inr, ℕ, ◌+◌, ◌<◌, List, [], ◌∷◌, ◌++◌, length, get_or, take, Bool, true, false, ◌↔◌, IsTrue, ap, sym, subst, ◌∙◌, arith}
+use Rattle.std.proofs.Common.{◌≡◌, inl, ℕ, ◌+◌, ◌<◌, List, [], ◌∷◌, ◌++◌, length, get_or, take, Bool, true, false, ◌↔◌, IsTrue, sym, subst, ◌∙◌, arith}
 use Rattle.std.proofs.lemmas.List.{take_more}
 use Rattle.or_geom.specs.declared.shape.Point.{Point}
 use Rattle.rectilinear.specs.declared.ring.Side.{Side}
 use Rattle.rectilinear.specs.declared.simple.Extent.{Extent}
-use Rattle.rectilinear.specs.Simple.{IsOn, MeetAsNeighbours, AllMeet, MeetAcross, PairsMeet}
+use Rattle.rectilinear.specs.Simple.{IsOn, AllMeet, MeetAcross, PairsMeet}
 use Rattle.rectilinear.specs.Extents.{IsWithinExtent, IsExtentOf, IsCommon, IsExtentAround, IsEmpty, HoldsSides}
 
 -- the box holds the sides so far, and holds them all where it holds the rest too

@@ -12,7 +12,6 @@ use Rattle.spice_netlist.specs.declared.resolved.ResolvedSubckt.{ResolvedSubckt}
 use Rattle.spice_netlist.specs.declared.resolved.ResolvedInstance.{ResolvedInstance}
 use Rattle.spice_netlist.specs.declared.level.WalkLevel.{WalkLevel}
 use Rattle.spice_netlist.specs.declared.level.LevelNet.{LevelNet}
-use Rattle.spice_netlist.specs.declared.name_index.NameIndex.{NameIndex}
 use Rattle.spice_netlist.specs.declared.rows.RowList.{RowList}
 use Rattle.spice_netlist.specs.Names.{index_of}
 use Rattle.spice_netlist.specs.Found.{found}

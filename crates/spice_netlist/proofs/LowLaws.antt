@@ -11,9 +11,9 @@ use Rattle.spice_netlist.specs.declared.resolved.ResolvedSubckt.{ResolvedSubckt}
 use Rattle.spice_netlist.specs.declared.resolved.ResolvedInstance.{ResolvedInstance}
 use Rattle.spice_netlist.specs.Names.{index_of}
 use Rattle.spice_netlist.specs.Resolved.{names_of, resolved_instance, is_leaf, resolved_subckt, resolved_subckts, ports_at, leaf_at, instances_at}
-use Rattle.spice_netlist.specs.LowerCase.{IsLowInstance, IsLowSubckt, AreLow}
+use Rattle.spice_netlist.specs.LowerCase.{IsLowInstance, AreLow}
 use Rattle.spice_netlist.specs.Walk.{FlatNet, local, FlatInstance, node_or, net_by, net_above, visit_above, visits_in, visits_by, visits, walk_at}
-use Rattle.spice_netlist.specs.Pins.{LeafPin, pins_from, pins_in, pins_of, NamedPin, port_row, pin_row, named_rows}
+use Rattle.spice_netlist.specs.Pins.{pins_from, pins_in, pins_of, NamedPin, port_row, pin_row, named_rows}
 use Rattle.spice_netlist.specs.NetKeys.{net_key, KeysTellNets}
 use Rattle.spice_netlist.specs.Numbers.{net_at}
 use Rattle.spice_netlist.proofs.NetKeyLaws.{IsLowNet, one_low_net}

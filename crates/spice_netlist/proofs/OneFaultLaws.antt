@@ -1,11 +1,5 @@
 -- A subcircuit has one refusal, out of memory aside, or else rows.
 use Rattle.std.proofs.Common.{◌≡◌, ◌≢◌, inl, inr, ℕ, ◌<◌, ◌≤◌, List, Option, None, Some, refl, sym, ap, ◌∙◌, arith}
-use Rattle.std.specs.Ordering.{nat_cmp, ordering_reverse}
-use Rattle.std.specs.Cmp.Lexicographic.{slice_cmp}
-use Rattle.std.specs.declared.cmp.Ordering.{Ordering}
-use Rattle.std.specs.declared.cmp.Ordering.TheVariants.{Less, Equal, Greater}
-use Rattle.std.proofs.lemmas.Cmp.{nat_list_cmp_total}
-use Rattle.std.proofs.lemmas.Map.Lookups.{exact_bytes}
 use Rattle.or_geom.specs.Least.{IsLeast}
 use Rattle.or_geom.proofs.LeastLaws.{least_is_one}
 use Rattle.std.proofs.lemmas.Option.{same_Some, none-some}

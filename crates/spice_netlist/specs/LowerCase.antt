@@ -1,5 +1,5 @@
 -- Subcircuits whose names are in lower case.
-use Rattle.std.specs.Prelude.{◌≡◌, ℕ, List, map}
+use Rattle.std.specs.Prelude.{◌≡◌, List, map}
 use Rattle.std.specs.List.{AllByRecursion}
 use Rattle.spice_netlist.specs.declared.resolved.ResolvedSubckt.{ResolvedSubckt}
 use Rattle.spice_netlist.specs.declared.resolved.ResolvedInstance.{ResolvedInstance}

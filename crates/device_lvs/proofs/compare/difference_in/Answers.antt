@@ -1,6 +1,4 @@
-use Rattle.std.proofs.Common.{List, Option, None, Some, subst}
-use Rattle.drawn_devices.specs.declared.drawn.Channel.{Channel}
-use Rattle.drawn_devices.specs.declared.drawn.NetName.{NetName}
+use Rattle.std.proofs.Common.{None, Some, subst}
 use Rattle.device_lvs.specs.ChannelEntries.{IsNotSound, HasNoneOf}
 use Rattle.device_lvs.specs.CompareSteps.{cell_pair, IsDifferenceOfNames}
 use Rattle.device_lvs.proofs.CompareLaws.{names_differ, names_agree}

@@ -1,4 +1,4 @@
-use Rattle.std.proofs.Common.{◌≡◌, Bool, true, false, not, IsTrue}
+use Rattle.std.proofs.Common.{◌≡◌, Bool, true, false}
 use Rattle.device_lvs.specs.Sorted.{net_first}
 use Rattle.device_lvs.proofs.PlaceLaws.{joined_here, joined_net, joined_apart, tied, not_both, if_not}
 use Rattle.device_lvs.proofs.joined.is_joined_at.Goals as goal

@@ -2,7 +2,7 @@ use Rattle.std.proofs.Common.{◌≡◌, ◌+◌, map, length, sym, subst, ◌�
 use Rattle.std.proofs.lemmas.List.{length-map}
 use Rattle.std.proofs.lemmas.Option.{slice_get_within}
 use Rattle.device_lvs.specs.Sorted.{IsLeastJoined, AreLeastBelow, net_first}
-use Rattle.device_lvs.proofs.PlaceLaws.{kept, first_joined, lesser_joined, no_lesser_joined, clash}
+use Rattle.device_lvs.proofs.PlaceLaws.{kept, first_joined, lesser_joined, clash}
 use Rattle.device_lvs.proofs.joined.lesser_place.Goals as goal
 
 pub returns-then-not-is_joined_at : goal.returns-then-not-is_joined_at

@@ -1,4 +1,4 @@
-use Rattle.std.proofs.Common.{ap, map, ◌∙◌}
+use Rattle.std.proofs.Common.{ap, ◌∙◌}
 use Rattle.device_lvs.proofs.LookupLaws.{same_numbers, firsts}
 use Rattle.device_lvs.proofs.lookup.table_of.Goals as goal
 

@@ -1,4 +1,3 @@
-use Rattle.std.proofs.Common.{arith}
 use Rattle.device_lvs.specs.Sorted.{name_first}
 use Rattle.device_lvs.proofs.PlaceLaws.{split_here, split_named, split_apart, unequal, not_tied}
 use Rattle.device_lvs.proofs.split.is_split_at.Goals as goal

@@ -1,4 +1,4 @@
-use Rattle.std.proofs.Common.{◌≡◌, map, length, sym, subst, ◌∙◌, ap, ℕ}
+use Rattle.std.proofs.Common.{◌≡◌, map, length, sym, subst, ◌∙◌}
 use Rattle.std.proofs.lemmas.List.{length-map}
 use Rattle.device_lvs.specs.Sorted.{IsFirstSplit, AreNotSplitBelow, name_first}
 use Rattle.device_lvs.proofs.PlaceLaws.{item_is}

@@ -1,5 +1,5 @@
 -- The highest taps are near, and the shapes of taps and rails are all.
-use Rattle.std.proofs.Common.{◌≡◌, ◌≤ℤ◌, ◌<◌, ℕ, ℤ, List, length, get_or, w64, sym, subst, arith}
+use Rattle.std.proofs.Common.{◌≡◌, ◌≤ℤ◌, ◌<◌, ℕ, ℤ, List, length, get_or, w64, sym, subst}
 use Rattle.std.proofs.lemmas.Int.{to_z-of_z}
 use Rattle.or_geom.specs.Distance.{IsNear}
 use Rattle.rail_bus.proofs.RailLaws.{near_highest, above_low, all_drawn}

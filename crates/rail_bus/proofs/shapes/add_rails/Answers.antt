@@ -2,7 +2,6 @@
 use Rattle.std.proofs.Common.{◌≡◌, ◌<◌, ◌≤ℤ◌, ℤ, pos, length, ℕ, w64, get_or, refl, subst, arith}
 use Rattle.std.proofs.lemmas.Int.{ints, to_z-of_z}
 use Rattle.std.proofs.lemmas.Option.{slice_get-get_or}
-use Rattle.or_geom.specs.Distance.{IsNear}
 use Rattle.or_geom.specs.Adds.{Adds}
 use Rattle.rail_bus.specs.Highest.{IsRailBelow}
 use Rattle.rail_bus.proofs.RailLaws.{rail_more}

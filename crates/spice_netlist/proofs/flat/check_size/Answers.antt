@@ -1,9 +1,8 @@
 -- What the table has for the top.
-use Rattle.std.proofs.Common.{◌≡◌, ◌<◌, ◌+◌, ◌^◌, min, inl, inr, List, length, refl, sym, ap, subst, arith}
+use Rattle.std.proofs.Common.{◌≡◌, ◌<◌, ◌+◌, ◌^◌, inl, inr, List, length, refl, sym, ap, subst, arith}
 use Rattle.spice_netlist.specs.declared.size.Size.{Size}
 use Rattle.spice_netlist.specs.Resolved.{ports_at}
-use Rattle.spice_netlist.specs.Walk.{walk_at, leaf_count}
-use Rattle.spice_netlist.specs.Pins.{pins_of}
+use Rattle.spice_netlist.specs.Walk.{walk_at}
 use Rattle.spice_netlist.specs.Sizes.{walk_size}
 use Rattle.spice_netlist.proofs.FlatLaws.{top_known, top_size, rows_long}
 use Rattle.spice_netlist.proofs.flat.check_size.Goals as goal
