@@ -9,7 +9,7 @@ use Rattle.spice_text.specs.declared.statement.Statement.TheVariants as read
 use Rattle.spice_text.specs.declared.subcircuit.OpenSubckt.{OpenSubckt}
 use Rattle.spice_text.specs.declared.subcircuit.Reading.{Reading}
 use Rattle.spice_text.specs.LogicalLines.{starts_with}
-use Rattle.spice_text.specs.Words.{before_assignment, is_among}
+use Rattle.spice_text.specs.Words.{is_among}
 use Rattle.spice_text.specs.Statements.{LineMeaning}
 use Rattle.spice_text.specs.Statements as says
 use Rattle.spice_text.specs.Subcircuits.{BegunSubckt, DeckSoFar, name_of, own_name, closed_by, with_closed}
@@ -34,16 +34,6 @@ keyword_of first =
     if bytes_eq first (codes ".end") then word.End else (
     if starts_with 46 first then word.Command else (
     if starts_with 120 first then word.Instance else word.Other)))))
-
--- a line of these words, of which the first is of this kind
-abbrev pub said_by : Keyword → List ℕ → List (List ℕ) → LineMeaning
-said_by word.Refused first others = says.Refused
-said_by word.Subckt first others = says.Begin (before_assignment others)
-said_by word.Ends first others = says.End others
-said_by word.End first others = says.Stop
-said_by word.Command first others = says.Command
-said_by word.Instance first others = says.Instance (before_assignment (first ∷ others))
-said_by word.Other first others = says.Other
 
 abbrev pub begun_of : OpenSubckt → BegunSubckt
 begun_of o = record { line = o.line; subckt = o.subckt }
