@@ -54,7 +54,7 @@ pub enum Asked<'a> {
     Kit(&'a str),
 }
 
-/// `CONFIG WORKERS`, the words after `build`.
+/// `build CONFIG WORKERS`, if the words after `build` are that.
 fn build_in(rest: &[String]) -> Option<Making<'_>>
     ensures some { IfSome result (λ making. IsMakingForm (codes "build" ∷ map string_bytes rest.now)
         (told_making making)) }
@@ -70,7 +70,7 @@ fn build_in(rest: &[String]) -> Option<Making<'_>>
     Some(Making { asked, workers })
 }
 
-/// `N WORKERS`, the words after `demo`.
+/// `demo N WORKERS`, if the words after `demo` are that.
 fn demo_in(rest: &[String]) -> Option<Making<'_>>
     ensures some { IfSome result (λ making. IsMakingForm (codes "demo" ∷ map string_bytes rest.now)
         (told_making making)) }
@@ -86,7 +86,7 @@ fn demo_in(rest: &[String]) -> Option<Making<'_>>
     Some(Making { asked, workers })
 }
 
-/// The number that the word is: 0 to 65535 in decimal digits, without a leading zero.
+/// The number that the word is, if it is one: 0 to 65535 in decimal digits, without a leading zero.
 fn demo_number(word: &str) -> Option<u16>
     ensures { MatchOption result ((n : ℕ) → n ≤ 65535 → word.now ≢ decimal n) (λ n. word.now ≡ decimal n) }
 {
@@ -101,7 +101,7 @@ fn demo_number(word: &str) -> Option<u16>
     None
 }
 
-/// `CONFIG DATA WORKERS`, the words after `rom`.
+/// `rom CONFIG DATA WORKERS`, if the words after `rom` are that.
 fn rom_in(rest: &[String]) -> Option<Making<'_>>
     ensures some { IfSome result (λ making. IsMakingForm (codes "rom" ∷ map string_bytes rest.now)
         (told_making making)) }
@@ -128,7 +128,7 @@ fn alone(asked: Asked<'_>) -> Question<'_>
     Question { asked, workers: 1 }
 }
 
-/// `TECH GDS TOP WORKERS`, the words after `check`.
+/// `check TECH GDS TOP WORKERS`, if the words after `check` are that.
 fn check_in(rest: &[String]) -> Option<Question<'_>>
     ensures words { option_map told_question result ≡ check_form (codes "check" ∷ map string_bytes rest.now) }
     ensures workers { IfSome result HasWorkers }
@@ -145,7 +145,7 @@ fn check_in(rest: &[String]) -> Option<Question<'_>>
     Some(Question { asked, workers })
 }
 
-/// `TECH GDS TOP`, the words after `nets`.
+/// `nets TECH GDS TOP`, if the words after `nets` are that.
 fn nets_in(rest: &[String]) -> Option<Question<'_>>
     ensures words { option_map told_question result ≡ nets_form (codes "nets" ∷ map string_bytes rest.now) }
     ensures workers { IfSome result HasWorkers }
@@ -160,7 +160,7 @@ fn nets_in(rest: &[String]) -> Option<Question<'_>>
     })))
 }
 
-/// `TECH GDS SP TOP`, the words after `compare`.
+/// `compare TECH GDS SP TOP`, if the words after `compare` are that.
 fn compare_in(rest: &[String]) -> Option<Question<'_>>
     ensures words { option_map told_question result ≡ compare_form (codes "compare" ∷ map string_bytes rest.now) }
     ensures workers { IfSome result HasWorkers }
@@ -194,7 +194,7 @@ fn is_tech_name(word: &String) -> bool
     are_printable(text)
 }
 
-/// `TECH`, the words after `devices`.
+/// `devices TECH`, if the words after `devices` are that.
 fn devices_in(rest: &[String]) -> Option<Question<'_>>
     ensures words { option_map told_question result ≡ devices_form (codes "devices" ∷ map string_bytes rest.now) }
     ensures workers { IfSome result HasWorkers }
@@ -205,7 +205,7 @@ fn devices_in(rest: &[String]) -> Option<Question<'_>>
     }
 }
 
-/// `TECH WORKERS`, the words after `kit`.
+/// `kit TECH WORKERS`, if the words after `kit` are that.
 fn kit_in(rest: &[String]) -> Option<Question<'_>>
     ensures words { option_map told_question result ≡ kit_form (codes "kit" ∷ map string_bytes rest.now) }
     ensures workers { IfSome result HasWorkers }

@@ -21,7 +21,7 @@ use std::alloc::Global;
 use std::thread::Threads;
 use tile_checker::{Gate, OpenGate};
 
-/// Reads what the words name, and answers it.
+/// Reads what the question of the words names, and answers it. Words that ask none are refused.
 fn reply_to<R: Threads + Sync, G: Gate + Sync, S: Store>(
     rt: &R,
     alloc: Global,
@@ -43,7 +43,7 @@ fn reply_to<R: Threads + Sync, G: Gate + Sync, S: Store>(
     answer(rt, alloc, gate, inputs, question.workers)
 }
 
-/// Answers the words, which build no memory.
+/// Answers the words, which build no memory, by what they ask.
 fn answer_words<R: Threads + Sync, G: Gate + Sync, S: Store, K: Sink>(
     rt: &R,
     alloc: Global,

@@ -31,6 +31,9 @@ returns-in-Some-Answer-clause-run g c =
     let asks : AreQuestion (map string_bytes c.args.words.now) c.in-Some-Answer.question = rw c.in-Some-Answer.field-0-is at c.in-Some-Answer.ensures in
     inr (asks.no_making, c.answer_words.ensures.run)
 
+pub returns-in-Some-Answer-clause-one : goal.returns-in-Some-Answer-clause-one
+returns-in-Some-Answer-clause-one g c = c.answer_words.ensures.one
+
 pub returns-in-Some-Answer-clause-work : goal.returns-in-Some-Answer-clause-work
 returns-in-Some-Answer-clause-work g c =
     let asks : AreQuestion (map string_bytes c.args.words.now) c.in-Some-Answer.question = rw c.in-Some-Answer.field-0-is at c.in-Some-Answer.ensures in
@@ -43,6 +46,9 @@ returns-in-Some-Answer-clause-good g c =
 
 pub returns-in-None-clause-run : goal.returns-in-None-clause-run
 returns-in-None-clause-run g c = inr (c.in-None.ensures.no_making, c.answer_words-in-None.ensures.run)
+
+pub returns-in-None-clause-one : goal.returns-in-None-clause-one
+returns-in-None-clause-one g c = c.answer_words-in-None.ensures.one
 
 pub returns-in-None-clause-work : goal.returns-in-None-clause-work
 returns-in-None-clause-work g c = inl c.in-None.ensures.no_making
