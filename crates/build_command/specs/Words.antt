@@ -5,8 +5,6 @@ use Rattle.std.specs.Str.{bytes_eq}
 use Rattle.command_steps.specs.Workers.{is_workers}
 use Rattle.build_command.specs.declared.words.Asked.{Asked}
 use Rattle.build_command.specs.declared.words.Asked.TheVariants as asked
-use Rattle.build_command.specs.declared.words.FormWords.{FormWords}
-use Rattle.build_command.specs.declared.words.RomForm.{RomForm}
 use Rattle.build_command.specs.declared.words.Making as declared
 
 -- the memory of the configuration in the file of this name; the demonstration with this number; or the read-only memory of a
@@ -47,12 +45,6 @@ abbrev pub AreNoMaking : List (List ℕ) → Type 0
 AreNoMaking words = (m : Making) → ¬ IsMakingForm words m
 
 -- what the program's words say
-abbrev pub told_form : FormWords → List ℕ
-told_form form = form.object.now
-
-abbrev pub told_files : RomForm → RomFiles
-told_files form = record { config = form.files.config.now; content = form.files.content.now }
-
 abbrev pub told_request : Asked → Making
 told_request (asked.Build config) = build config.now
 told_request (asked.Demo number) = demo number

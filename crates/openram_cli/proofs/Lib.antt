@@ -1,3 +1,4 @@
+mod CommandLaws
 mod RunLaws
 mod NearLaws
 mod WorkLaws

@@ -1,10 +1,14 @@
--- The words that a command borrows.
-use Rattle.std.specs.Prelude.{◌<◌, ◌≤◌}
+-- The words that a command borrows, and which command words are.
+use Rattle.std.specs.Prelude.{◌≡◌, ℕ, ◌<◌, ◌≤◌, List, Option, Some, None}
+use Rattle.build_command.specs.declared.words.Making as making
+use Rattle.build_command.specs.Words.{IsMakingForm, AreNoMaking, told_making, HasMakingWorkers}
 use Rattle.openram_cli.specs.declared.command.Asked.{Asked}
 use Rattle.openram_cli.specs.declared.command.Asked.TheVariants as asked
 use Rattle.openram_cli.specs.declared.command.Command as declared
+use Rattle.openram_cli.specs.declared.command.Command.TheVariants as variant
 use Rattle.openram_cli.specs.declared.command.LayoutWords as declared_words
-use Rattle.openram_cli.specs.Command.{Command, LayoutWords}
+use Rattle.openram_cli.specs.declared.command.Question.{Question}
+use Rattle.openram_cli.specs.Command.{Command, LayoutWords, command_of}
 use Rattle.openram_cli.specs.Command.Command.{check, nets, compare, devices, kit}
 
 abbrev pub told_layout : declared_words.LayoutWords → LayoutWords
@@ -18,9 +22,31 @@ told_asked (asked.Devices tech) = devices tech.now
 told_asked (asked.Kit tech) = kit tech.now
 
 -- how many workers may do it is no part of what is asked
-abbrev pub told_command : declared.Command → Command
-told_command command = told_asked command.asked
+abbrev pub told_question : Question → Command
+told_question question = told_asked question.asked
 
 -- 1 to 64 workers
-abbrev pub HasWorkers : declared.Command → Type 0
-HasWorkers command = (0 < command.workers) × (command.workers ≤ 64)
+abbrev pub HasWorkers : Question → Type 0
+HasWorkers question = (0 < question.workers) × (question.workers ≤ 64)
+
+-- the words are this build, this demonstration or this read-only memory
+pub record AreMaking (words : List (List ℕ)) (built : making.Making) : Type 0 where
+  pub form : IsMakingForm words (told_making built)
+  pub workers : HasMakingWorkers built
+
+-- they build nothing, and are this question
+pub record AreQuestion (words : List (List ℕ)) (question : Question) : Type 0 where
+  pub no_making : AreNoMaking words
+  pub form : command_of words ≡ Some (told_question question)
+  pub workers : HasWorkers question
+
+-- they are none of these
+pub record AreNoCommand (words : List (List ℕ)) : Type 0 where
+  pub no_making : AreNoMaking words
+  pub no_form : command_of words ≡ None
+
+-- what the words ask, if they do
+abbrev pub IsCommandIn : List (List ℕ) → Option declared.Command → Type 0
+IsCommandIn words (Some (variant.Make built)) = AreMaking words built
+IsCommandIn words (Some (variant.Answer question)) = AreQuestion words question
+IsCommandIn words None = AreNoCommand words

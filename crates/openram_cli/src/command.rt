@@ -1,12 +1,15 @@
-ghost use Rattle.std.specs.Prelude.{◌≡◌, map, string_bytes, codes, IfSome};
+ghost use Rattle.std.specs.Prelude.{◌≡◌, ◌≢◌, ◌≤◌, ◌∷◌, ℕ, map, string_bytes, codes, IfSome, IfNone, MatchOption};
+ghost use Rattle.std.specs.Fmt.{decimal};
 ghost use Rattle.std.specs.List.{list_all};
-ghost use Rattle.std.specs.Str.{bytes_eq};
-ghost use Rattle.openram_cli.specs.Command.{command_of, check_form, nets_form, compare_form, devices_form, kit_form};
-ghost use Rattle.openram_cli.specs.CommandWords.{HasWorkers, told_asked, told_command};
 ghost use Rattle.std.specs.Option.{option_map};
+ghost use Rattle.build_command.specs.Words.{AreNoMaking, HasMakingWorkers, IsMakingForm, told_making};
+ghost use Rattle.openram_cli.specs.Command.{check_form, nets_form, compare_form, devices_form, kit_form};
+ghost use Rattle.openram_cli.specs.CommandWords.{HasWorkers, IsCommandIn, told_asked, told_question};
 ghost use Rattle.sram_plan.specs.Config.{is_file_text, is_printable_byte};
 
+use build_command::{Making, RomFiles};
 use command_steps::workers_in;
+use itoa::Buffer;
 
 /// The words that name a structure of a layout: the files of the technology and of the layout, and the structure's
 /// name.
@@ -17,14 +20,23 @@ pub struct LayoutWords<'a> {
     pub top: &'a str,
 }
 
-/// What the words ask, by its form, and how many workers may do it: 1 to 64.
+/// What the words ask.
 #[derive(Clone, Copy)]
-pub struct Command<'a> {
+pub enum Command<'a> {
+    /// A memory is built: `build`, `demo` or `rom`.
+    Make(Making<'a>),
+    /// A question about files is answered, and nothing is built.
+    Answer(Question<'a>),
+}
+
+/// What is asked of files, and how many workers may do it: 1 to 64.
+#[derive(Clone, Copy)]
+pub struct Question<'a> {
     pub asked: Asked<'a>,
     pub workers: u8,
 }
 
-/// What the words ask.
+/// What is asked of files.
 #[derive(Clone, Copy)]
 pub enum Asked<'a> {
     /// The report of the rules: `check TECH GDS TOP WORKERS`.
@@ -42,103 +54,127 @@ pub enum Asked<'a> {
     Kit(&'a str),
 }
 
-/// A command of one worker.
-fn alone(asked: Asked<'_>) -> Command<'_>
-    ensures asked { told_command result ≡ told_asked asked.entry }
+/// `build CONFIG WORKERS`, if the words after `build` are that.
+fn build_in(rest: &[String]) -> Option<Making<'_>>
+    ensures some { IfSome result (λ making. IsMakingForm (codes "build" ∷ map string_bytes rest.now)
+        (told_making making)) }
+    ensures none { IfNone result (AreNoMaking (codes "build" ∷ map string_bytes rest.now)) }
+    ensures workers { IfSome result HasMakingWorkers }
+{
+    let [config, workers] = rest else {
+        return None;
+    };
+    let workers = workers_in(workers)?;
+    let config = config.as_str();
+    let asked = build_command::Asked::Build { config };
+    Some(Making { asked, workers })
+}
+
+/// `demo N WORKERS`, if the words after `demo` are that.
+fn demo_in(rest: &[String]) -> Option<Making<'_>>
+    ensures some { IfSome result (λ making. IsMakingForm (codes "demo" ∷ map string_bytes rest.now)
+        (told_making making)) }
+    ensures none { IfNone result (AreNoMaking (codes "demo" ∷ map string_bytes rest.now)) }
+    ensures workers { IfSome result HasMakingWorkers }
+{
+    let [number, workers] = rest else {
+        return None;
+    };
+    let workers = workers_in(workers)?;
+    let number = demo_number(number.as_str())?;
+    let asked = build_command::Asked::Demo { number };
+    Some(Making { asked, workers })
+}
+
+/// The number that the word is, if it is one: 0 to 65535 in decimal digits, without a leading zero.
+fn demo_number(word: &str) -> Option<u16>
+    ensures { MatchOption result ((n : ℕ) → n ≤ 65535 → word.now ≢ decimal n) (λ n. word.now ≡ decimal n) }
+{
+    let Ok(number) = word.parse::<u16>() else {
+        return None;
+    };
+    // A sign and leading zeros are read too, and no form.
+    let mut buffer = Buffer::new();
+    if buffer.format(number) == word {
+        return Some(number);
+    }
+    None
+}
+
+/// `rom CONFIG DATA WORKERS`, if the words after `rom` are that.
+fn rom_in(rest: &[String]) -> Option<Making<'_>>
+    ensures some { IfSome result (λ making. IsMakingForm (codes "rom" ∷ map string_bytes rest.now)
+        (told_making making)) }
+    ensures none { IfNone result (AreNoMaking (codes "rom" ∷ map string_bytes rest.now)) }
+    ensures workers { IfSome result HasMakingWorkers }
+{
+    let [config, content, workers] = rest else {
+        return None;
+    };
+    let workers = workers_in(workers)?;
+    let files = RomFiles {
+        config: config.as_str(),
+        content: content.as_str(),
+    };
+    let asked = build_command::Asked::Rom(files);
+    Some(Making { asked, workers })
+}
+
+/// A question that one worker answers.
+fn alone(asked: Asked<'_>) -> Question<'_>
+    ensures asked { told_question result ≡ told_asked asked.entry }
     ensures workers { HasWorkers result }
 {
-    Command { asked, workers: 1 }
+    Question { asked, workers: 1 }
 }
 
-fn is_check(command: &String) -> bool
-    ensures { result ≡ bytes_eq (string_bytes command.now) (codes "check") }
-{
-    command.as_str() == "check"
-}
-
-fn is_nets(command: &String) -> bool
-    ensures { result ≡ bytes_eq (string_bytes command.now) (codes "nets") }
-{
-    command.as_str() == "nets"
-}
-
-fn is_compare(command: &String) -> bool
-    ensures { result ≡ bytes_eq (string_bytes command.now) (codes "compare") }
-{
-    command.as_str() == "compare"
-}
-
-/// `check TECH GDS TOP WORKERS`, if the words are that.
-fn check_in(words: &[String]) -> Option<Command<'_>>
-    ensures words { option_map told_command result ≡ check_form (map string_bytes words.now) }
+/// `check TECH GDS TOP WORKERS`, if the words after `check` are that.
+fn check_in(rest: &[String]) -> Option<Question<'_>>
+    ensures words { option_map told_question result ≡ check_form (codes "check" ∷ map string_bytes rest.now) }
     ensures workers { IfSome result HasWorkers }
 {
-    match words {
-        [command, tech, gds, top, workers] => {
-            if !is_check(command) {
-                return None;
-            }
-            let Some(workers) = workers_in(workers) else {
-                return None;
-            };
-            let asked = Asked::Check(LayoutWords {
-                tech: tech.as_str(),
-                gds: gds.as_str(),
-                top: top.as_str(),
-            });
-            Some(Command { asked, workers })
-        }
-        _ => None,
-    }
+    let [tech, gds, top, workers] = rest else {
+        return None;
+    };
+    let workers = workers_in(workers)?;
+    let asked = Asked::Check(LayoutWords {
+        tech: tech.as_str(),
+        gds: gds.as_str(),
+        top: top.as_str(),
+    });
+    Some(Question { asked, workers })
 }
 
-/// `nets TECH GDS TOP`, if the words are that.
-fn nets_in(words: &[String]) -> Option<Command<'_>>
-    ensures words { option_map told_command result ≡ nets_form (map string_bytes words.now) }
+/// `nets TECH GDS TOP`, if the words after `nets` are that.
+fn nets_in(rest: &[String]) -> Option<Question<'_>>
+    ensures words { option_map told_question result ≡ nets_form (codes "nets" ∷ map string_bytes rest.now) }
     ensures workers { IfSome result HasWorkers }
 {
-    match words {
-        [command, tech, gds, top] => {
-            if is_nets(command) {
-                return Some(alone(Asked::Nets(LayoutWords {
-                    tech: tech.as_str(),
-                    gds: gds.as_str(),
-                    top: top.as_str(),
-                })));
-            }
-            None
-        }
-        _ => None,
-    }
+    let [tech, gds, top] = rest else {
+        return None;
+    };
+    Some(alone(Asked::Nets(LayoutWords {
+        tech: tech.as_str(),
+        gds: gds.as_str(),
+        top: top.as_str(),
+    })))
 }
 
-/// `compare TECH GDS SP TOP`, if the words are that.
-fn compare_in(words: &[String]) -> Option<Command<'_>>
-    ensures words { option_map told_command result ≡ compare_form (map string_bytes words.now) }
+/// `compare TECH GDS SP TOP`, if the words after `compare` are that.
+fn compare_in(rest: &[String]) -> Option<Question<'_>>
+    ensures words { option_map told_question result ≡ compare_form (codes "compare" ∷ map string_bytes rest.now) }
     ensures workers { IfSome result HasWorkers }
 {
-    match words {
-        [command, tech, gds, netlist, top] => {
-            if is_compare(command) {
-                return Some(alone(Asked::Compare {
-                    layout: LayoutWords {
-                        tech: tech.as_str(),
-                        gds: gds.as_str(),
-                        top: top.as_str(),
-                    },
-                    netlist: netlist.as_str(),
-                }));
-            }
-            None
-        }
-        _ => None,
-    }
-}
-
-fn is_devices(command: &String) -> bool
-    ensures { result ≡ bytes_eq (string_bytes command.now) (codes "devices") }
-{
-    command.as_str() == "devices"
+    let [tech, gds, netlist, top] = rest else {
+        return None;
+    };
+    let layout = LayoutWords {
+        tech: tech.as_str(),
+        gds: gds.as_str(),
+        top: top.as_str(),
+    };
+    let netlist = netlist.as_str();
+    Some(alone(Asked::Compare { layout, netlist }))
 }
 
 fn are_printable(text: &[u8]) -> bool
@@ -158,64 +194,46 @@ fn is_tech_name(word: &String) -> bool
     are_printable(text)
 }
 
-/// `devices TECH`, if the words are that.
-fn devices_in(words: &[String]) -> Option<Command<'_>>
-    ensures words { option_map told_command result ≡ devices_form (map string_bytes words.now) }
+/// `devices TECH`, if the words after `devices` are that.
+fn devices_in(rest: &[String]) -> Option<Question<'_>>
+    ensures words { option_map told_question result ≡ devices_form (codes "devices" ∷ map string_bytes rest.now) }
     ensures workers { IfSome result HasWorkers }
 {
-    match words {
-        [command, tech] => {
-            if is_devices(command) && is_tech_name(tech) {
-                return Some(alone(Asked::Devices(tech.as_str())));
-            }
-            None
-        }
+    match rest {
+        [tech] if is_tech_name(tech) => Some(alone(Asked::Devices(tech.as_str()))),
         _ => None,
     }
 }
 
-fn is_kit(command: &String) -> bool
-    ensures { result ≡ bytes_eq (string_bytes command.now) (codes "kit") }
-{
-    command.as_str() == "kit"
-}
-
-/// `kit TECH WORKERS`, if the words are that.
-fn kit_in(words: &[String]) -> Option<Command<'_>>
-    ensures words { option_map told_command result ≡ kit_form (map string_bytes words.now) }
+/// `kit TECH WORKERS`, if the words after `kit` are that.
+fn kit_in(rest: &[String]) -> Option<Question<'_>>
+    ensures words { option_map told_question result ≡ kit_form (codes "kit" ∷ map string_bytes rest.now) }
     ensures workers { IfSome result HasWorkers }
 {
-    match words {
-        [command, tech, workers] => {
-            if !is_kit(command) || !is_tech_name(tech) {
-                return None;
-            }
-            let Some(workers) = workers_in(workers) else {
-                return None;
-            };
+    match rest {
+        [tech, workers] if is_tech_name(tech) => {
+            let workers = workers_in(workers)?;
             let asked = Asked::Kit(tech.as_str());
-            Some(Command { asked, workers })
+            Some(Question { asked, workers })
         }
         _ => None,
     }
 }
 
-/// The command that the words are, if they are one.
+/// What the words ask; `None` if they are no form.
 pub fn command_in(words: &[String]) -> Option<Command<'_>>
-    ensures words { option_map told_command result ≡ command_of (map string_bytes words.now) }
-    ensures workers { IfSome result HasWorkers }
+    ensures { IsCommandIn (map string_bytes words.now) result }
 {
-    if let Some(command) = check_in(words) {
-        return Some(command);
+    let (first, rest) = words.split_first()?;
+    match first.as_str() {
+        "build" => build_in(rest).map(Command::Make),
+        "demo" => demo_in(rest).map(Command::Make),
+        "rom" => rom_in(rest).map(Command::Make),
+        "check" => check_in(rest).map(Command::Answer),
+        "nets" => nets_in(rest).map(Command::Answer),
+        "compare" => compare_in(rest).map(Command::Answer),
+        "devices" => devices_in(rest).map(Command::Answer),
+        "kit" => kit_in(rest).map(Command::Answer),
+        _ => None,
     }
-    if let Some(command) = nets_in(words) {
-        return Some(command);
-    }
-    if let Some(command) = compare_in(words) {
-        return Some(command);
-    }
-    if let Some(command) = devices_in(words) {
-        return Some(command);
-    }
-    kit_in(words)
 }

@@ -1,7 +1,8 @@
-ghost use Rattle.std.specs.Prelude.{◌≡◌, ◌<◌, IfOk, map, string_bytes};
-ghost use Rattle.std.specs.Option.{is_none};
+ghost use Rattle.std.specs.Prelude.{◌≡◌, ◌<◌, IfOk, IfSome, map, string_bytes};
+ghost use Rattle.std.specs.Option.{is_none, option_map};
 ghost use Rattle.openram_cli.specs.Answer.{IsWork};
 ghost use Rattle.openram_cli.specs.Command.{command_of};
+ghost use Rattle.openram_cli.specs.CommandWords.{HasWorkers, told_question};
 ghost use Rattle.openram_cli.specs.OneAnswer.{EndsAsAnswer, EndAsAsked};
 ghost use Rattle.command_steps.specs.Outcome.{is_usage_outcome};
 ghost use Rattle.command_steps.specs.Outside.{outside_at};
@@ -10,9 +11,9 @@ ghost use Rattle.openram_cli.specs.GoodKits.{EndsWithinGoodKit};
 ghost use Rattle.openram_cli.specs.Run.{IsAnswerRun, IsProgramRun};
 
 use crate::answer::answer;
-use crate::command::command_in;
+use crate::command::{Command, Question, command_in};
 use crate::inputs::read_inputs;
-use build_command::{make, making_in};
+use build_command::make;
 use command_steps::{finish, refuse};
 use or_host::{Sink, Store};
 use reply_lines::{Refusal, Reply};
@@ -20,40 +21,46 @@ use std::alloc::Global;
 use std::thread::Threads;
 use tile_checker::{Gate, OpenGate};
 
-/// Reads what the words name, and answers it.
+/// Reads what the question of the words names, and answers it. Words that ask none are refused.
 fn reply_to<R: Threads + Sync, G: Gate + Sync, S: Store>(
     rt: &R,
     alloc: Global,
     gate: &G,
-    words: &[String],
+    _words: &[String],
+    asked: Option<Question<'_>>,
     store: &mut S,
 ) -> Result<Reply, Refusal>
-    ensures read { HasRead (IsWork (map string_bytes words.now)) result (S.state store.old) (S.state store.new) }
+    requires asked { option_map told_question asked ≡ command_of (map string_bytes _words.now) }
+    requires workers { IfSome asked HasWorkers }
+    ensures read { HasRead (IsWork (map string_bytes _words.now)) result (S.state store.old) (S.state store.new) }
     ensures small { IfOk result (λ reply. reply.status < 2) }
-    ensures usage { is_usage_outcome result ≡ is_none (command_of (map string_bytes words.now)) }
+    ensures usage { is_usage_outcome result ≡ is_none (command_of (map string_bytes _words.now)) }
 {
-    let Some(command) = command_in(words) else {
+    let Some(question) = asked else {
         return Err(Refusal::Usage);
     };
-    let inputs = read_inputs(alloc, command.asked, store)?;
-    answer(rt, alloc, gate, inputs, command.workers)
+    let inputs = read_inputs(alloc, question.asked, store)?;
+    answer(rt, alloc, gate, inputs, question.workers)
 }
 
-/// Answers the words, which build no memory.
+/// Answers the words, which build no memory, by what they ask.
 fn answer_words<R: Threads + Sync, G: Gate + Sync, S: Store, K: Sink>(
     rt: &R,
     alloc: Global,
     gate: &G,
     words: &[String],
+    asked: Option<Question<'_>>,
     store: &mut S,
     out: &mut K,
 ) -> u8
+    requires asked { option_map told_question asked ≡ command_of (map string_bytes words.now) }
+    requires workers { IfSome asked HasWorkers }
     ensures run { IsAnswerRun (map string_bytes words.now) result (outside_at (S.state store.old) (K.state out.old))
         (outside_at (S.state store.new) (K.state out.new)) }
     ensures one { EndsAsAnswer (map string_bytes words.now) result (outside_at (S.state store.old) (K.state out.old))
         (outside_at (S.state store.new) (K.state out.new)) }
 {
-    match reply_to(rt, alloc, gate, words, store) {
+    match reply_to(rt, alloc, gate, words, asked, store) {
         Ok(reply) => finish(alloc, &reply, out),
         Err(refusal) => refuse(alloc, &refusal, out),
     }
@@ -82,9 +89,18 @@ pub fn run_gated<R: Threads + Sync, G: Gate + Sync, S: Store, K: Sink>(
     ensures good { EndsWithinGoodKit (map string_bytes words.now) result
         (outside_at (S.state store.old) (K.state out.old)) (outside_at (S.state store.new) (K.state out.new)) }
 {
-    match making_in(words) {
-        Some(making) => make(rt, alloc, gate, making, store, out),
-        None => answer_words(rt, alloc, gate, words, store, out),
+    match command_in(words) {
+        Some(Command::Make(making)) => make(rt, alloc, gate, making, store, out),
+        Some(Command::Answer(question)) => answer_words(
+            rt,
+            alloc,
+            gate,
+            words,
+            Some(question),
+            store,
+            out,
+        ),
+        None => answer_words(rt, alloc, gate, words, None, store, out),
     }
 }
 

@@ -2,7 +2,7 @@ use Rattle.std.proofs.Common.{◌≡◌, Bool, true, false, sym, ap, ◌∙◌, 
 use Rattle.std.proofs.lemmas.Fmt.{parse-decimal}
 use Rattle.std.proofs.lemmas.Slice.Eq.{bytes_eq-Decides}
 use Rattle.std.specs.Fmt.{decimal}
-use Rattle.build_command.proofs.words.demo_number.Goals as goal
+use Rattle.openram_cli.proofs.command.demo_number.Goals as goal
 
 pub returns-in_default : goal.returns-in_default
 returns-in_default c = λ n le is.
