@@ -8,7 +8,7 @@ use Rattle.tech_rules.specs.declared.tech.Layer.{Layer}
 use Rattle.element_drawing.specs.PlainLabel.{PlainLabel}
 use Rattle.cell_chains.specs.Chains.{IsSound}
 use Rattle.cell_hierarchy.specs.Plain.{plain_label, lists_of}
-use Rattle.cell_hierarchy.specs.declared.drawing.Drawing.{Drawing}
+use Rattle.cell_hierarchy.specs.declared.gathered.Gathered.{Gathered}
 use Rattle.cell_hierarchy.specs.declared.flat.Flat.{Flat}
 use Rattle.cell_hierarchy.specs.declared.flat.Label.{Label}
 use Rattle.cell_hierarchy.specs.declared.fault.FlattenFault.{FlattenFault}
@@ -18,23 +18,23 @@ use Rattle.cell_hierarchy.specs.FlatLists.{AreFlatShapes, AreFlatLists, IsFault,
 use Rattle.cell_hierarchy.specs.Far.{IsFarIn}
 use Rattle.cell_hierarchy.specs.Settled.{IsTopDrawing, IsFlatOf, IsFarFault, IsFlatKept}
 
--- far points of the drawing are those of the flat set
-is_far : (layers : List Layer) (kept : Bool) (structs : List Structure) (top : List ℕ) (drawing : Drawing) → IsTopDrawing layers kept structs top drawing → (p : Point) → IsFarIn drawing.shapes.items drawing.points.items p → IsFar layers structs top p
-is_far layers kept structs top drawing t p (inl h) = record { stands = inl (record { shape = h.shape; flat = (t.shapes h.shape).0 h.among; corner = h.is.corner }); far = h.is.far }
-is_far layers kept structs top drawing t p (inr h) = record { stands = inr (subst (λ (q : Point). IsPointOfLabel layers structs top q) h.is.is ((t.points h.own).0 h.among)); far = h.is.far }
+-- far points of what was gathered are those of the flat set
+is_far : (layers : List Layer) (kept : Bool) (structs : List Structure) (top : List ℕ) (gathered : Gathered) → IsTopDrawing layers kept structs top gathered → (p : Point) → IsFarIn gathered.shapes.items gathered.points.items p → IsFar layers structs top p
+is_far layers kept structs top gathered t p (inl h) = record { stands = inl (record { shape = h.shape; flat = (t.shapes h.shape).0 h.among; corner = h.is.corner }); far = h.is.far }
+is_far layers kept structs top gathered t p (inr h) = record { stands = inr (subst (λ (q : Point). IsPointOfLabel layers structs top q) h.is.is ((t.points h.own).0 h.among)); far = h.is.far }
 
-far_in : (layers : List Layer) (kept : Bool) (structs : List Structure) (top : List ℕ) (drawing : Drawing) → IsTopDrawing layers kept structs top drawing → (p : Point) → (IsCornerOfFlat layers structs top p ⊎ IsPointOfLabel layers structs top p)
-    → (far : IsFar layers structs top p) → IsFarIn drawing.shapes.items drawing.points.items p
-far_in layers kept structs top drawing t p (inl h) f = inl (record { shape = h.shape; among = (t.shapes h.shape).1 h.flat; is = record { corner = h.corner; far = f.far } })
-far_in layers kept structs top drawing t p (inr h) f = inr (record { own = p; among = (t.points p).1 h; is = record { is = refl; far = f.far } })
+far_in : (layers : List Layer) (kept : Bool) (structs : List Structure) (top : List ℕ) (gathered : Gathered) → IsTopDrawing layers kept structs top gathered → (p : Point) → (IsCornerOfFlat layers structs top p ⊎ IsPointOfLabel layers structs top p)
+    → (far : IsFar layers structs top p) → IsFarIn gathered.shapes.items gathered.points.items p
+far_in layers kept structs top gathered t p (inl h) f = inl (record { shape = h.shape; among = (t.shapes h.shape).1 h.flat; is = record { corner = h.corner; far = f.far } })
+far_in layers kept structs top gathered t p (inr h) f = inr (record { own = p; among = (t.points p).1 h; is = record { is = refl; far = f.far } })
 
-flat_kept_is : (layers : List Layer) (kept : Bool) (structs : List Structure) (top : List ℕ) (drawing : Drawing) (flat : Flat) → IsSound structs top → HasFew layers structs top → IsTopDrawing layers kept structs top drawing → IsFlatOf drawing flat
+flat_kept_is : (layers : List Layer) (kept : Bool) (structs : List Structure) (top : List ℕ) (gathered : Gathered) (flat : Flat) → IsSound structs top → HasFew layers structs top → IsTopDrawing layers kept structs top gathered → IsFlatOf gathered flat
     → IsFlatKept layers kept structs top flat
-flat_kept_is layers kept structs top drawing flat sound few t l = record {
+flat_kept_is layers kept structs top gathered flat sound few t l = record {
   shapes = record {
     sound = sound;
     few = few;
-    near = λ p f. l.near p (far_in layers kept structs top drawing t p f.stands f);
+    near = λ p f. l.near p (far_in layers kept structs top gathered t p f.stands f);
     rise = l.shapes_rise;
     exact = λ s. (λ h. (t.shapes s).0 ((l.shapes_same s).0 h), λ f. (l.shapes_same s).1 ((t.shapes s).1 f));
   };
@@ -43,25 +43,25 @@ flat_kept_is layers kept structs top drawing flat sound few t l = record {
 }
 
 -- a far point is a fault
-far_fault_is : (layers : List Layer) (kept : Bool) (structs : List Structure) (top : List ℕ) (drawing : Drawing) (fault : FlattenFault) → IsSound structs top → HasFew layers structs top → IsTopDrawing layers kept structs top drawing → IsFarFault drawing fault
+far_fault_is : (layers : List Layer) (kept : Bool) (structs : List Structure) (top : List ℕ) (gathered : Gathered) (fault : FlattenFault) → IsSound structs top → HasFew layers structs top → IsTopDrawing layers kept structs top gathered → IsFarFault gathered fault
     → IsFault layers structs top fault
-far_fault_is layers kept structs top drawing (flatten_fault.UnknownStruct name) sound few t h = absurd h
-far_fault_is layers kept structs top drawing (flatten_fault.Cycle name) sound few t h = absurd h
-far_fault_is layers kept structs top drawing (flatten_fault.TooDeep depth) sound few t h = absurd h
-far_fault_is layers kept structs top drawing (flatten_fault.TooMany shapes labels) sound few t h = absurd h
-far_fault_is layers kept structs top drawing (flatten_fault.Far x y) sound few t h =
-    (sound, few, record { far = is_far layers kept structs top drawing t (record { x = x; y = y }) h.has; first = λ q f. h.first q (far_in layers kept structs top drawing t q f.stands f) })
-far_fault_is layers kept structs top drawing flatten_fault.Memory sound few t h = tt
+far_fault_is layers kept structs top gathered (flatten_fault.UnknownStruct name) sound few t h = absurd h
+far_fault_is layers kept structs top gathered (flatten_fault.Cycle name) sound few t h = absurd h
+far_fault_is layers kept structs top gathered (flatten_fault.TooDeep depth) sound few t h = absurd h
+far_fault_is layers kept structs top gathered (flatten_fault.TooMany shapes labels) sound few t h = absurd h
+far_fault_is layers kept structs top gathered (flatten_fault.Far x y) sound few t h =
+    (sound, few, record { far = is_far layers kept structs top gathered t (record { x = x; y = y }) h.has; first = λ q f. h.first q (far_in layers kept structs top gathered t q f.stands f) })
+far_fault_is layers kept structs top gathered flatten_fault.Memory sound few t h = tt
 
-pub flat_if : (layers : List Layer) (kept : Bool) (structs : List Structure) (top : List ℕ) (drawing : Drawing) (result : Result Flat FlattenFault) → IsSound structs top → HasFew layers structs top → IsTopDrawing layers kept structs top drawing
-    → IfOk result (IsFlatOf drawing) → IfOk result (IsFlatKept layers kept structs top)
-flat_if layers kept structs top drawing (Ok flat) sound few t l = flat_kept_is layers kept structs top drawing flat sound few t l
-flat_if layers kept structs top drawing (Err fault) sound few t l = tt
+pub flat_if : (layers : List Layer) (kept : Bool) (structs : List Structure) (top : List ℕ) (gathered : Gathered) (result : Result Flat FlattenFault) → IsSound structs top → HasFew layers structs top → IsTopDrawing layers kept structs top gathered
+    → IfOk result (IsFlatOf gathered) → IfOk result (IsFlatKept layers kept structs top)
+flat_if layers kept structs top gathered (Ok flat) sound few t l = flat_kept_is layers kept structs top gathered flat sound few t l
+flat_if layers kept structs top gathered (Err fault) sound few t l = tt
 
-pub fault_if : (layers : List Layer) (kept : Bool) (structs : List Structure) (top : List ℕ) (drawing : Drawing) (result : Result Flat FlattenFault) → IsSound structs top → HasFew layers structs top → IsTopDrawing layers kept structs top drawing
-    → IfErr result (IsFarFault drawing) → IfErr result (IsFault layers structs top)
-fault_if layers kept structs top drawing (Ok flat) sound few t h = tt
-fault_if layers kept structs top drawing (Err fault) sound few t h = far_fault_is layers kept structs top drawing fault sound few t h
+pub fault_if : (layers : List Layer) (kept : Bool) (structs : List Structure) (top : List ℕ) (gathered : Gathered) (result : Result Flat FlattenFault) → IsSound structs top → HasFew layers structs top → IsTopDrawing layers kept structs top gathered
+    → IfErr result (IsFarFault gathered) → IfErr result (IsFault layers structs top)
+fault_if layers kept structs top gathered (Ok flat) sound few t h = tt
+fault_if layers kept structs top gathered (Err fault) sound few t h = far_fault_is layers kept structs top gathered fault sound few t h
 
 -- what is flat and kept
 pub lists_are : (layers : List Layer) (structs : List Structure) (top : List ℕ) (flat : Flat) → IsFlatKept layers true structs top flat → AreFlatLists layers structs top (lists_of flat)

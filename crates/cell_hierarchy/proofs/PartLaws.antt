@@ -27,7 +27,7 @@ use Rattle.cell_chains.specs.Hierarchy.{IsTarget, referred_name}
 use Rattle.cell_chains.proofs.ChainLaws.{refers_for}
 use Rattle.cell_chains.proofs.MemberLaws.{image_from}
 use Rattle.cell_hierarchy.specs.Plain.{plain_label}
-use Rattle.cell_hierarchy.specs.Things.{Thing, IsOwnThing, HasThing, IsFlatThing}
+use Rattle.cell_hierarchy.specs.Things.{Thing, IsOwnThing, DrawsThing, IsFlatThing}
 use Rattle.cell_hierarchy.specs.Things.Thing.{AShape, ALabel, APoint}
 use Rattle.cell_hierarchy.specs.Drawings.{kept_labels, IsDrawingOf, IsBlank, IsSomeAt, LeadsToSome, IsLiveOf, IsCellPart, IsPartOf, AreCellParts, AreAllCells}
 use Rattle.cell_hierarchy.specs.declared.flat.Label.{Label}
@@ -118,25 +118,25 @@ kept_contains : (kept : Bool) (labels : List PlainLabel) (l : PlainLabel) → Co
 kept_contains true labels l = (λ h. (refl, h), λ h. h.1)
 kept_contains false labels l = (λ h. absurd (contains_none l h), λ h. absurd (let e : false ≡ true = h.0 in cc))
 
-own_there : (layers : List Layer) (kept : Bool) (es : List Element) (drawing : Drawing) (x : Thing) → IsDrawingOf layers kept es drawing → HasThing drawing x → IsOwnThing layers kept es x
+own_there : (layers : List Layer) (kept : Bool) (es : List Element) (drawing : Drawing) (x : Thing) → IsDrawingOf layers kept es drawing → DrawsThing drawing x → IsOwnThing layers kept es x
 own_there layers kept es drawing (AShape s) d h = record { shapes = drawing.shapes.items; drawn = d.shapes; among = h }
 own_there layers kept es drawing (ALabel l) d h = (kept_contains kept (own_labels layers es) l).0 (subst (λ (ls : List PlainLabel). Contains ls l) d.labels h)
 own_there layers kept es drawing (APoint p) d h =
     let i = image_from (λ (label : PlainLabel). label.at) (own_labels layers es) p (subst (λ (ps : List Point). Contains ps p) d.points h) in
     record { text = i.item; among = i.stands; is = i.is }
 
-own_back : (layers : List Layer) (kept : Bool) (es : List Element) (drawing : Drawing) (x : Thing) → AllByRecursion IsWritableElement es → IsDrawingOf layers kept es drawing → IsOwnThing layers kept es x → HasThing drawing x
+own_back : (layers : List Layer) (kept : Bool) (es : List Element) (drawing : Drawing) (x : Thing) → AllByRecursion IsWritableElement es → IsDrawingOf layers kept es drawing → IsOwnThing layers kept es x → DrawsThing drawing x
 own_back layers kept es drawing (AShape s) w d h = one_set layers es h.shapes drawing.shapes.items w h.drawn d.shapes s h.among
 own_back layers kept es drawing (ALabel l) w d h = subst (λ (ls : List PlainLabel). Contains ls l) (sym d.labels) ((kept_contains kept (own_labels layers es) l).1 h)
 own_back layers kept es drawing (APoint p) w d h =
     subst (λ (ps : List Point). Contains ps p) (sym d.points)
     (subst (λ (q : Point). Contains (map (λ (label : PlainLabel). label.at) (own_labels layers es)) q) h.is (contains_map (λ (label : PlainLabel). label.at) (own_labels layers es) h.text h.among))
 
-pub own_is : (layers : List Layer) (kept : Bool) (es : List Element) (drawing : Drawing) → AllByRecursion IsWritableElement es → IsDrawingOf layers kept es drawing → (x : Thing) → HasThing drawing x ↔ IsOwnThing layers kept es x
+pub own_is : (layers : List Layer) (kept : Bool) (es : List Element) (drawing : Drawing) → AllByRecursion IsWritableElement es → IsDrawingOf layers kept es drawing → (x : Thing) → DrawsThing drawing x ↔ IsOwnThing layers kept es x
 own_is layers kept es drawing w d x = (own_there layers kept es drawing x d, own_back layers kept es drawing x w d)
 
 -- a blank cell has nothing flat
-blank_has : (part : CellPart) (x : Thing) → IsBlank part → HasThing part.own x → ⊥
+blank_has : (part : CellPart) (x : Thing) → IsBlank part → DrawsThing part.own x → ⊥
 blank_has part (AShape s) b h = contains_none s (subst (λ (ss : List Shape). Contains ss s) b.shapes h)
 blank_has part (ALabel l) b h = contains_none l (subst (λ (ls : List Label). Contains (map plain_label ls) l) b.labels h)
 blank_has part (APoint p) b h = contains_none p (subst (λ (ps : List Point). Contains ps p) b.points h)

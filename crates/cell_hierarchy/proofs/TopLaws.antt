@@ -21,7 +21,7 @@ use Rattle.cell_hierarchy.specs.Placed.{IsThingAt}
 use Rattle.cell_hierarchy.specs.Parts.{IsPlacedAt, IsOfCellIn}
 use Rattle.cell_hierarchy.specs.Settled.{IsTopDrawing}
 use Rattle.cell_hierarchy.specs.declared.flat.Label.{Label}
-use Rattle.cell_hierarchy.specs.declared.drawing.Drawing.{Drawing}
+use Rattle.cell_hierarchy.specs.declared.gathered.Gathered.{Gathered}
 use Rattle.cell_hierarchy.specs.declared.placement.Placement.{Placement}
 use Rattle.cell_hierarchy.specs.declared.tree.Tree.{Tree}
 use Rattle.cell_hierarchy.proofs.ThingLaws.{flat_shape_is, flat_label_is, flat_point_is}
@@ -85,17 +85,17 @@ top_named tree top last c is =
     let same : c.before ≡ last = omega (arith, count, is) in
     subst (λ (k : ℕ). IsCellOf tree.structs.now tree.cells.now k top) same c.last
 
--- the drawing that began with nothing has exactly what is flat
-blank_has : (blank : Drawing) (x : Thing) → blank.shapes.items ≡ [] → blank.labels.items ≡ [] → blank.points.items ≡ [] → HasThing blank x → ⊥
-blank_has blank (AShape s) a b c h = contains_none s (subst (λ (ss : List Shape). Contains ss s) a h)
-blank_has blank (ALabel l) a b c h = contains_none l (subst (λ (ls : List Label). Contains (map plain_label ls) l) b h)
-blank_has blank (APoint p) a b c h = contains_none p (subst (λ (ps : List Point). Contains ps p) c h)
+-- what is gathered from nothing on is exactly what is flat
+nothing_has : (nothing : Gathered) (x : Thing) → nothing.shapes.items ≡ [] → nothing.labels.items ≡ [] → nothing.points.items ≡ [] → HasThing nothing x → ⊥
+nothing_has nothing (AShape s) a b c h = contains_none s (subst (λ (ss : List Shape). Contains ss s) a h)
+nothing_has nothing (ALabel l) a b c h = contains_none l (subst (λ (ls : List Label). Contains (map plain_label ls) l) b h)
+nothing_has nothing (APoint p) a b c h = contains_none p (subst (λ (ps : List Point). Contains ps p) c h)
 
-pub top_has : (tree : Tree) (top : List ℕ) (at : Placement) (blank drawing : Drawing) → blank.shapes.items ≡ [] → blank.labels.items ≡ [] → blank.points.items ≡ [] → at.place ≡ home → at.path.now ≡ []
-    → DrawingGrows blank drawing (IsOfCellIn tree at top) → (x : Thing) → HasThing drawing x ↔ IsFlatThing tree.layers.now tree.keeps_labels tree.structs.now top x
-top_has tree top at blank drawing a b c there bare g x = (
+pub top_has : (tree : Tree) (top : List ℕ) (at : Placement) (nothing gathered : Gathered) → nothing.shapes.items ≡ [] → nothing.labels.items ≡ [] → nothing.points.items ≡ [] → at.place ≡ home → at.path.now ≡ []
+    → DrawingGrows nothing gathered (IsOfCellIn tree at top) → (x : Thing) → HasThing gathered x ↔ IsFlatThing tree.layers.now tree.keeps_labels tree.structs.now top x
+top_has tree top at nothing gathered a b c there bare g x = (
   λ h. elim (g.only x h) [
-    | inl old ↦ absurd (blank_has blank x a b c old)
+    | inl old ↦ absurd (nothing_has nothing x a b c old)
     | inr f ↦
         let stands : IsThingAt [] home f.inner x = subst (λ (p : Place). IsThingAt [] p f.inner x) there (subst (λ (q : List ℕ). IsThingAt q at.place f.inner x) bare f.stands) in
         subst (λ (t : Thing). IsFlatThing tree.layers.now tree.keeps_labels tree.structs.now top t) (sym (at_home f.inner x stands)) f.flat
@@ -107,8 +107,8 @@ top_has tree top at blank drawing a b c there bare g x = (
   }),
 )
 
-pub top_drawing_is : (tree : Tree) (top : List ℕ) (drawing : Drawing) → ((x : Thing) → HasThing drawing x ↔ IsFlatThing tree.layers.now tree.keeps_labels tree.structs.now top x) → IsTopDrawing tree.layers.now tree.keeps_labels tree.structs.now top drawing
-top_drawing_is tree top drawing is = record {
+pub top_drawing_is : (tree : Tree) (top : List ℕ) (gathered : Gathered) → ((x : Thing) → HasThing gathered x ↔ IsFlatThing tree.layers.now tree.keeps_labels tree.structs.now top x) → IsTopDrawing tree.layers.now tree.keeps_labels tree.structs.now top gathered
+top_drawing_is tree top gathered is = record {
   shapes = λ s. (λ h. (flat_shape_is tree.layers.now tree.keeps_labels tree.structs.now top s).0 ((is (AShape s)).0 h), λ f. (is (AShape s)).1 ((flat_shape_is tree.layers.now tree.keeps_labels tree.structs.now top s).1 f));
   labels = λ l. (λ h. (flat_label_is tree.layers.now tree.keeps_labels tree.structs.now top l).0 ((is (ALabel l)).0 h), λ f. (is (ALabel l)).1 ((flat_label_is tree.layers.now tree.keeps_labels tree.structs.now top l).1 f));
   points = λ p. (λ h. (flat_point_is tree.layers.now tree.keeps_labels tree.structs.now top p).0 ((is (APoint p)).0 h), λ f. (is (APoint p)).1 ((flat_point_is tree.layers.now tree.keeps_labels tree.structs.now top p).1 f));

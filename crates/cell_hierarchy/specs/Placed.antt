@@ -9,7 +9,7 @@ use Rattle.tech_rules.specs.declared.tech.Layer.{Layer}
 use Rattle.element_drawing.specs.PlainLabel.{PlainLabel}
 use Rattle.cell_chains.specs.Instances.{Item}
 use Rattle.cell_hierarchy.specs.FlatSet.{IsMoved}
-use Rattle.cell_hierarchy.specs.Things.{Thing, MovesThing, IsFlatThing, HasThing}
+use Rattle.cell_hierarchy.specs.Things.{Thing, MovesThing, IsFlatThing, DrawsThing}
 use Rattle.cell_hierarchy.specs.Things.Thing.{AShape, ALabel, APoint}
 use Rattle.cell_hierarchy.specs.Plain.{plain_label}
 use Rattle.cell_hierarchy.specs.declared.flat.Label.{Label}
@@ -51,7 +51,7 @@ PointGives place own made = made ≡ placed place own
 -- x is what one of the drawing's things is in the top
 pub record IsOfDrawing (drawing : Drawing) (at : Placement) (x : Thing) : Type 0 where
   pub inner : Thing
-  pub own : HasThing drawing inner
+  pub own : DrawsThing drawing inner
   pub stands : IsThingAt at.path.now at.place inner x
 
 -- x is what one of the flat things of the structure of this name is in the top

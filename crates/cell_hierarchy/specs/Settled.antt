@@ -1,4 +1,4 @@
--- From the drawing of the top to its flat lists, and the faults on the way.
+-- From what a top draws to its flat lists, and the faults on the way.
 use Rattle.std.specs.Prelude.{◌≡◌, ◌⊎◌, ◌↔◌, ◌^◌, ◌<◌, min, ℕ, Bool, true, List, Contains, length, map}
 use Rattle.std.specs.List.Sorted.{IsStrictlySortedBy}
 use Rattle.or_geom.specs.declared.shape.Point.{Point}
@@ -11,7 +11,7 @@ use Rattle.element_drawing.specs.LabelOrder.{label_order}
 use Rattle.cell_chains.specs.declared.fault.ChainFault.{ChainFault}
 use Rattle.cell_chains.specs.declared.fault.ChainFault.TheVariants as chain_fault
 use Rattle.cell_hierarchy.specs.declared.counts.SaturatedCounts.{SaturatedCounts}
-use Rattle.cell_hierarchy.specs.declared.drawing.Drawing.{Drawing}
+use Rattle.cell_hierarchy.specs.declared.gathered.Gathered.{Gathered}
 use Rattle.cell_hierarchy.specs.Plain.{plain_label}
 use Rattle.cell_hierarchy.specs.declared.flat.Flat.{Flat}
 use Rattle.cell_hierarchy.specs.declared.parts.CellPart.{CellPart}
@@ -46,26 +46,26 @@ IsManyFault layers structs top (flatten_fault.Far x y) = ⊥
 IsManyFault layers structs top flatten_fault.Memory = Unit {0}
 
 -- exactly the flat shapes of the structure, its flat labels where they are kept, and the points of its flat labels
-pub record IsTopDrawing (layers : List Layer) (kept : Bool) (structs : List Structure) (top : List ℕ) (drawing : Drawing) : Type 0 where
-  pub shapes : (s : Shape) → Contains drawing.shapes.items s ↔ IsFlatShape layers structs top s
-  pub labels : (label : PlainLabel) → Contains (map plain_label drawing.labels.items) label ↔ ((kept ≡ true) × IsFlatLabel layers structs top label)
-  pub points : (p : Point) → Contains drawing.points.items p ↔ IsPointOfLabel layers structs top p
+pub record IsTopDrawing (layers : List Layer) (kept : Bool) (structs : List Structure) (top : List ℕ) (gathered : Gathered) : Type 0 where
+  pub shapes : (s : Shape) → Contains gathered.shapes.items s ↔ IsFlatShape layers structs top s
+  pub labels : (label : PlainLabel) → Contains (map plain_label gathered.labels.items) label ↔ ((kept ≡ true) × IsFlatLabel layers structs top label)
+  pub points : (p : Point) → Contains gathered.points.items p ↔ IsPointOfLabel layers structs top p
 
--- what the drawing holds, in order and once, and none of it far
-pub record IsFlatOf (drawing : Drawing) (flat : Flat) : Type 0 where
-  pub near : (p : Point) → IsFarIn drawing.shapes.items drawing.points.items p → ⊥
+-- what was gathered, in order and once, and none of it far
+pub record IsFlatOf (gathered : Gathered) (flat : Flat) : Type 0 where
+  pub near : (p : Point) → IsFarIn gathered.shapes.items gathered.points.items p → ⊥
   pub shapes_rise : IsStrictlySortedBy shape_order flat.shapes.now
-  pub shapes_same : (s : Shape) → Contains flat.shapes.now s ↔ Contains drawing.shapes.items s
+  pub shapes_same : (s : Shape) → Contains flat.shapes.now s ↔ Contains gathered.shapes.items s
   pub labels_rise : IsStrictlySortedBy label_order (map plain_label flat.labels.now)
-  pub labels_same : (label : PlainLabel) → Contains (map plain_label flat.labels.now) label ↔ Contains (map plain_label drawing.labels.items) label
+  pub labels_same : (label : PlainLabel) → Contains (map plain_label flat.labels.now) label ↔ Contains (map plain_label gathered.labels.items) label
 
-abbrev pub IsFarFault : Drawing → FlattenFault → Type 0
-IsFarFault drawing (flatten_fault.UnknownStruct name) = ⊥
-IsFarFault drawing (flatten_fault.Cycle name) = ⊥
-IsFarFault drawing (flatten_fault.TooDeep depth) = ⊥
-IsFarFault drawing (flatten_fault.TooMany shapes labels) = ⊥
-IsFarFault drawing (flatten_fault.Far x y) = IsFirst (IsFarIn drawing.shapes.items drawing.points.items) (record { x = x; y = y })
-IsFarFault drawing flatten_fault.Memory = Unit {0}
+abbrev pub IsFarFault : Gathered → FlattenFault → Type 0
+IsFarFault gathered (flatten_fault.UnknownStruct name) = ⊥
+IsFarFault gathered (flatten_fault.Cycle name) = ⊥
+IsFarFault gathered (flatten_fault.TooDeep depth) = ⊥
+IsFarFault gathered (flatten_fault.TooMany shapes labels) = ⊥
+IsFarFault gathered (flatten_fault.Far x y) = IsFirst (IsFarIn gathered.shapes.items gathered.points.items) (record { x = x; y = y })
+IsFarFault gathered flatten_fault.Memory = Unit {0}
 
 -- the flat shapes and, where they are kept, the flat labels; and none of the faults holds
 pub record IsFlatKept (layers : List Layer) (kept : Bool) (structs : List Structure) (top : List ℕ) (flat : Flat) : Type 0 where

@@ -12,7 +12,9 @@ use Rattle.cell_chains.specs.Instances.{Item}
 use Rattle.cell_chains.specs.Chains.{elements_of, IsItemOf}
 use Rattle.cell_hierarchy.specs.FlatSet.{IsOwnShape, IsMoved, IsLabelMoved}
 use Rattle.cell_hierarchy.specs.Plain.{plain_label}
+use Rattle.cell_hierarchy.specs.declared.flat.Label.{Label}
 use Rattle.cell_hierarchy.specs.declared.drawing.Drawing.{Drawing}
+use Rattle.cell_hierarchy.specs.declared.gathered.Gathered.{Gathered}
 
 pub data Thing : Type 0 where
   AShape : Shape → Thing
@@ -53,14 +55,22 @@ pub record IsFlatThing (layers : List Layer) (kept : Bool) (structs : List Struc
   pub chain : List Item
   pub stands : IsThingBy layers kept structs name chain x
 
--- the drawing has it
-abbrev pub HasThing : Drawing → Thing → Type 0
-HasThing drawing (AShape s) = Contains drawing.shapes.items s
-HasThing drawing (ALabel l) = Contains (map plain_label drawing.labels.items) l
-HasThing drawing (APoint p) = Contains drawing.points.items p
+-- it is one of these shapes, labels or points
+abbrev pub IsListedThing : List Shape → List Label → List Point → Thing → Type 0
+IsListedThing shapes labels points (AShape s) = Contains shapes s
+IsListedThing shapes labels points (ALabel l) = Contains (map plain_label labels) l
+IsListedThing shapes labels points (APoint p) = Contains points p
 
--- the drawing grew by exactly the things that have P
-pub record DrawingGrows (old new : Drawing) (P : Thing → Type 0) : Type 0 where
+-- it is drawn
+abbrev pub DrawsThing : Drawing → Thing → Type 0
+DrawsThing drawing x = IsListedThing drawing.shapes.items drawing.labels.items drawing.points.items x
+
+-- it was gathered
+abbrev pub HasThing : Gathered → Thing → Type 0
+HasThing gathered x = IsListedThing gathered.shapes.items gathered.labels.items gathered.points.items x
+
+-- what was gathered grew by exactly the things that have P
+pub record DrawingGrows (old new : Gathered) (P : Thing → Type 0) : Type 0 where
   pub only : (x : Thing) → HasThing new x → HasThing old x ⊎ P x
   pub stays : (x : Thing) → HasThing old x → HasThing new x
   pub each : (x : Thing) → P x → HasThing new x

@@ -58,8 +58,9 @@ fn are_over(counts: SaturatedCounts) -> bool
     counts.labels > 4_194_304
 }
 
-/// Refuses more than 2^24 shapes or 2^22 labels below the top.
-pub fn check_counts(alloc: Global, tree: &Tree, top: &Name) -> Result<(), FlattenFault>
+/// How many shapes and labels stand below the top, before equal ones are merged. Refuses more than 2^24 shapes or 2^22
+/// labels.
+pub fn check_counts(alloc: Global, tree: &Tree, top: &Name) -> Result<SaturatedCounts, FlattenFault>
     requires tree { IsCellTree tree.now }
     requires cells { AreCells tree.now.structs.now top.now tree.now.cells.now }
     ensures few { OnOk result (HasFew tree.now.layers.now tree.now.structs.now top.now) }
@@ -73,5 +74,5 @@ pub fn check_counts(alloc: Global, tree: &Tree, top: &Name) -> Result<(), Flatte
             labels: counts.labels,
         });
     }
-    Ok(())
+    Ok(counts)
 }

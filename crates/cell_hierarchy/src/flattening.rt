@@ -42,9 +42,9 @@ fn flat_of<'b>(
         parts: &parts,
         keeps_labels,
     };
-    check_counts(alloc, &tree, top)?;
-    let drawing = top_drawing(alloc, bump, &tree, top)?;
-    sorted_flat(bump, drawing)
+    let counts = check_counts(alloc, &tree, top)?;
+    let gathered = top_drawing(alloc, bump, &tree, top, counts)?;
+    sorted_flat(gathered)
 }
 
 /// The flat layout of a structure: its own shapes and labels and those of all structures that it reaches, each turned,

@@ -12,6 +12,7 @@ mod far;
 mod fault;
 mod flat;
 mod flattening;
+mod gathered;
 mod grid;
 mod laws;
 mod order;

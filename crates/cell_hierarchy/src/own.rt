@@ -13,7 +13,9 @@ ghost use Rattle.cell_hierarchy.specs.Things.{DrawingGrows};
 
 use crate::drawing::Drawing;
 use crate::flat::Label;
+use crate::gathered::Gathered;
 use crate::placement::Placement;
+use bumpalo::Bump;
 use or_geom::{Memory, Orient, Place, Point, Shape};
 
 /// The shape of a cell that stands at the place, in the top.
@@ -42,7 +44,7 @@ fn point_at(place: Place, p: Point) -> Point
         .at
 }
 
-fn add_shapes(place: Place, shapes: &[Shape], out: &mut Vec<Shape>) -> Result<(), Memory>
+fn add_shapes(place: Place, shapes: &[Shape], out: &mut Vec<Shape, &Bump>) -> Result<(), Memory>
     requires offset { IsNearPoint place.at }
     requires near { AreReachable shapes.now }
     ensures { OnOk result (Adds out.old.items out.new.items (SomeGives (IsMoved place) shapes.now)) }
@@ -56,7 +58,7 @@ fn add_shapes(place: Place, shapes: &[Shape], out: &mut Vec<Shape>) -> Result<()
 fn add_labels<'b>(
     at: &Placement<'b>,
     labels: &[Label<'b>],
-    out: &mut Vec<Label<'b>>,
+    out: &mut Vec<Label<'b>, &'b Bump>,
 ) -> Result<(), Memory>
     requires offset { IsNearPoint at.now.place.at }
     requires near { AllByRecursion (λ label. IsNearPoint label.at) labels.now }
@@ -90,7 +92,7 @@ fn add_points(place: Place, points: &[Point], out: &mut Vec<Point>) -> Result<()
 pub fn add_own<'b>(
     at: &Placement<'b>,
     own: &Drawing<'b>,
-    out: &mut Drawing<'b>,
+    out: &mut Gathered<'b>,
 ) -> Result<(), Memory>
     requires offset { IsNearPoint at.now.place.at }
     requires own { IsOwnDrawing own.now }

@@ -1,19 +1,31 @@
-ghost use Rattle.std.specs.Prelude.{◌≡◌, ◌↔◌, Contains, map, IfOk, IfErr};
+ghost use Rattle.std.specs.Prelude.{◌≡◌, ◌↔◌, IsTrue, Contains, map, IfOk, IfErr};
 ghost use Rattle.std.specs.List.Sorted.{IsStrictlySortedBy};
 ghost use Rattle.element_drawing.specs.LabelOrder.{label_order};
 ghost use Rattle.element_drawing.specs.PlainLabel.{PlainLabel};
 ghost use Rattle.cell_hierarchy.specs.Plain.{plain_label};
 ghost use Rattle.cell_hierarchy.specs.Settled.{IsFlatOf, IsFarFault};
 
-use crate::drawing::Drawing;
 use crate::far::far_point;
 use crate::fault::FlattenFault;
 use crate::flat::{Flat, Label};
+use crate::gathered::Gathered;
 use bumpalo::Bump;
-use or_geom::{Memory, Shape, sort_distinct};
+use bumpalo::collections::into_bump_slice;
+
+/// Sorts the list and drops what stands in it twice. What compares as equal has to be equal for nothing to be lost,
+/// which the premise of `keeps` says of the type.
+fn sort_distinct<T: Ord + Drop>(list: &mut Vec<T, &Bump>)
+    ensures rises { IsStrictlySortedBy T.cmp list.new.items }
+    ensures keeps { ((x y : T) → IsTrue (T.eq x y) → x ≡ y) → (x : T) → Contains list.old.items x
+        → Contains list.new.items x }
+    ensures adds_none { (x : T) → Contains list.new.items x → Contains list.old.items x }
+{
+    list.sort_unstable();
+    list.dedup();
+}
 
 /// Sorts the labels and drops what stands among them twice.
-fn sort_distinct_labels(labels: &mut Vec<Label>)
+fn sort_distinct_labels<'b>(labels: &mut Vec<Label<'b>, &'b Bump>)
     ensures rises { IsStrictlySortedBy label_order (map plain_label labels.new.items) }
     ensures same { (label : PlainLabel) → Contains (map plain_label labels.new.items) label
         ↔ Contains (map plain_label labels.old.items) label }
@@ -22,31 +34,23 @@ fn sort_distinct_labels(labels: &mut Vec<Label>)
     labels.dedup();
 }
 
-/// The shapes and labels, in the arena.
-fn flat_in<'b>(bump: &'b Bump, shapes: &[Shape], labels: &[Label<'b>]) -> Result<Flat<'b>, Memory>
-    ensures shapes { IfOk result (λ flat. flat.shapes.now ≡ shapes.now) }
-    ensures labels { IfOk result (λ flat. flat.labels.now ≡ labels.now) }
+/// What was gathered, sorted and each thing once, where it lies; refused if it doesn't fit 32 bits.
+pub fn sorted_flat<'b>(gathered: Gathered<'b>) -> Result<Flat<'b>, FlattenFault>
+    ensures flat { IfOk result (IsFlatOf gathered.entry) }
+    ensures far { IfErr result (IsFarFault gathered.entry) }
 {
-    Ok(Flat {
-        shapes: bump.try_alloc_slice_copy(shapes)?,
-        labels: bump.try_alloc_slice_copy(labels)?,
-    })
-}
-
-/// What a drawing holds, sorted and each thing once, in the arena; refused if it doesn't fit 32 bits.
-pub fn sorted_flat<'b>(bump: &'b Bump, drawing: Drawing<'b>) -> Result<Flat<'b>, FlattenFault>
-    ensures flat { IfOk result (IsFlatOf drawing.entry) }
-    ensures far { IfErr result (IsFarFault drawing.entry) }
-{
-    if let Some(p) = far_point(&drawing.shapes, &drawing.points) {
+    if let Some(p) = far_point(&gathered.shapes, &gathered.points) {
         return Err(FlattenFault::Far { x: p.x, y: p.y });
     }
-    let Drawing {
+    let Gathered {
         mut shapes,
         mut labels,
         ..
-    } = drawing;
+    } = gathered;
     sort_distinct(&mut shapes);
     sort_distinct_labels(&mut labels);
-    Ok(flat_in(bump, &shapes, &labels)?)
+    Ok(Flat {
+        shapes: into_bump_slice(shapes),
+        labels: into_bump_slice(labels),
+    })
 }

@@ -3,7 +3,8 @@ ghost use Rattle.cell_chains.specs.Hierarchy.{AreCells};
 ghost use Rattle.cell_hierarchy.specs.Parts.{IsCellTree};
 ghost use Rattle.cell_hierarchy.specs.Settled.{IsTopDrawing};
 
-use crate::drawing::{Drawing, blank};
+use crate::counts::SaturatedCounts;
+use crate::gathered::{Gathered, nothing_gathered};
 use crate::placement::Placement;
 use crate::tree::Tree;
 use crate::walk::add_cell;
@@ -11,13 +12,14 @@ use bumpalo::Bump;
 use or_geom::{Memory, Name, Orient, Place, Point};
 use std::alloc::Global;
 
-/// What the top draws with all cells below it; it is the last of the cells.
+/// What the top draws with all cells below it; it is the last of the cells. `counts` is how much room to make for that.
 pub fn top_drawing<'b>(
     alloc: Global,
     bump: &'b Bump,
     tree: &Tree<'_, 'b>,
     _top: &Name,
-) -> Result<Drawing<'b>, Memory>
+    counts: SaturatedCounts,
+) -> Result<Gathered<'b>, Memory>
     requires tree { IsCellTree tree.now }
     requires cells { AreCells tree.now.structs.now _top.now tree.now.cells.now }
     ensures { IfOk result (IsTopDrawing tree.now.layers.now tree.now.keeps_labels tree.now.structs.now _top.now) }
@@ -29,7 +31,7 @@ pub fn top_drawing<'b>(
             at: Point { x: 0, y: 0 },
         },
     };
-    let mut drawing = blank(alloc);
-    add_cell(alloc, bump, tree, tree.cells.len() - 1, &at, &mut drawing)?;
-    Ok(drawing)
+    let mut gathered = nothing_gathered(alloc, bump, counts, tree.keeps_labels)?;
+    add_cell(alloc, bump, tree, tree.cells.len() - 1, &at, &mut gathered)?;
+    Ok(gathered)
 }

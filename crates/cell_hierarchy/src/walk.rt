@@ -6,7 +6,7 @@ ghost use Rattle.cell_hierarchy.specs.Things.{DrawingGrows};
 ghost use Rattle.cell_hierarchy.specs.Parts.{IsCellTree, IsPlacedAt, IsBelowAt, IsLiveAt, IsElementOf, IsOfElement};
 ghost use Rattle.cell_hierarchy.specs.Parts.{IsOfCellIn, IsOfArrayItem};
 
-use crate::drawing::Drawing;
+use crate::gathered::Gathered;
 use crate::grid::{ArrayGrid, Spot};
 use crate::own::add_own;
 use crate::placement::{Placement, item_below, reference_below};
@@ -43,7 +43,7 @@ pub fn add_cell<'b>(
     tree: &Tree<'_, 'b>,
     index: usize,
     at: &Placement<'b>,
-    out: &mut Drawing<'b>,
+    out: &mut Gathered<'b>,
 ) -> Result<(), Memory>
     requires tree { IsCellTree tree.now }
     requires at { IsPlacedAt tree.now index at.now }
@@ -67,7 +67,7 @@ fn add_element<'b>(
     index: usize,
     at: &Placement<'b>,
     n: usize,
-    out: &mut Drawing<'b>,
+    out: &mut Gathered<'b>,
 ) -> Result<(), Memory>
     requires tree { IsCellTree tree.now }
     requires at { IsPlacedAt tree.now index at.now }
@@ -118,7 +118,7 @@ fn add_array<'b>(
     tree: &Tree<'_, 'b>,
     array: ArrayBelow,
     at: &Placement<'b>,
-    out: &mut Drawing<'b>,
+    out: &mut Gathered<'b>,
 ) -> Result<(), Memory>
     requires tree { IsCellTree tree.now }
     requires at { IsBelowAt tree.now array.target at.now }
@@ -142,7 +142,7 @@ fn add_column<'b>(
     array: ArrayBelow,
     column: u16,
     at: &Placement<'b>,
-    out: &mut Drawing<'b>,
+    out: &mut Gathered<'b>,
 ) -> Result<(), Memory>
     requires tree { IsCellTree tree.now }
     requires at { IsBelowAt tree.now array.target at.now }
@@ -166,7 +166,7 @@ fn add_item<'b>(
     array: ArrayBelow,
     spot: Spot,
     at: &Placement<'b>,
-    out: &mut Drawing<'b>,
+    out: &mut Gathered<'b>,
 ) -> Result<(), Memory>
     requires tree { IsCellTree tree.now }
     requires at { IsBelowAt tree.now array.target at.now }

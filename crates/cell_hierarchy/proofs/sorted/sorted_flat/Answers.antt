@@ -1,4 +1,4 @@
-use Rattle.std.proofs.Common.{List, map, sym, subst, ◌∙◌}
+use Rattle.std.proofs.Common.{List, map, sym, subst}
 use Rattle.std.specs.List.Sorted.{IsStrictlySortedBy}
 use Rattle.or_geom.specs.declared.shape.Shape.{Shape}
 use Rattle.or_geom.specs.ShapeOrder.{shape_order}
@@ -11,8 +11,8 @@ use Rattle.cell_hierarchy.proofs.sorted.sorted_flat.Goals as goal
 
 pub returns-clause-flat : goal.returns-clause-flat
 returns-clause-flat c =
-    let shapes = c.in_ok-flat_in.ensures.shapes ∙ c.deref-3.ensures.value in
-    let labels = c.in_ok-flat_in.ensures.labels ∙ c.deref-4.ensures.value in
+    let shapes = c.into_bump_slice.ensures in
+    let labels = c.into_bump_slice-2.ensures in
     record {
       near = rw (c.deref.ensures.value, c.deref-2.ensures.value) at c.in_default.ensures;
       shapes_rise = subst (λ (l : List Shape). IsStrictlySortedBy shape_order l) (sym shapes) c.sort_distinct.ensures.rises;

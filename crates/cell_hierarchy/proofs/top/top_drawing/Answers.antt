@@ -6,5 +6,6 @@ pub returns : goal.returns
 returns c =
     let tree = c.args.tree.now in
     let top = c.args._top.now in
+    let nothing = c.in_ok-gathered.ensures in
     top_drawing_is tree top c.add_cell.new.out
-    (top_has tree top _ c.blank-drawing.result c.add_cell.new.out c.blank-drawing.ensures.shapes c.blank-drawing.ensures.labels c.blank-drawing.ensures.points refl refl (c.in_ok-add_cell.ensures top (top_named tree top _ c.requires.cells refl)))
+    (top_has tree top _ c.in_ok-gathered.gathered c.add_cell.new.out nothing.shapes nothing.labels nothing.points refl refl (c.in_ok-add_cell.ensures top (top_named tree top _ c.requires.cells refl)))
