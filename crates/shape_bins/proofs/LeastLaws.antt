@@ -1,90 +1,69 @@
--- A walk that looks for the least place.
-use Rattle.std.proofs.Common.{◌≡◌, ◌⊎◌, inl, inr, ℕ, ◌-◌, ◌≤◌, List, [], ◌∷◌, drop, Option, None, Some, refl, sym, subst, arith}
-use Rattle.std.specs.Prelude.{MatchOption}
-use Rattle.or_geom.specs.Gathering.{SomeGives}
-use Rattle.shape_bins.specs.declared.node.Node.{Node}
-use Rattle.shape_bins.specs.declared.query.Query.{Query}
-use Rattle.shape_bins.specs.Nodes.{IsBoxNode, IsNodeNear, IsLeafNear}
-use Rattle.shape_bins.specs.Least.{NoneFrom, IsLeastFrom, IsLesser}
-use Rattle.shape_bins.proofs.WalkLaws.{gives_drop, gives_behind}
+-- The least of places.
+use Rattle.std.proofs.Common.{◌≡◌, ◌⊎◌, inl, inr, ℕ, ◌+◌, ◌≤◌, List, Option, None, Some, refl, sym, ap, subst, ◌∙◌, arith}
+use Rattle.std.specs.Prelude.{IfSome, slice_get}
+use Rattle.std.proofs.lemmas.Option.{same_Some}
+use Rattle.shape_bins.specs.Least.{IsAtMost, IsLeastWith, IsLesser}
+use Rattle.shape_bins.specs.Places.{HasBetween}
+use Rattle.shape_bins.proofs.PlaceLaws.{between_split, between_first, between_second, between_one, at_between}
 
--- what was found is one of the places
-abbrev pub IsHitFrom : ℕ → Query → ℕ → List Node → Option ℕ → Type 0
-IsHitFrom layer query from all None = Unit {0}
-IsHitFrom layer query from all (Some place) = (from ≤ place) × SomeGives (IsLeafNear layer query) all place
+at_most_less : (found : Option ℕ) (less other : ℕ) → IsAtMost found less → less ≤ other → IsAtMost found other
+at_most_less None less other h le = absurd h
+at_most_less (Some place) less other h le = omega (arith, h, le)
 
--- and is no greater than another
-abbrev pub IsBelow : Option ℕ → ℕ → Type 0
-IsBelow None other = ⊥
-IsBelow (Some place) other = place ≤ other
+at_most_more : (found next : Option ℕ) (other : ℕ) → ((place : ℕ) → found ≡ Some place → IsAtMost next place) → IsAtMost found other → IsAtMost next other
+at_most_more None next other on h = absurd h
+at_most_more (Some place) next other on h = at_most_less next place other (on place refl) h
 
-pub record IsSought (layer : ℕ) (query : Query) (from : ℕ) (all rest : List Node) (found : Option ℕ) : Type 0 where
-  pub among : (place : ℕ) → SomeGives (IsLeafNear layer query) rest place → SomeGives (IsLeafNear layer query) all place
-  pub hit : IsHitFrom layer query from all found
-  pub left : (other : ℕ) → from ≤ other → SomeGives (IsLeafNear layer query) all other → SomeGives (IsLeafNear layer query) rest other ⊎ IsBelow found other
-
-pub sought_begins : (layer : ℕ) (query : Query) (from : ℕ) (all : List Node) → IsSought layer query from all all None
-sought_begins layer query from all = record { among = λ place g. g; hit = tt; left = λ other above g. inl g }
-
--- some nodes are passed over that give nothing from there on
-sought_fewer : (layer : ℕ) (query : Query) (from : ℕ) (all rest fewer : List Node) (found : Option ℕ) → ((place : ℕ) → SomeGives (IsLeafNear layer query) fewer place → SomeGives (IsLeafNear layer query) rest place)
-    → ((other : ℕ) → from ≤ other → SomeGives (IsLeafNear layer query) rest other → SomeGives (IsLeafNear layer query) fewer other) → IsSought layer query from all rest found → IsSought layer query from all fewer found
-sought_fewer layer query from all rest fewer found back on s = record {
-  among = λ place g. s.among place (back place g);
-  hit = s.hit;
-  left = λ other above g. elim (s.left other above g) [ inl h ↦ inl (on other above h) | inr h ↦ inr h ];
+pub least_begins : (P : ℕ → Type 0) (before : Option ℕ) → ((place : ℕ) → P place → ⊥) → IsLeastWith before P before
+least_begins P before none = record {
+  one = λ place e. inl e;
+  below = λ other e. subst (λ (o : Option ℕ). IsAtMost o other) (sym e) (omega arith);
+  least = λ other p. absurd (none other p);
 }
 
-pub sought_passes : (layer : ℕ) (query : Query) (from : ℕ) (all rest ns : List Node) (n : Node) (found : Option ℕ) → rest ≡ n ∷ ns → IsBoxNode n ns → (IsNodeNear layer query n → ⊥) → IsSought layer query from all rest found
-    → IsSought layer query from all (drop (n.size - 1) ns) found
-sought_passes layer query from all rest ns n found e node none s =
-    let w : IsSought layer query from all (n ∷ ns) found = subst (λ (r : List Node). IsSought layer query from all r found) e s in
-    sought_fewer layer query from all (n ∷ ns) (drop (n.size - 1) ns) found (λ p g. inr (gives_drop (IsLeafNear layer query) (n.size - 1) ns p g)) (λ p above g. gives_behind layer query n ns p node none g) w
+pub least_more : (P Q R : ℕ → Type 0) (before found next : Option ℕ) → ((place : ℕ) → R place → P place ⊎ Q place) → ((place : ℕ) → P place → R place) → ((place : ℕ) → Q place → R place) → IsLeastWith before P found → IsLeastWith found Q next
+    → IsLeastWith before R next
+least_more P Q R before found next split first second a b = record {
+  one = λ place e. elim (b.one place e) [
+    | inl f ↦ elim (a.one place f) [ inl g ↦ inl g | inr p ↦ inr (first place p) ]
+    | inr q ↦ inr (second place q)
+  ];
+  below = λ other e. at_most_more found next other b.below (a.below other e);
+  least = λ other r. elim (split other r) [ inl p ↦ at_most_more found next other b.below (a.least other p) | inr q ↦ b.least other q ];
+}
 
-pub sought_goes_on : (layer : ℕ) (query : Query) (from : ℕ) (all rest ns : List Node) (n : Node) (found : Option ℕ) → rest ≡ n ∷ ns → ((other : ℕ) → from ≤ other → IsLeafNear layer query n other → ⊥) → IsSought layer query from all rest found
-    → IsSought layer query from all ns found
-sought_goes_on layer query from all rest ns n found e none s =
-    let w : IsSought layer query from all (n ∷ ns) found = subst (λ (r : List Node). IsSought layer query from all r found) e s in
-    sought_fewer layer query from all (n ∷ ns) ns found (λ p g. inr g) (λ p above g. elim g [ inl h ↦ absurd (none p above h) | inr h ↦ h ]) w
+lesser_before : (found : Option ℕ) (lesser other : ℕ) → IfSome found (λ (k : ℕ). lesser ≤ k) → found ≡ Some other → lesser ≤ other
+lesser_before None lesser other h e = absurd cc
+lesser_before (Some place) lesser other h e = subst (λ (k : ℕ). lesser ≤ k) (same_Some place other e) h
 
-lesser_below : (found : Option ℕ) (place lesser other : ℕ) → IsLesser found place lesser → IsBelow found other → lesser ≤ other
-lesser_below None place lesser other l b = absurd b
-lesser_below (Some found) place lesser other l b = omega (arith, l.before, b)
+pub least_one : (found : Option ℕ) (place lesser : ℕ) → IsLesser found place lesser → IsLeastWith found (λ (k : ℕ). k ≡ place) (Some lesser)
+least_one found place lesser l = record {
+  one = λ k e.
+      let same : lesser ≡ k = same_Some lesser k e in
+      elim l.one [ inl here ↦ inr (sym same ∙ here) | inr there ↦ inl (there ∙ ap (λ (j : ℕ). Some j) same) ];
+  below = λ other e. lesser_before found lesser other l.before e;
+  least = λ other e. subst (λ (k : ℕ). lesser ≤ k) (sym e) l.below;
+}
 
-lesser_hit : (layer : ℕ) (query : Query) (from : ℕ) (all : List Node) (found : Option ℕ) (place lesser : ℕ) → from ≤ place → SomeGives (IsLeafNear layer query) all place → IsHitFrom layer query from all found → IsLesser found place lesser
-    → IsHitFrom layer query from all (Some lesser)
-lesser_hit layer query from all found place lesser above g hit l = elim l.one [
-  | inl e ↦ subst (λ (p : ℕ). IsHitFrom layer query from all (Some p)) (sym e) (above, g)
-  | inr e ↦ subst (λ (o : Option ℕ). IsHitFrom layer query from all o) e hit
-]
+-- the least of those that stand up to a position, and of those that stand further on
+pub least_between : (P : ℕ → Type 0) (places : List ℕ) (first mid end : ℕ) (before found next : Option ℕ) → first ≤ mid → mid ≤ end → IsLeastWith before (HasBetween P places first mid) found → IsLeastWith found (HasBetween P places mid end) next
+    → IsLeastWith before (HasBetween P places first end) next
+least_between P places first mid end before found next above below a b = least_more (HasBetween P places first mid) (HasBetween P places mid end) (HasBetween P places first end) before found next
+    (λ k h. between_split P places first mid end k h) (λ k h. between_first P places first mid end k below h) (λ k h. between_second P places first mid end k above h) a b
 
-pub sought_finds : (layer : ℕ) (query : Query) (from : ℕ) (all rest ns : List Node) (n : Node) (found : Option ℕ) (lesser : ℕ) → rest ≡ n ∷ ns → n.size ≡ 1 → from ≤ n.place → IsNodeNear layer query n → IsLesser found n.place lesser
-    → IsSought layer query from all rest found → IsSought layer query from all ns (Some lesser)
-sought_finds layer query from all rest ns n found lesser e leaf above near l s =
-    let w : IsSought layer query from all (n ∷ ns) found = subst (λ (r : List Node). IsSought layer query from all r found) e s in
-    let own : IsLeafNear layer query n n.place = record { leaf = leaf; is = refl; near = near } in
-    record {
-      among = λ p g. w.among p (inr g);
-      hit = lesser_hit layer query from all found n.place lesser above (w.among n.place (inl own)) w.hit l;
-      left = λ other from_other g. elim (w.left other from_other g) [
-        | inl h ↦ elim h [
-          | inl here ↦ inr (subst (λ (p : ℕ). lesser ≤ p) (sym here.is) l.below)
-          | inr there ↦ inl there
-        ]
-        | inr b ↦ inr (lesser_below found n.place lesser other l b)
-      ];
-    }
+pub least_no_more : (P : ℕ → Type 0) (places : List ℕ) (first mid end : ℕ) (before found : Option ℕ) → first ≤ mid → mid ≤ end → ((place : ℕ) → HasBetween P places mid end place → ⊥) → IsLeastWith before (HasBetween P places first mid) found
+    → IsLeastWith before (HasBetween P places first end) found
+least_no_more P places first mid end before found above below none a = least_between P places first mid end before found found above below a (least_begins (HasBetween P places mid end) found none)
 
-pub sought_ends : (layer : ℕ) (query : Query) (from : ℕ) (all rest : List Node) (found : Option ℕ) → rest ≡ [] → IsSought layer query from all rest found → MatchOption found (NoneFrom layer query from all) (IsLeastFrom layer query from all)
-sought_ends layer query from all rest None e s =
-    let w : IsSought layer query from all [] None = subst (λ (r : List Node). IsSought layer query from all r None) e s in
-    λ place above g. elim (w.left place above g) [ inl h ↦ h | inr h ↦ h ]
-sought_ends layer query from all rest (Some place) e s =
-    let w : IsSought layer query from all [] (Some place) = subst (λ (r : List Node). IsSought layer query from all r (Some place)) e s in
-    record { from_there = w.hit.0; gives = w.hit.1; least = λ other above g. elim (w.left other above g) [ inl h ↦ absurd h | inr h ↦ h ] }
+pub least_place : (P : ℕ → Type 0) (places : List ℕ) (first at place : ℕ) (before found : Option ℕ) (lesser : ℕ) → first ≤ at → slice_get places at ≡ Some place → P place → IsLesser found place lesser → IsLeastWith before (HasBetween P places first at) found
+    → IsLeastWith before (HasBetween P places first (at + 1)) (Some lesser)
+least_place P places first at place before found lesser above there p l a = least_more (HasBetween P places first at) (λ k. k ≡ place) (HasBetween P places first (at + 1)) before found (Some lesser)
+    (λ k h. elim (between_split P places first at (at + 1) k h) [ inl x ↦ inl x | inr x ↦ inr (between_one P places at place k there x) ])
+    (λ k h. between_first P places first at (at + 1) k (omega arith) h)
+    (λ k e. between_second P places first at (at + 1) k above (subst (λ (j : ℕ). HasBetween P places at (at + 1) j) (sym e) (at_between P places at place there p)))
+    a (least_one found place lesser l)
 
--- a leaf of the rest is one of all
-pub sought_here : (layer : ℕ) (query : Query) (all rest ns : List Node) (n : Node) → rest ≡ n ∷ ns → n.size ≡ 1 → IsNodeNear layer query n → IsSought layer query 0 all rest None → SomeGives (IsLeafNear layer query) all n.place
-sought_here layer query all rest ns n e leaf near s =
-    let w : IsSought layer query 0 all (n ∷ ns) None = subst (λ (r : List Node). IsSought layer query 0 all r None) e s in
-    w.among n.place (inl (record { leaf = leaf; is = refl; near = near }))
+pub least_skip : (P : ℕ → Type 0) (places : List ℕ) (first at place : ℕ) (before found : Option ℕ) → first ≤ at → slice_get places at ≡ Some place → (P place → ⊥) → IsLeastWith before (HasBetween P places first at) found
+    → IsLeastWith before (HasBetween P places first (at + 1)) found
+least_skip P places first at place before found above there none a =
+    least_no_more P places first at (at + 1) before found above (omega arith) (λ k h. none (subst P (between_one P places at place k there h) h.1)) a

@@ -1,8 +1,10 @@
+pub mod PlaceLaws
+pub mod NodeLaws
 pub mod WalkLaws
-pub mod TreeLaws
 pub mod LeastLaws
+pub mod TreeLaws
+pub mod ForestLaws
 pub mod OrderLaws
-pub mod HitLaws
 pub mod CoverLaws
 pub mod NumberLaws
 pub mod FullLaws

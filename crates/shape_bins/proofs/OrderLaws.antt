@@ -1,12 +1,12 @@
 -- Places that are sorted.
-use Rattle.std.proofs.Common.{◌≡◌, ◌↔◌, ℕ, zero, suc, ◌-◌, ◌+◌, ◌<◌, ◌≤◌, List, [], ◌∷◌, ◌++◌, map, length, sym, ap, subst, ◌∙◌, arith}
+use Rattle.std.proofs.Common.{◌≡◌, ℕ, zero, suc, ◌-◌, ◌+◌, ◌<◌, ◌≤◌, List, [], ◌∷◌, ◌++◌, map, length, sym, ap, subst, ◌∙◌, arith}
 use Rattle.std.specs.Prelude.{Contains}
 use Rattle.std.specs.List.{range_with_len}
 use Rattle.std.specs.List.Sorted.{IsPermutation}
 use Rattle.std.proofs.lemmas.List.{map-append}
 use Rattle.std.proofs.lemmas.List.FromFn.{length-range_with_len, get_or-range_with_len}
 use Rattle.std.proofs.lemmas.List.Sorted.{Contains-permutation, IsPermutation-map, IsPermutation-sym, length_permutation}
-use Rattle.shape_bins.specs.Order.{place_of_key}
+use Rattle.shape_bins.specs.Order.{place_of_key, IsOrderAdded}
 
 pub range_more : (a n : ℕ) → range_with_len a (suc n) ≡ range_with_len a n ++ (a + n) ∷ []
 range_more a zero = ap (λ (k : ℕ). k ∷ []) (omega arith)
@@ -30,21 +30,23 @@ range_has begin n place above below =
     let at : begin + (place - begin) ≡ place = omega (arith, above) in
     (place - begin, subst (λ (k : ℕ). (place - begin) < k) (sym (length-range_with_len begin n)) lt, get_or-range_with_len begin n (place - begin) place lt ∙ at)
 
-pub sorted_len : (keys sorted : List (ℕ × ℕ)) (places : List ℕ) (begin end : ℕ) → IsPermutation keys sorted → map place_of_key keys ≡ range_with_len begin (end - begin) → places ≡ map place_of_key sorted → length places ≡ end - begin
-sorted_len keys sorted places begin end moved is made =
-    ap length made ∙ (length_permutation (map place_of_key keys) (map place_of_key sorted) (IsPermutation-map place_of_key keys sorted moved) ∙ (ap length is ∙ length-range_with_len begin (end - begin)))
-
-pub sorted_each : (keys sorted : List (ℕ × ℕ)) (places : List ℕ) (begin end : ℕ) → begin ≤ end → IsPermutation keys sorted → map place_of_key keys ≡ range_with_len begin (end - begin) → places ≡ map place_of_key sorted
-    → (place : ℕ) → Contains places place ↔ ((begin ≤ place) × (place < end))
-sorted_each keys sorted places begin end order moved is made place =
+pub order_added : (keys sorted : List (ℕ × ℕ)) (old new : List ℕ) (begin end : ℕ) → begin ≤ end → IsPermutation keys sorted → map place_of_key keys ≡ range_with_len begin (end - begin) → new ≡ old ++ map place_of_key sorted
+    → IsOrderAdded begin end old new
+order_added keys sorted old new begin end order moved is made =
     let there = IsPermutation-map place_of_key keys sorted moved in
-    let back = IsPermutation-sym (map place_of_key keys) (map place_of_key sorted) there in (
-      λ h. let r = in_range begin (end - begin) place (subst (λ (l : List ℕ). Contains l place) is (Contains-permutation (map place_of_key sorted) (map place_of_key keys) place back (subst (λ (l : List ℕ). Contains l place) made h))) in
-          let above = r.0 in
-          let below = r.1 in
-          (above, omega (arith, order, below)),
-      λ h. let above = h.0 in
-          let below = h.1 in
-          subst (λ (l : List ℕ). Contains l place) (sym made) (Contains-permutation (map place_of_key keys) (map place_of_key sorted) place there
-          (subst (λ (l : List ℕ). Contains l place) (sym is) (range_has begin (end - begin) place above (omega (arith, order, below))))),
-    )
+    let back = IsPermutation-sym (map place_of_key keys) (map place_of_key sorted) there in
+    record {
+      added = map place_of_key sorted;
+      is = made;
+      sized = length_permutation (map place_of_key keys) (map place_of_key sorted) there ∙ (ap length is ∙ length-range_with_len begin (end - begin));
+      each = λ place. (
+        λ h. let r = in_range begin (end - begin) place (subst (λ (l : List ℕ). Contains l place) is (Contains-permutation (map place_of_key sorted) (map place_of_key keys) place back h)) in
+            let above = r.0 in
+            let below = r.1 in
+            (above, omega (arith, order, below)),
+        λ h. let above = h.0 in
+            let below = h.1 in
+            Contains-permutation (map place_of_key keys) (map place_of_key sorted) place there
+            (subst (λ (l : List ℕ). Contains l place) (sym is) (range_has begin (end - begin) place above (omega (arith, order, below)))),
+      );
+    }

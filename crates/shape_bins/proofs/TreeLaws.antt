@@ -1,152 +1,246 @@
 -- Trees that are put together.
-use Rattle.std.proofs.Common.{◌≡◌, ◌⊎◌, inl, inr, ℕ, ◌-◌, ◌+◌, ◌*◌, ◌<◌, ◌≤◌, List, [], ◌∷◌, ◌++◌, length, take, drop, sym, ap, subst, ◌∙◌, arith, length-append, Some}
+use Rattle.std.proofs.Common.{◌≡◌, inl, inr, ℕ, zero, suc, ◌+◌, ◌-◌, ◌*◌, ◌<◌, ◌≤◌, List, [], ◌∷◌, ◌++◌, length, get_or, take, drop, Some, refl, sym, ap, subst, ◌∙◌, arith, append_assoc, length-append}
 use Rattle.std.specs.Prelude.{Contains, slice_get}
-use Rattle.std.specs.List.{AllByRecursion}
-use Rattle.std.proofs.lemmas.List.{take-append-le, take-append-drop, take_all}
-use Rattle.std.proofs.Common.{append_assoc}
-use Rattle.std.proofs.lemmas.List.Elements.{Contains-append_left, Contains-append_right, Contains-append_cases}
+use Rattle.std.proofs.lemmas.Bool.{cases_lt}
+use Rattle.std.proofs.lemmas.Int.{ints}
+use Rattle.std.proofs.lemmas.List.{take-append-drop}
+use Rattle.std.proofs.lemmas.Option.{same_Some, slice_get_within, slice_get-get_or}
 use Rattle.or_geom.specs.declared.shape.Rect.{Rect}
 use Rattle.or_geom.specs.declared.shape.Shape.{Shape}
-use Rattle.std.proofs.Common.{get_or}
-use Rattle.std.proofs.lemmas.Option.{slice_get_within, slice_get-get_or, same_Some, get_or_from_slice_get}
-use Rattle.or_geom.proofs.ListLaws.{contains_cases, contains_none, contained_at, below_or}
-use Rattle.std.proofs.lemmas.Int.{ints, clamps}
-use Rattle.or_geom.specs.Gathering.{SomeHas}
-use Rattle.shape_bins.specs.declared.node.Node.{Node}
 use Rattle.or_geom.specs.Containing.{HoldsRect}
-use Rattle.shape_bins.specs.Nodes.{IsLeafUnder, AreBoxNodes}
-use Rattle.shape_bins.specs.Trees.{IsPlaceOn, ArePlacesOn, IsHullOf, IsLeafOf, IsLeafAt, IsBoxTree, IsTreeAdded}
-
-pub nodes_append : (xs ys : List Node) → AreBoxNodes xs → AreBoxNodes ys → AreBoxNodes (xs ++ ys)
-nodes_append [] ys a b = b
-nodes_append (x ∷ xs) ys a b =
-    let short : (x.size - 1) ≤ length xs = omega (arith, a.0.there) in (
-      record {
-        counted = a.0.counted;
-        there = omega (arith, a.0.there, length-append xs ys);
-        under = rw (take-append-le (x.size - 1) xs ys short) a.0.under;
-      },
-      nodes_append xs ys a.1 b,
-    )
-
-pub all_append : {X : Type 0} (P : X → Type 0) (xs ys : List X) → AllByRecursion P xs → AllByRecursion P ys → AllByRecursion P (xs ++ ys)
-all_append P [] ys a b = b
-all_append P (x ∷ xs) ys a b = (a.0, all_append P xs ys a.1 b)
-
-pub some_first : {X : Type 0} (P : X → Type 0) (xs ys : List X) → SomeHas P xs → SomeHas P (xs ++ ys)
-some_first P [] ys h = absurd h
-some_first P (x ∷ xs) ys (inl h) = inl h
-some_first P (x ∷ xs) ys (inr h) = inr (some_first P xs ys h)
-
-pub some_second : {X : Type 0} (P : X → Type 0) (xs ys : List X) → SomeHas P ys → SomeHas P (xs ++ ys)
-some_second P [] ys h = h
-some_second P (x ∷ xs) ys h = inr (some_second P xs ys h)
-
--- what stands in the first part, or behind it
-pub contains_take : {X : Type 0} (k : ℕ) (xs : List X) (x : X) → Contains (take k xs) x → Contains xs x
-contains_take {X = X} k xs x h = subst (λ (l : List X). Contains l x) (take-append-drop k xs) (Contains-append_left (take k xs) (drop k xs) x h)
-
-pub contains_drop : {X : Type 0} (k : ℕ) (xs : List X) (x : X) → Contains (drop k xs) x → Contains xs x
-contains_drop {X = X} k xs x h = subst (λ (l : List X). Contains l x) (take-append-drop k xs) (Contains-append_right (take k xs) (drop k xs) x h)
-
-pub contains_split : {X : Type 0} (k : ℕ) (xs : List X) (x : X) → Contains xs x → Contains (take k xs) x ⊎ Contains (drop k xs) x
-contains_split {X = X} k xs x h = Contains-append_cases (take k xs) (drop k xs) x (subst (λ (l : List X). Contains l x) (sym (take-append-drop k xs)) h)
-
--- the hull of some places is one of fewer
-pub hull_fewer : (shapes : List Shape) (layer : ℕ) (places fewer : List ℕ) (hull : Shape) → ((place : ℕ) → Contains fewer place → Contains places place) → IsHullOf shapes layer places hull → IsHullOf shapes layer fewer hull
-hull_fewer shapes layer places fewer hull among h = record { on = h.on; holds = λ place shape one is. h.holds place shape (among place one) is }
-
--- a tree of one leaf
-pub leaf_tree : (shapes : List Shape) (layer place : ℕ) (places : List ℕ) (node : Node) → ((other : ℕ) → Contains places other → other ≡ place) → Contains places place → length places ≡ 1
-    → slice_get shapes place ≡ Some node.hull → node.hull.layer ≡ layer → node.size ≡ 1 → node.place ≡ place → IsBoxTree shapes layer places (node ∷ [])
-leaf_tree shapes layer place places node only has one shape on size is = record {
-  sized = omega (arith, one);
-  nested = (record { counted = omega (arith, size); there = omega (arith, size); under = subst (λ (k : ℕ). AllByRecursion (IsLeafUnder node.hull) (take (k - 1) [])) (sym size) tt }, tt);
-  leaves = (λ e. subst (λ (p : ℕ). slice_get shapes p ≡ Some node.hull) (sym is) shape, tt);
-  under = λ hull h. (λ e. record { layer = on ∙ sym h.on; holds = h.holds place node.hull has shape }, tt);
-  all = λ other h. inl (record { leaf = size; is = is ∙ sym (only other h) });
-}
-
--- a tree of two
-pub both_trees : (shapes : List Shape) (layer k : ℕ) (places : List ℕ) (node : Node) (a b : List Node) → k ≤ length places → 1 < length places → node.size + 1 ≡ 2 * length places → IsHullOf shapes layer places node.hull
-    → IsBoxTree shapes layer (take k places) a → IsBoxTree shapes layer (drop k places) b → IsBoxTree shapes layer places (node ∷ (a ++ b))
-both_trees shapes layer k places node a b short many size hull left right =
-    let lens = length-append (take k places) (drop k places) in
-    let whole : length (take k places) + length (drop k places) ≡ length places = sym lens ∙ ap length (take-append-drop k places) in
-    let size_ab : length (a ++ b) ≡ length a + length b = length-append a b in
-    let below : node.size ≡ length (a ++ b) + 1 = omega (arith, left.sized, right.sized) in
-    let under_of : (h : Shape) → IsHullOf shapes layer places h → AllByRecursion (IsLeafUnder h) (a ++ b) = λ h of. all_append (IsLeafUnder h) a b
-    (left.under h (hull_fewer shapes layer places (take k places) h (contains_take k places) of))
-    (right.under h (hull_fewer shapes layer places (drop k places) h (contains_drop k places) of)) in
-    let fits : length (a ++ b) ≤ node.size - 1 = omega arith in
-    let inner : node.size ≡ 1 → ⊥ = λ e. omega (arith, e, left.sized, right.sized) in
-    record {
-      sized = omega (arith, left.sized, right.sized);
-      nested = (record { counted = omega arith; there = omega arith; under = rw (take_all (node.size - 1) (a ++ b) fits) (under_of node.hull hull) }, nodes_append a b left.nested right.nested);
-      leaves = (λ e. absurd (inner e), all_append (IsLeafOf shapes) a b left.leaves right.leaves);
-      under = λ h of. (λ e. absurd (inner e), under_of h of);
-      all = λ place h. inr (elim (contains_split k places place h) [ inl f ↦ some_first (IsLeafAt place) a b (left.all place f) | inr s ↦ some_second (IsLeafAt place) a b (right.all place s) ]);
-    }
-
--- the places of a list are places of shapes
-pub place_within : (shapes : List Shape) (layer : ℕ) (places : List ℕ) (k : ℕ) → k < length places → ArePlacesOn shapes layer places → get_or places k 0 < length shapes
-place_within shapes layer places k lt all =
-    let on = all (get_or places k 0) (contained_at places k (get_or places k 0) (slice_get-get_or places k 0 lt)) in
-    slice_get_within shapes (get_or places k 0) on.shape on.there
+use Rattle.or_geom.proofs.ListLaws.{contains_first, contains_later}
+use Rattle.shape_bins.specs.declared.node.Node.{Node}
+use Rattle.shape_bins.specs.Leaves.{IsLeafNode, AreLeafNodes, IsOverLeaves, IsTreeAdded}
+use Rattle.shape_bins.specs.Nodes.{IsInHull, IsNodeOver, AreNodes, AreNodesFrom, position_at}
+use Rattle.shape_bins.specs.Places.{AllBetween}
 
 holds_all : (outer mid inner : Rect) → HoldsRect outer mid → HoldsRect mid inner → HoldsRect outer inner
 holds_all outer mid inner a b = record { left = omega (arith, ints, a.left, b.left); right = omega (arith, ints, a.right, b.right); low = omega (arith, ints, a.low, b.low); high = omega (arith, ints, a.high, b.high) }
 
--- the rectangle contains the shapes at the first k places
-abbrev pub HoldsFirst : List Shape → List ℕ → ℕ → Rect → Type 0
-HoldsFirst shapes places k rect = (j place : ℕ) (shape : Shape) → j < k → slice_get places j ≡ Some place → slice_get shapes place ≡ Some shape → HoldsRect rect shape.rect
+-- a hull that holds another holds what lies in that
+pub held_wider : (shapes : List Shape) (wide hull : Shape) (place : ℕ) → hull.layer ≡ wide.layer → HoldsRect wide.rect hull.rect → IsInHull shapes hull place → IsInHull shapes wide place
+held_wider shapes wide hull place on holds h = record { shape = h.shape; there = h.there; on = h.on ∙ on; holds = holds_all wide.rect hull.rect h.shape.rect holds h.holds }
 
-pub hull_goes_on : (shapes : List Shape) (places : List ℕ) (k : ℕ) (old new : Rect) (item : Shape) → slice_get shapes (get_or places k 0) ≡ Some item
-    → HoldsFirst shapes places k old → HoldsRect new old → HoldsRect new item.rect → HoldsFirst shapes places (k + 1) new
-hull_goes_on shapes places k old new item there first wider here j place shape below at_j at_place = elim (below_or j k below) [
-  | inl less ↦ holds_all new old shape.rect wider (first j place shape less at_j at_place)
-  | inr same ↦
-      let p : get_or places k 0 ≡ place = ap (λ (n : ℕ). get_or places n 0) (sym same) ∙ get_or_from_slice_get places j place 0 at_j in
-      let s : item ≡ shape = same_Some item shape (sym there ∙ (ap (λ (n : ℕ). slice_get shapes n) p ∙ at_place)) in
-      subst (λ (t : Shape). HoldsRect new t.rect) s here
+-- leaves that are put together
+pub leaves_append : (shapes : List Shape) (places : List ℕ) (layer begin mid end : ℕ) (xs ys : List Node) → AreLeafNodes shapes places layer begin mid xs → AreLeafNodes shapes places layer mid end ys → AreLeafNodes shapes places layer begin end (xs ++ ys)
+leaves_append shapes places layer begin mid end [] ys a b = subst (λ (k : ℕ). AreLeafNodes shapes places layer k end ys) (sym a) b
+leaves_append shapes places layer begin mid end (x ∷ xs) ys a b = (a.0, leaves_append shapes places layer x.end mid end xs ys a.1 b)
+
+pub leaves_push : (shapes : List Shape) (places : List ℕ) (layer begin first end : ℕ) (xs : List Node) (leaf : Node) → AreLeafNodes shapes places layer begin first xs → IsLeafNode shapes places layer first end leaf → AreLeafNodes shapes places layer begin end (xs ++ leaf ∷ [])
+leaves_push shapes places layer begin first end xs leaf a l =
+    let last : IsLeafNode shapes places layer first leaf.end leaf = subst (λ (k : ℕ). IsLeafNode shapes places layer first k leaf) (sym l.ends) l in
+    leaves_append shapes places layer begin first end xs (leaf ∷ []) a (last, l.ends)
+
+-- where the leaves end
+abbrev leaves_end : ℕ → List Node → ℕ
+leaves_end begin [] = begin
+leaves_end begin (leaf ∷ rest) = leaves_end leaf.end rest
+
+leaves_first : (shapes : List Shape) (places : List ℕ) (layer begin end k : ℕ) (xs : List Node) → AreLeafNodes shapes places layer begin end xs → AreLeafNodes shapes places layer begin (leaves_end begin (take k xs)) (take k xs)
+leaves_first shapes places layer begin end zero xs a = refl
+leaves_first shapes places layer begin end (suc k) [] a = refl
+leaves_first shapes places layer begin end (suc k) (x ∷ xs) a = (a.0, leaves_first shapes places layer x.end end k xs a.1)
+
+leaves_second : (shapes : List Shape) (places : List ℕ) (layer begin end k : ℕ) (xs : List Node) → AreLeafNodes shapes places layer begin end xs → AreLeafNodes shapes places layer (leaves_end begin (take k xs)) end (drop k xs)
+leaves_second shapes places layer begin end zero xs a = a
+leaves_second shapes places layer begin end (suc k) [] a = a
+leaves_second shapes places layer begin end (suc k) (x ∷ xs) a = leaves_second shapes places layer x.end end k xs a.1
+
+pub leaves_rise : (shapes : List Shape) (places : List ℕ) (layer begin end : ℕ) (xs : List Node) → AreLeafNodes shapes places layer begin end xs → begin ≤ end
+leaves_rise shapes places layer begin end [] a = omega (arith, a)
+leaves_rise shapes places layer begin end (x ∷ xs) a = let more = leaves_rise shapes places layer x.end end xs a.1 in omega (arith, more, a.0.over.rises, a.0.begins)
+
+pub leaves_within : (shapes : List Shape) (places : List ℕ) (layer begin end : ℕ) (xs : List Node) → 0 < length xs → AreLeafNodes shapes places layer begin end xs → end ≤ length places
+leaves_within shapes places layer begin end [] some a = absurd (omega (arith, some))
+leaves_within shapes places layer begin end (x ∷ []) some a = omega (arith, a.0.over.within, a.1)
+leaves_within shapes places layer begin end (x ∷ (y ∷ ys)) some a = leaves_within shapes places layer x.end end (y ∷ ys) (omega arith) a.1
+
+-- what lies in the hulls of all leaves lies in one that holds these
+pub leaves_held : (shapes : List Shape) (places : List ℕ) (layer begin end : ℕ) (xs : List Node) (hull : Shape) → hull.layer ≡ layer → ((leaf : Node) → Contains xs leaf → HoldsRect hull.rect leaf.hull.rect) → AreLeafNodes shapes places layer begin end xs
+    → AllBetween (IsInHull shapes hull) places begin end
+leaves_held shapes places layer begin end [] hull on holds a at place above below there = absurd (omega (arith, above, below, a))
+leaves_held shapes places layer begin end (x ∷ xs) hull on holds a at place above below there = elim (cases_lt at x.end) [
+  | inl lt ↦ held_wider shapes hull x.hull place (a.0.on ∙ sym on) (holds x (contains_first x xs)) (a.0.over.held at place (omega (arith, above, a.0.begins)) lt there)
+  | inr ge ↦ leaves_held shapes places layer x.end end xs hull on (λ leaf h. holds leaf (contains_later x xs leaf h)) a.1 at place ge below there
 ]
 
-pub hull_made : (shapes : List Shape) (layer : ℕ) (places : List ℕ) (rect : Rect) (hull : Shape) (k : ℕ) → length places ≤ k → HoldsFirst shapes places k rect → hull.layer ≡ layer → hull.rect ≡ rect → IsHullOf shapes layer places hull
-hull_made shapes layer places rect hull k all first on is = record {
-  on = on;
-  holds = λ place shape one at_place.
-      let lt = one.1 in
-      let short : one.0 < k = omega arith in
-      let at_j : slice_get places one.0 ≡ Some place = slice_get-get_or places one.0 place lt ∙ ap (λ (n : ℕ). Some n) one.2 in
-      subst (λ (r : Rect). HoldsRect r shape.rect) (sym is) (first one.0 place shape short at_j at_place);
+-- nodes one after another
+begin_first : (end mid : ℕ) (xs ys : List Node) (k : ℕ) → position_at end ys 0 ≡ mid → k ≤ length xs → position_at end (xs ++ ys) k ≡ position_at mid xs k
+begin_first end mid [] ys zero begins le = begins
+begin_first end mid [] ys (suc k) begins le = absurd (omega (arith, le))
+begin_first end mid (x ∷ xs) ys zero begins le = refl
+begin_first end mid (x ∷ xs) ys (suc k) begins le = begin_first end mid xs ys k begins (omega (arith, le))
+
+nodes_append : (shapes : List Shape) (places : List ℕ) (mid end : ℕ) (xs ys : List Node) → position_at end ys 0 ≡ mid → AreNodes shapes places mid xs → AreNodes shapes places end ys → AreNodes shapes places end (xs ++ ys)
+nodes_append shapes places mid end [] ys begins a b = b
+nodes_append shapes places mid end (x ∷ xs) ys begins a b = (
+  record {
+    counted = a.0.counted;
+    there = omega (arith, a.0.there, length-append xs ys);
+    over = a.0.over;
+    behind = begin_first end mid xs ys (x.size - 1) begins (omega (arith, a.0.there)) ∙ a.0.behind;
+    inner = λ many. begin_first end mid xs ys 0 begins (omega arith) ∙ a.0.inner many;
+  },
+  nodes_append shapes places mid end xs ys begins a.1 b,
+)
+
+pub nodes_both : (shapes : List Shape) (places : List ℕ) (begin mid end : ℕ) (xs ys : List Node) → AreNodesFrom shapes places begin mid xs → AreNodesFrom shapes places mid end ys → AreNodesFrom shapes places begin end (xs ++ ys)
+nodes_both shapes places begin mid end xs ys a b = record {
+  begins = begin_first end mid xs ys 0 b.begins (omega arith) ∙ a.begins;
+  each = nodes_append shapes places mid end xs ys b.begins a.each b.each;
 }
 
--- a single place
-pub only_place : (places : List ℕ) (k : ℕ) (other : ℕ) → length places ≡ 1 → Contains places other → other ≡ get_or places 0 k
-only_place [] k other one h = absurd (contains_none other h)
-only_place (p ∷ ps) k other one h = elim (contains_cases p ps other h) [
-  | inl e ↦ e
-  | inr more ↦ absurd (let lt = more.1 in omega (arith, one))
+begin_none : (end : ℕ) (k : ℕ) → position_at end [] k ≡ end
+begin_none end k = refl
+
+begin_all : (end : ℕ) (xs : List Node) (k : ℕ) → length xs ≤ k → position_at end xs k ≡ end
+begin_all end [] k le = refl
+begin_all end (x ∷ xs) zero le = absurd (omega (arith, le))
+begin_all end (x ∷ xs) (suc k) le = begin_all end xs k (omega (arith, le))
+
+-- a node over all others
+pub node_over_all : (shapes : List Shape) (places : List ℕ) (begin end : ℕ) (node : Node) (xs : List Node) → IsNodeOver shapes places node → node.first ≡ begin → node.end ≡ end → node.size ≡ length xs + 1 → (node.size ≡ 1 → ⊥)
+    → AreNodesFrom shapes places begin end xs → AreNodesFrom shapes places begin end (node ∷ xs)
+node_over_all shapes places begin end node xs over first last size many a = record {
+  begins = first;
+  each = (
+    record {
+      counted = omega (arith, size);
+      there = omega (arith, size);
+      over = over;
+      behind = begin_all end xs (node.size - 1) (omega (arith, size)) ∙ sym last;
+      inner = λ m. a.begins ∙ sym first;
+    },
+    a.each,
+  );
+}
+
+pub leaf_alone : (shapes : List Shape) (places : List ℕ) (layer begin end : ℕ) (leaf : Node) → AreLeafNodes shapes places layer begin end (leaf ∷ []) → AreNodesFrom shapes places begin end (leaf ∷ [])
+leaf_alone shapes places layer begin end leaf a = record {
+  begins = a.0.begins;
+  each = (
+    record {
+      counted = omega (arith, a.0.single);
+      there = omega (arith, a.0.single);
+      over = a.0.over;
+      behind = sym a.1;
+      inner = λ many. absurd (many a.0.single);
+    },
+    tt,
+  );
+}
+
+over_leaves : (shapes : List Shape) (places : List ℕ) (layer begin end : ℕ) (leaves : List Node) (node : Node) → 0 < length leaves → IsOverLeaves leaves node → AreLeafNodes shapes places layer begin end leaves → IsNodeOver shapes places node
+over_leaves shapes places layer begin end leaves node some o a =
+    let first = o.begins shapes places layer begin end a in
+    let last = o.ends shapes places layer begin end a in
+    let rise = leaves_rise shapes places layer begin end leaves a in
+    let within = leaves_within shapes places layer begin end leaves some a in
+    record {
+      rises = omega (arith, first, last, rise);
+      within = omega (arith, last, within);
+      held = λ at place above below there. leaves_held shapes places layer begin end leaves node.hull (o.on shapes places layer begin end a) o.holds a at place (omega (arith, above, first)) (omega (arith, below, last)) there;
+    }
+
+-- a tree is added by adding its only leaf
+pub adds_leaf : (leaf : Node) (leaves old new : List Node) → leaves ≡ leaf ∷ [] → new ≡ old ++ leaf ∷ [] → IsTreeAdded leaves old new
+adds_leaf leaf leaves old new only is = subst (λ (ls : List Node). IsTreeAdded ls old new) (sym only) (record {
+  tree = leaf ∷ [];
+  is = is;
+  sized = omega arith;
+  over = λ shapes places layer begin end a. leaf_alone shapes places layer begin end leaf a;
+})
+
+-- or its first node, and the trees below it
+pub adds_both_trees : (k : ℕ) (leaves : List Node) (node : Node) (old one two new : List Node) → k ≤ length leaves → 1 < length leaves → IsOverLeaves leaves node → one ≡ old ++ node ∷ [] → IsTreeAdded (take k leaves) one two
+    → IsTreeAdded (drop k leaves) two new → IsTreeAdded leaves old new
+adds_both_trees k leaves node old one two new short many o pushed left right =
+    let lens = length-append (take k leaves) (drop k leaves) in
+    let whole : length (take k leaves) + length (drop k leaves) ≡ length leaves = sym lens ∙ ap length (take-append-drop k leaves) in
+    let both : length (left.tree ++ right.tree) ≡ length left.tree + length right.tree = length-append left.tree right.tree in
+    record {
+      tree = node ∷ (left.tree ++ right.tree);
+      is = right.is ∙ (ap (λ (l : List Node). l ++ right.tree) (left.is ∙ ap (λ (l : List Node). l ++ left.tree) pushed)
+          ∙ (append_assoc (old ++ node ∷ []) left.tree right.tree ∙ append_assoc old (node ∷ []) (left.tree ++ right.tree)));
+      sized = omega (arith, left.sized, right.sized, whole, both);
+      over = λ shapes places layer begin end a. node_over_all shapes places begin end node (left.tree ++ right.tree)
+          (over_leaves shapes places layer begin end leaves node (omega (arith, many)) o a) (o.begins shapes places layer begin end a) (o.ends shapes places layer begin end a)
+          (omega (arith, o.sized, left.sized, right.sized, whole, both)) (λ e. omega (arith, e, o.sized, many))
+          (nodes_both shapes places begin (leaves_end begin (take k leaves)) end left.tree right.tree
+          (left.over shapes places layer begin (leaves_end begin (take k leaves)) (leaves_first shapes places layer begin end k leaves a))
+          (right.over shapes places layer (leaves_end begin (take k leaves)) end (leaves_second shapes places layer begin end k leaves a)));
+    }
+
+-- the rectangle holds the hulls of the first leaves
+abbrev pub HoldsFirst : List Node → ℕ → Rect → Type 0
+HoldsFirst leaves k rect = (j : ℕ) (leaf : Node) → j < k → slice_get leaves j ≡ Some leaf → HoldsRect rect leaf.hull.rect
+
+pub holds_goes_on : (leaves : List Node) (k : ℕ) (old new : Rect) (item : Node) → slice_get leaves k ≡ Some item → HoldsFirst leaves k old → HoldsRect new old → HoldsRect new item.hull.rect → HoldsFirst leaves (k + 1) new
+holds_goes_on leaves k old new item there first wider here j leaf below at = elim (cases_lt j k) [
+  | inl less ↦ holds_all new old leaf.hull.rect wider (first j leaf less at)
+  | inr more ↦
+      let same : j ≡ k = omega (arith, more, below) in
+      subst (λ (n : Node). HoldsRect new n.hull.rect) (same_Some item leaf (sym there ∙ subst (λ (i : ℕ). slice_get leaves i ≡ Some leaf) same at)) here
 ]
 
-pub first_place : (places : List ℕ) → 0 < length places → Contains places (get_or places 0 0)
-first_place places lt = contained_at places 0 (get_or places 0 0) (slice_get-get_or places 0 0 lt)
+last_end : (shapes : List Shape) (places : List ℕ) (layer begin end : ℕ) (leaves : List Node) (other : Node) → 0 < length leaves → AreLeafNodes shapes places layer begin end leaves → (get_or leaves (length leaves - 1) other).end ≡ end
+last_end shapes places layer begin end [] other some a = absurd (omega (arith, some))
+last_end shapes places layer begin end (x ∷ []) other some a = a.1
+last_end shapes places layer begin end (x ∷ (y ∷ ys)) other some a =
+    let e : suc (length (y ∷ ys) - 1) ≡ length (x ∷ (y ∷ ys)) - 1 = omega arith in
+    subst (λ (k : ℕ). (get_or (x ∷ (y ∷ ys)) k other).end ≡ end) e (last_end shapes places layer x.end end (y ∷ ys) other (omega arith) a.1)
 
-pub few_places_on : (shapes : List Shape) (layer : ℕ) (places fewer : List ℕ) → ((place : ℕ) → Contains fewer place → Contains places place) → ArePlacesOn shapes layer places → ArePlacesOn shapes layer fewer
-few_places_on shapes layer places fewer among all place h = all place (among place h)
+first_of : (shapes : List Shape) (places : List ℕ) (layer begin end : ℕ) (leaves : List Node) (node : Node) → slice_get leaves 0 ≡ Some node → AreLeafNodes shapes places layer begin end leaves → (node.first ≡ begin) × (node.hull.layer ≡ layer)
+first_of shapes places layer begin end [] node is a = absurd (let lt = slice_get_within [] 0 node is in omega (arith, lt))
+first_of shapes places layer begin end (x ∷ xs) node is a =
+    let e : x ≡ node = same_Some x node is in
+    (subst (λ (n : Node). n.first ≡ begin) e a.0.begins, subst (λ (n : Node). n.hull.layer ≡ layer) e a.0.on)
 
--- a tree is added by adding its first node, and the trees below it
-pub adds_leaf : (shapes : List Shape) (layer : ℕ) (places : List ℕ) (node : Node) (old new : List Node) → new ≡ old ++ node ∷ [] → IsBoxTree shapes layer places (node ∷ []) → IsTreeAdded shapes layer places old new
-adds_leaf shapes layer places node old new is of = record { tree = node ∷ []; is = is; of = of }
-
-pub adds_both_trees : (shapes : List Shape) (layer k : ℕ) (places : List ℕ) (node : Node) (old one two new : List Node) → k ≤ length places → 1 < length places → node.size + 1 ≡ 2 * length places → IsHullOf shapes layer places node.hull
-    → one ≡ old ++ node ∷ [] → IsTreeAdded shapes layer (take k places) one two → IsTreeAdded shapes layer (drop k places) two new → IsTreeAdded shapes layer places old new
-adds_both_trees shapes layer k places node old one two new short many size hull pushed left right = record {
-  tree = node ∷ (left.tree ++ right.tree);
-  is = right.is ∙ (ap (λ (l : List Node). l ++ right.tree) (left.is ∙ ap (λ (l : List Node). l ++ left.tree) pushed)
-      ∙ (append_assoc (old ++ node ∷ []) left.tree right.tree ∙ append_assoc old (node ∷ []) (left.tree ++ right.tree)));
-  of = both_trees shapes layer k places node left.tree right.tree short many size hull left.of right.of;
+pub over_made : (leaves : List Node) (first other : Node) (rect : Rect) (k size : ℕ) → 0 < length leaves → slice_get leaves 0 ≡ Some first → length leaves ≤ k → HoldsFirst leaves k rect → size + 1 ≡ 2 * length leaves
+    → IsOverLeaves leaves (record { hull = record { layer = first.hull.layer; rect = rect }; size = size; first = first.first; end = (get_or leaves (length leaves - 1) other).end })
+over_made leaves first other rect k size some at all holds sized = record {
+  sized = sized;
+  on = λ shapes places layer begin end a. (first_of shapes places layer begin end leaves first at a).1;
+  begins = λ shapes places layer begin end a. (first_of shapes places layer begin end leaves first at a).0;
+  ends = λ shapes places layer begin end a. last_end shapes places layer begin end leaves other some a;
+  holds = λ leaf h.
+      let lt = h.1 in
+      holds h.0 leaf (omega (arith, lt, all)) (slice_get-get_or leaves h.0 leaf lt ∙ ap (λ (n : Node). Some n) h.2);
 }
 
-pub place_at : (shapes : List Shape) (layer : ℕ) (places : List ℕ) (k : ℕ) → k < length places → ArePlacesOn shapes layer places → IsPlaceOn shapes layer (get_or places k 0)
-place_at shapes layer places k lt all = all (get_or places k 0) (contained_at places k (get_or places k 0) (slice_get-get_or places k 0 lt))
+-- a leaf
+pub leaf_made : (shapes : List Shape) (places : List ℕ) (layer first end at : ℕ) (rect : Rect) → first < end → end ≤ length places → end ≤ at → AllBetween (IsInHull shapes (record { layer = layer; rect = rect })) places first at
+    → IsLeafNode shapes places layer first end (record { hull = record { layer = layer; rect = rect }; size = 1; first = first; end = end })
+leaf_made shapes places layer first end at rect some within past held = record {
+  single = refl;
+  begins = refl;
+  ends = refl;
+  on = refl;
+  over = record { rises = omega (arith, some); within = within; held = λ k place above below there. held k place above (omega (arith, below, past)) there };
+}
+
+pub held_here : (shapes : List Shape) (layer place : ℕ) (rect : Rect) (shape : Shape) → slice_get shapes place ≡ Some shape → shape.layer ≡ layer → HoldsRect rect shape.rect → IsInHull shapes (record { layer = layer; rect = rect }) place
+held_here shapes layer place rect shape there on holds = record { shape = shape; there = there; on = on; holds = holds }
+
+pub holds_self : (rect : Rect) → HoldsRect rect rect
+holds_self rect = record { left = omega (arith, ints); right = omega (arith, ints); low = omega (arith, ints); high = omega (arith, ints) }
+
+pub held_begins : (shapes : List Shape) (places : List ℕ) (layer first : ℕ) (shape : Shape) → ((place : ℕ) → slice_get places first ≡ Some place → slice_get shapes place ≡ Some shape) → shape.layer ≡ layer
+    → AllBetween (IsInHull shapes (record { layer = layer; rect = shape.rect })) places first (first + 1)
+held_begins shapes places layer first shape there on at place above below is =
+    let same : at ≡ first = omega (arith, above, below) in
+    held_here shapes layer place shape.rect shape (there place (subst (λ (k : ℕ). slice_get places k ≡ Some place) same is)) on (holds_self shape.rect)
+
+pub held_goes_on : (shapes : List Shape) (places : List ℕ) (layer first at : ℕ) (old new : Rect) (shape : Shape) → ((place : ℕ) → slice_get places at ≡ Some place → slice_get shapes place ≡ Some shape) → shape.layer ≡ layer → HoldsRect new old → HoldsRect new shape.rect
+    → AllBetween (IsInHull shapes (record { layer = layer; rect = old })) places first at → AllBetween (IsInHull shapes (record { layer = layer; rect = new })) places first (at + 1)
+held_goes_on shapes places layer first at old new shape there on wider here held k place above below is = elim (cases_lt k at) [
+  | inl less ↦ held_wider shapes (record { layer = layer; rect = new }) (record { layer = layer; rect = old }) place refl wider (held k place above less is)
+  | inr more ↦
+      let same : k ≡ at = omega (arith, more, below) in
+      held_here shapes layer place new shape (there place (subst (λ (j : ℕ). slice_get places j ≡ Some place) same is)) on here
+]
+
+pub only_leaf : (leaves : List Node) (other : Node) → length leaves ≡ 1 → leaves ≡ get_or leaves 0 other ∷ []
+only_leaf [] other one = absurd (omega (arith, one))
+only_leaf (x ∷ []) other one = refl
+only_leaf (x ∷ (y ∷ ys)) other one = absurd (omega (arith, one))

@@ -1,25 +1,26 @@
 -- What a walk over the nodes of trees passes over.
-use Rattle.std.proofs.Common.{◌≡◌, ◌⊎◌, inl, inr, ℕ, zero, suc, ◌-◌, List, [], ◌∷◌, take, drop, sym, subst, ◌∙◌, arith}
-use Rattle.std.specs.List.{AllByRecursion}
+use Rattle.std.proofs.Common.{◌≡◌, inl, inr, ℕ, List, length, Some, refl, sym, subst, ◌∙◌, arith}
+use Rattle.std.specs.Prelude.{slice_get, MatchOption, Option, None}
 use Rattle.std.proofs.lemmas.Int.{ints}
+use Rattle.std.proofs.lemmas.Option.{same_Some, slice_get_within, slice_get-get_or}
 use Rattle.or_geom.specs.declared.shape.Rect.{Rect}
-use Rattle.or_geom.specs.Gathering.{SomeGives}
+use Rattle.or_geom.specs.declared.shape.Point.{Point}
+use Rattle.or_geom.specs.declared.shape.Shape.{Shape}
+use Rattle.or_geom.specs.Containing.{HoldsRect}
+use Rattle.or_geom.specs.Adds.{Adds}
+use Rattle.or_geom.specs.Joined.{IsIn}
 use Rattle.or_geom.proofs.AddsLaws.{adds_as}
-use Rattle.or_geom.proofs.GatheringLaws.{IsGathering}
+use Rattle.shape_bins.specs.declared.forest.Placed.{Placed}
 use Rattle.shape_bins.specs.declared.node.Node.{Node}
 use Rattle.shape_bins.specs.declared.query.Query.{Query}
-use Rattle.or_geom.specs.declared.shape.Point.{Point}
-use Rattle.or_geom.specs.Joined.{IsIn}
-use Rattle.shape_bins.specs.declared.query.Query.TheVariants.{Meets, MeetsOutside, Joins, Overlaps, At}
-use Rattle.or_geom.specs.Containing.{HoldsRect}
+use Rattle.shape_bins.specs.declared.query.Query.TheVariants.{Meets, MeetsOutside, Joins, Overlaps, At, Holds}
+use Rattle.shape_bins.specs.Forest.{AreTreesTo, IsListedAt}
+use Rattle.shape_bins.specs.Hits.{IsHit, IsHitFrom, NoHitFrom, IsFirstHit}
+use Rattle.shape_bins.specs.Least.{IsLeastWith}
 use Rattle.shape_bins.specs.Meets.{Meet}
+use Rattle.shape_bins.specs.Nodes.{IsNodeOver, IsNodeNear}
+use Rattle.shape_bins.specs.Places.{HasBetween}
 use Rattle.shape_bins.specs.Query.{FitsQuery}
-use Rattle.shape_bins.specs.Nodes.{IsUnder, IsLeafUnder, AreBoxNodes, IsBoxNode, IsNodeNear, IsLeafNear}
-
-pub nodes_drop : (k : ℕ) (ns : List Node) → AreBoxNodes ns → AreBoxNodes (drop k ns)
-nodes_drop zero ns h = h
-nodes_drop (suc k) [] h = h
-nodes_drop (suc k) (n ∷ ns) h = nodes_drop k ns h.1
 
 in_outer : (outer inner : Rect) (p : Point) → HoldsRect outer inner → IsIn inner p → IsIn outer p
 in_outer outer inner p h i = record {
@@ -66,40 +67,63 @@ fits_outer (Overlaps area) outer inner h m = record {
   high = omega (arith, ints, h.high, m.high);
 }
 fits_outer (At point) outer inner h i = in_outer outer inner point h i
+fits_outer (Holds cell) outer inner h c = record { left = omega (arith, ints, h.left, c.left); right = omega (arith, ints, h.right, c.right); low = omega (arith, ints, h.low, c.low); high = omega (arith, ints, h.high, c.high) }
 
-pub near_outer : (layer : ℕ) (query : Query) (n o : Node) → IsUnder n.hull o → IsNodeNear layer query o → IsNodeNear layer query n
-near_outer layer query n o u near = record { on = sym u.layer ∙ near.on; fits = fits_outer query n.hull.rect o.hull.rect u.holds near.fits }
+-- below a node that isn't near no shape is
+pub near_none : (shapes : List Shape) (places : List ℕ) (layer : ℕ) (query : Query) (node : Node) → IsNodeOver shapes places node → (IsNodeNear layer query node → ⊥) → (place : ℕ)
+    → HasBetween (IsHit shapes layer query) places node.first node.end place → ⊥
+near_none shapes places layer query node over none place h =
+    let held = over.held h.0.at place h.0.from h.0.to h.0.there in
+    let e : h.1.shape ≡ held.shape = same_Some h.1.shape held.shape (sym h.1.there ∙ held.there) in
+    let on : held.shape.layer ≡ layer = subst (λ (s : Shape). s.layer ≡ layer) e h.1.on in
+    let fits : FitsQuery query held.shape.rect = subst (λ (s : Shape). FitsQuery query s.rect) e h.1.fits in
+    none (record { on = sym held.on ∙ on; fits = fits_outer query node.hull.rect held.shape.rect held.holds fits })
 
-none_under : (layer : ℕ) (query : Query) (n : Node) (ns : List Node) (p : ℕ) → AllByRecursion (IsLeafUnder n.hull) ns → (IsNodeNear layer query n → ⊥) → SomeGives (IsLeafNear layer query) ns p → ⊥
-none_under layer query n [] p all none g = g
-none_under layer query n (o ∷ os) p all none (inl g) = none (near_outer layer query n o (all.0 g.leaf) g.near)
-none_under layer query n (o ∷ os) p all none (inr g) = none_under layer query n os p all.1 none g
+-- a shape that is placed is looked for if its rectangle is
+pub placed_hit : (shapes : List Shape) (places : List ℕ) (layer at : ℕ) (query : Query) (placed : Placed) → IsListedAt shapes places layer at placed → FitsQuery query placed.shape.rect → IsHit shapes layer query placed.place
+placed_hit shapes places layer at query placed is fits = record { shape = placed.shape; there = is.there; on = is.on; fits = fits }
 
--- who gives stands among the first or behind them
-pub gives_split : {X Y : Type 0} (gives : Y → X → Type 0) (k : ℕ) (ys : List Y) (x : X) → SomeGives gives ys x → SomeGives gives (take k ys) x ⊎ SomeGives gives (drop k ys) x
-gives_split gives zero ys x g = inr g
-gives_split gives (suc k) [] x g = absurd g
-gives_split gives (suc k) (y ∷ ys) x (inl g) = inl (inl g)
-gives_split gives (suc k) (y ∷ ys) x (inr g) = elim (gives_split gives k ys x g) [ inl h ↦ inl (inr h) | inr h ↦ inr h ]
+pub placed_no_hit : (shapes : List Shape) (places : List ℕ) (layer at : ℕ) (query : Query) (placed : Placed) → IsListedAt shapes places layer at placed → (FitsQuery query placed.shape.rect → ⊥) → IsHit shapes layer query placed.place → ⊥
+placed_no_hit shapes places layer at query placed is none hit =
+    none (subst (λ (s : Shape). FitsQuery query s.rect) (same_Some hit.shape placed.shape (sym hit.there ∙ is.there)) hit.fits)
 
-pub gives_drop : {X Y : Type 0} (gives : Y → X → Type 0) (k : ℕ) (ys : List Y) (x : X) → SomeGives gives (drop k ys) x → SomeGives gives ys x
-gives_drop gives zero ys x g = g
-gives_drop gives (suc k) [] x g = g
-gives_drop gives (suc k) (y ∷ ys) x g = inr (gives_drop gives k ys x g)
+-- each shape that is looked for stands somewhere in the list
+pub hit_between : (shapes : List Shape) (places : List ℕ) (nodes : List Node) (layer : ℕ) (query : Query) (place : ℕ) → AreTreesTo shapes (length shapes) places nodes → IsHit shapes layer query place
+    → HasBetween (IsHit shapes layer query) places 0 (length shapes) place
+hit_between shapes places nodes layer query place trees hit =
+    let among = trees.all place (slice_get_within shapes place hit.shape hit.there) in
+    let lt = among.1 in (
+      record {
+        at = among.0;
+        from = omega arith;
+        to = omega (arith, lt, trees.sized);
+        there = subst (λ (p : ℕ). slice_get places among.0 ≡ Some p) among.2 (slice_get-get_or places among.0 place lt);
+      },
+      hit,
+    )
 
--- a node that isn't near is passed over with all below it
-pub gives_behind : (layer : ℕ) (query : Query) (n : Node) (ns : List Node) (p : ℕ) → IsBoxNode n ns → (IsNodeNear layer query n → ⊥) → SomeGives (IsLeafNear layer query) (n ∷ ns) p → SomeGives (IsLeafNear layer query) (drop (n.size - 1) ns) p
-gives_behind layer query n ns p node none (inl g) = absurd (none g.near)
-gives_behind layer query n ns p node none (inr g) = elim (gives_split (IsLeafNear layer query) (n.size - 1) ns p g) [
-  | inl h ↦ absurd (none_under layer query n (take (n.size - 1) ns) p node.under none h)
-  | inr h ↦ h
+-- the same of places from one on
+pub near_none_from : (shapes : List Shape) (places : List ℕ) (layer : ℕ) (query : Query) (from : ℕ) (node : Node) → IsNodeOver shapes places node → (IsNodeNear layer query node → ⊥) → (place : ℕ)
+    → HasBetween (IsHitFrom shapes layer query from) places node.first node.end place → ⊥
+near_none_from shapes places layer query from node over none place h = near_none shapes places layer query node over none place (h.0, h.1.hit)
+
+pub hit_between_from : (shapes : List Shape) (places : List ℕ) (nodes : List Node) (layer : ℕ) (query : Query) (from place : ℕ) → AreTreesTo shapes (length shapes) places nodes → IsHitFrom shapes layer query from place
+    → HasBetween (IsHitFrom shapes layer query from) places 0 (length shapes) place
+hit_between_from shapes places nodes layer query from place trees h = ((hit_between shapes places nodes layer query place trees h.hit).0, h)
+
+pub adds_all : (shapes : List Shape) (places : List ℕ) (nodes : List Node) (layer : ℕ) (query : Query) (old new : List ℕ) → AreTreesTo shapes (length shapes) places nodes
+    → Adds old new (HasBetween (IsHit shapes layer query) places 0 (length shapes)) → Adds old new (IsHit shapes layer query)
+adds_all shapes places nodes layer query old new trees a = adds_as old new (HasBetween (IsHit shapes layer query) places 0 (length shapes)) (IsHit shapes layer query) (λ p h. h.1) (λ p h. hit_between shapes places nodes layer query p trees h) a
+
+-- the least of all
+pub least_all : (shapes : List Shape) (places : List ℕ) (nodes : List Node) (layer : ℕ) (query : Query) (from : ℕ) (found : Option ℕ) → AreTreesTo shapes (length shapes) places nodes
+    → IsLeastWith None (HasBetween (IsHitFrom shapes layer query from) places 0 (length shapes)) found → MatchOption found (NoHitFrom shapes layer query from) (IsFirstHit shapes layer query from)
+least_all shapes places nodes layer query from None trees l = λ place above hit. l.least place (hit_between_from shapes places nodes layer query from place trees (record { from_there = above; hit = hit }))
+least_all shapes places nodes layer query from (Some place) trees l = elim (l.one place refl) [
+  | inl e ↦ absurd cc
+  | inr h ↦ record {
+    from_there = h.1.from_there;
+    hit = h.1.hit;
+    first = λ other above hit. l.least other (hit_between_from shapes places nodes layer query from other trees (record { from_there = above; hit = hit }));
+  }
 ]
-
-pub passes : (layer : ℕ) (query : Query) (all rest ns : List Node) (n : Node) (old now : List ℕ) → rest ≡ n ∷ ns → IsBoxNode n ns → (IsNodeNear layer query n → ⊥)
-    → IsGathering (IsLeafNear layer query) all rest old now → IsGathering (IsLeafNear layer query) all (drop (n.size - 1) ns) old now
-passes layer query all rest ns n old now e node none way =
-    let w : IsGathering (IsLeafNear layer query) all (n ∷ ns) old now = subst (λ (r : List Node). IsGathering (IsLeafNear layer query) all r old now) e way in
-    record {
-      completes = λ new a. w.completes new (adds_as now new (SomeGives (IsLeafNear layer query) (drop (n.size - 1) ns)) (SomeGives (IsLeafNear layer query) (n ∷ ns))
-          (λ p g. inr (gives_drop (IsLeafNear layer query) (n.size - 1) ns p g)) (λ p g. gives_behind layer query n ns p node none g) a);
-    }

@@ -3,8 +3,8 @@ use Rattle.std.specs.Prelude.{◌≡◌, ◌+◌, ◌≤◌, ◌≤ℤ◌, List,
 use Rattle.or_geom.specs.declared.shape.Rect.{Rect}
 use Rattle.or_geom.specs.declared.shape.Shape.{Shape}
 use Rattle.or_geom.specs.Covered.{IsCovered}
-use Rattle.shape_bins.specs.declared.node.Node.{Node}
 use Rattle.shape_bins.specs.declared.filled.Filled.{Filled}
+use Rattle.shape_bins.specs.declared.forest.Forest.{Forest}
 use Rattle.shape_bins.specs.Forest.{IsForest}
 use Rattle.shape_bins.specs.Layers.{IsCoveredBy}
 
@@ -58,7 +58,7 @@ pub record AreJoinedFrom (shapes : List Shape) (new : List Filled) : Type 0 wher
   pub filled : All (IsFilledBy shapes) new
 
 -- trees over the shapes, and trees over boxes that they fill
-pub record AreBins (shapes : List Shape) (nodes : List Node) (boxes : List Shape) (box_nodes : List Node) : Type 0 where
-  pub forest : IsForest shapes nodes
-  pub box_forest : IsForest boxes box_nodes
-  pub filled : AreFilledBoxes shapes boxes
+pub record AreBins (all boxes : Forest) : Type 0 where
+  pub forest : IsForest all
+  pub box_forest : IsForest boxes
+  pub filled : AreFilledBoxes all.shapes.now boxes.shapes.now

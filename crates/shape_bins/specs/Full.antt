@@ -1,43 +1,50 @@
--- Which nodes have only shapes with numbers below them.
-use Rattle.std.specs.Prelude.{◌≡◌, ℕ, ◌+◌, ◌≤◌, ◌<◌, Bool, true, false, List, length, slice_get, slice_index_or, Option, Some}
-use Rattle.or_geom.specs.declared.shape.Shape.{Shape}
-use Rattle.or_geom.specs.Gathering.{SomeGives}
+-- Which shapes below a node have numbers.
+use Rattle.std.specs.Prelude.{◌≡◌, ℕ, ◌<◌, ◌≤◌, Bool, true, false, List, length, slice_get, slice_index_or, Option, Some}
+use Rattle.shape_bins.specs.declared.forest.Forest.{Forest}
 use Rattle.shape_bins.specs.declared.node.Node.{Node}
-use Rattle.shape_bins.specs.declared.query.Query.{Query}
+use Rattle.shape_bins.specs.declared.numbering.WantedShapes.{WantedShapes}
 use Rattle.shape_bins.specs.Forest.{IsForest}
-use Rattle.shape_bins.specs.Nodes.{IsLeafNear}
+use Rattle.shape_bins.specs.Hits.{IsHit}
+use Rattle.shape_bins.specs.Nodes.{position_at}
 use Rattle.shape_bins.specs.Numbers.{HasNumber, GivesNumber}
+use Rattle.shape_bins.specs.Places.{AllBetween, HasBetween}
 
--- the leaves from one node up to another have numbers
-abbrev pub AreLeavesNumbered : List Node → List (Option ℕ) → ℕ → ℕ → Type 0
-AreLeavesNumbered nodes given from to = (k : ℕ) (leaf : Node) → from ≤ k → k < to → slice_get nodes k ≡ Some leaf → leaf.size ≡ 1 → HasNumber given leaf.place
+-- the shapes whose places stand between the positions have numbers
+abbrev pub AreNumbered : List ℕ → List (Option ℕ) → ℕ → ℕ → Type 0
+AreNumbered places given first end = AllBetween (HasNumber given) places first end
 
--- the leaves at and below the node have
-abbrev pub IsFull : List Node → List (Option ℕ) → ℕ → Type 0
-IsFull nodes given at = (node : Node) → slice_get nodes at ≡ Some node → AreLeavesNumbered nodes given at (at + node.size)
+-- a mark for each node, which only those have below which all shapes have numbers
+pub record AreFull (forest : Forest) (given : List (Option ℕ)) (marks : List Bool) : Type 0 where
+  pub sized : length marks ≡ length forest.nodes.now
+  pub each : (at : ℕ) (node : Node) → slice_get forest.nodes.now at ≡ Some node → slice_index_or marks at false ≡ true → AreNumbered forest.places.now given node.first node.end
 
--- a mark for each node, which only those have that are full
-pub record AreFull (nodes : List Node) (given : List (Option ℕ)) (marks : List Bool) : Type 0 where
-  pub sized : length marks ≡ length nodes
-  pub each : (at : ℕ) → slice_index_or marks at false ≡ true → IsFull nodes given at
+-- all shapes below the node, which is no leaf, have numbers
+abbrev pub IsInnerFull : Forest → List (Option ℕ) → ℕ → Type 0
+IsInnerFull forest given at = (node : Node) → slice_get forest.nodes.now at ≡ Some node → (node.size ≡ 1 → ⊥) → AreNumbered forest.places.now given node.first node.end
 
--- the place of each leaf has an entry
-abbrev pub AreLeavesWithin : List Node → ℕ → Type 0
-AreLeavesWithin nodes count = (k : ℕ) (leaf : Node) → slice_get nodes k ≡ Some leaf → leaf.size ≡ 1 → leaf.place < count
+-- trees over shapes, a number or none for each shape, and marks of full nodes
+pub record AreShapeNumbers (all : Forest) (given : List (Option ℕ)) (marks : List Bool) : Type 0 where
+  pub forest : IsForest all
+  pub sized : length given ≡ length all.shapes.now
+  pub full : AreFull all given marks
 
--- trees over the shapes, a number or none for each shape, and marks of full nodes
-pub record AreShapeNumbers (shapes : List Shape) (nodes : List Node) (given : List (Option ℕ)) (marks : List Bool) : Type 0 where
-  pub forest : IsForest shapes nodes
-  pub sized : length given ≡ length shapes
-  pub full : AreFull nodes given marks
+-- the shape at the place is one that is looked for
+abbrev pub IsWantedHit : Forest → WantedShapes → ℕ → Type 0
+IsWantedHit forest wanted place = IsHit forest.shapes.now wanted.layer wanted.query place
 
--- of the nodes from one up to another, the leaves that are looked for have numbers
-abbrev pub AreGivenTo : List Node → ℕ → Query → List (Option ℕ) → ℕ → ℕ → Type 0
-AreGivenTo nodes layer query given from to = (k : ℕ) (leaf : Node) (place : ℕ) → from ≤ k → k < to → slice_get nodes k ≡ Some leaf → IsLeafNear layer query leaf place → HasNumber given place
+-- shapes that have P were given the number, among them all whose places stand between the positions and that had none
+pub record GivesBetween (P : ℕ → Type 0) (places : List ℕ) (first end number : ℕ) (old new : List (Option ℕ)) (before after : List ℕ) : Type 0 where
+  pub gives : GivesNumber P number old new before after
+  pub all : (place : ℕ) → HasBetween P places first end place → HasNumber new place
+
+-- of the node's layer
+abbrev pub GivesBelow : Forest → Node → WantedShapes → List (Option ℕ) → List (Option ℕ) → List ℕ → List ℕ → Type 0
+GivesBelow forest node wanted =
+    GivesBetween (IsHit forest.shapes.now node.hull.layer wanted.query) forest.places.now node.first node.end wanted.number
 
 -- a step of the walk over the nodes
-pub record IsStep (nodes : List Node) (layer : ℕ) (query : Query) (number at next : ℕ) (old new : List (Option ℕ)) (before after : List ℕ) : Type 0 where
+pub record IsStep (forest : Forest) (wanted : WantedShapes) (at next : ℕ) (old new : List (Option ℕ)) (before after : List ℕ) : Type 0 where
   pub further : at < next
-  pub within : next ≤ length nodes
-  pub gives : GivesNumber (SomeGives (IsLeafNear layer query) nodes) number old new before after
-  pub all : AreGivenTo nodes layer query new at next
+  pub within : next ≤ length forest.nodes.now
+  pub gives : GivesBetween (IsWantedHit forest wanted) forest.places.now (position_at (length forest.shapes.now) forest.nodes.now at)
+      (position_at (length forest.shapes.now) forest.nodes.now next) wanted.number old new before after

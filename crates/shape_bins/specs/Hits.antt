@@ -2,8 +2,11 @@
 use Rattle.std.specs.Prelude.{◌≡◌, ℕ, ◌≤◌, List, slice_get, Some}
 use Rattle.or_geom.specs.declared.shape.Rect.{Rect}
 use Rattle.or_geom.specs.declared.shape.Shape.{Shape}
+use Rattle.shape_bins.specs.declared.forest.Forest.{Forest}
+use Rattle.shape_bins.specs.declared.node.Node.{Node}
 use Rattle.shape_bins.specs.declared.query.Query.{Query}
 use Rattle.shape_bins.specs.declared.query.Query.TheVariants.{Meets}
+use Rattle.shape_bins.specs.Places.{HasBetween}
 use Rattle.shape_bins.specs.Query.{FitsQuery}
 
 -- the shape at this place is of the layer, and is one that is looked for
@@ -12,6 +15,18 @@ pub record IsHit (shapes : List Shape) (layer : ℕ) (query : Query) (place : �
   pub there : slice_get shapes place ≡ Some shape
   pub on : shape.layer ≡ layer
   pub fits : FitsQuery query shape.rect
+
+-- at a place from there on
+pub record IsHitFrom (shapes : List Shape) (layer : ℕ) (query : Query) (from : ℕ) (place : ℕ) : Type 0 where
+  pub from_there : from ≤ place
+  pub hit : IsHit shapes layer query place
+
+-- and its place is one of the node's
+abbrev pub IsHitBelow : Forest → Node → Query → ℕ → Type 0
+IsHitBelow forest node query = HasBetween (IsHit forest.shapes.now node.hull.layer query) forest.places.now node.first node.end
+
+abbrev pub IsHitBelowFrom : Forest → Node → Query → ℕ → ℕ → Type 0
+IsHitBelowFrom forest node query from = HasBetween (IsHitFrom forest.shapes.now node.hull.layer query from) forest.places.now node.first node.end
 
 -- no such place from there on
 abbrev pub NoHitFrom : List Shape → ℕ → Query → ℕ → Type 0

@@ -1,17 +1,16 @@
--- The least place that some leaf gives.
-use Rattle.std.specs.Prelude.{◌≡◌, ◌⊎◌, ℕ, ◌≤◌, List, Option, Some, IfSome}
-use Rattle.shape_bins.specs.declared.query.Query.{Query}
-use Rattle.or_geom.specs.Gathering.{SomeGives}
-use Rattle.shape_bins.specs.declared.node.Node.{Node}
-use Rattle.shape_bins.specs.Nodes.{IsLeafNear}
+-- The least of places.
+use Rattle.std.specs.Prelude.{◌≡◌, ◌⊎◌, ℕ, ◌≤◌, Option, None, Some, IfSome}
 
-abbrev pub NoneFrom : ℕ → Query → ℕ → List Node → Type 0
-NoneFrom layer query from nodes = (place : ℕ) → from ≤ place → SomeGives (IsLeafNear layer query) nodes place → ⊥
+-- one was found, and it is no greater than the other
+abbrev pub IsAtMost : Option ℕ → ℕ → Type 0
+IsAtMost None other = ⊥
+IsAtMost (Some found) other = found ≤ other
 
-pub record IsLeastFrom (layer : ℕ) (query : Query) (from : ℕ) (nodes : List Node) (place : ℕ) : Type 0 where
-  pub from_there : from ≤ place
-  pub gives : SomeGives (IsLeafNear layer query) nodes place
-  pub least : (other : ℕ) → from ≤ other → SomeGives (IsLeafNear layer query) nodes other → place ≤ other
+-- what is found is the least of the one found before and of those that have P
+pub record IsLeastWith (before : Option ℕ) (P : ℕ → Type 0) (found : Option ℕ) : Type 0 where
+  pub one : (place : ℕ) → found ≡ Some place → (before ≡ Some place) ⊎ P place
+  pub below : (other : ℕ) → before ≡ Some other → IsAtMost found other
+  pub least : (other : ℕ) → P other → IsAtMost found other
 
 pub record IsLesser (found : Option ℕ) (place lesser : ℕ) : Type 0 where
   pub below : lesser ≤ place

@@ -1,13 +1,13 @@
 pub mod Meets
 pub mod Query
 pub mod Layers
+pub mod Places
 pub mod Nodes
-pub mod Trees
+pub mod Leaves
 pub mod Least
 pub mod Order
 pub mod Hits
 pub mod Forest
-pub mod Over
 pub mod Numbers
 pub mod Full
 pub mod Filled

@@ -1,38 +1,49 @@
 -- Trees over shapes, as lists of nodes.
-use Rattle.std.specs.Prelude.{◌≡◌, ℕ, ◌+◌, ◌-◌, ◌≤◌, List, [], ◌∷◌, length, take}
-use Rattle.std.specs.List.{AllByRecursion}
+use Rattle.std.specs.Prelude.{◌≡◌, ℕ, zero, suc, ◌+◌, ◌-◌, ◌≤◌, List, [], ◌∷◌, length, slice_get, Some}
 use Rattle.or_geom.specs.declared.shape.Shape.{Shape}
+use Rattle.or_geom.specs.Containing.{HoldsRect}
 use Rattle.shape_bins.specs.declared.node.Node.{Node}
 use Rattle.shape_bins.specs.declared.query.Query.{Query}
-use Rattle.or_geom.specs.Containing.{HoldsRect}
+use Rattle.shape_bins.specs.Places.{AllBetween}
 use Rattle.shape_bins.specs.Query.{FitsQuery}
 
--- the node lies below one with this hull
-pub record IsUnder (hull : Shape) (node : Node) : Type 0 where
-  pub layer : node.hull.layer ≡ hull.layer
-  pub holds : HoldsRect hull.rect node.hull.rect
+-- the shape at the place is of the hull's layer and lies in it
+pub record IsInHull (shapes : List Shape) (hull : Shape) (place : ℕ) : Type 0 where
+  pub shape : Shape
+  pub there : slice_get shapes place ≡ Some shape
+  pub on : shape.layer ≡ hull.layer
+  pub holds : HoldsRect hull.rect shape.rect
 
--- so it is, if it is a leaf
-abbrev pub IsLeafUnder : Shape → Node → Type 0
-IsLeafUnder hull node = node.size ≡ 1 → IsUnder hull node
+-- the shapes whose places stand between the node's positions lie in its hull
+pub record IsNodeOver (shapes : List Shape) (places : List ℕ) (node : Node) : Type 0 where
+  pub rises : node.first ≤ node.end
+  pub within : node.end ≤ length places
+  pub held : AllBetween (IsInHull shapes node.hull) places node.first node.end
 
--- the node and the nodes after it, of which the first are those below it
-pub record IsBoxNode (node : Node) (rest : List Node) : Type 0 where
+-- where the places of the node at this index begin; where all end, if there is none
+abbrev pub position_at : ℕ → List Node → ℕ → ℕ
+position_at end [] k = end
+position_at end (node ∷ rest) zero = node.first
+position_at end (node ∷ rest) (suc k) = position_at end rest k
+
+-- A node and the nodes after it. Those below it come first: the node behind them begins where it ends; and the first of those below it where it begins.
+pub record IsNodeBefore (shapes : List Shape) (places : List ℕ) (end : ℕ) (node : Node) (rest : List Node) : Type 0 where
   pub counted : 1 ≤ node.size
   pub there : node.size ≤ length rest + 1
-  pub under : AllByRecursion (IsLeafUnder node.hull) (take (node.size - 1) rest)
+  pub over : IsNodeOver shapes places node
+  pub behind : position_at end rest (node.size - 1) ≡ node.end
+  pub inner : (node.size ≡ 1 → ⊥) → position_at end rest 0 ≡ node.first
 
-abbrev pub AreBoxNodes : List Node → Type 0
-AreBoxNodes [] = Unit {0}
-AreBoxNodes (node ∷ rest) = IsBoxNode node rest × AreBoxNodes rest
+abbrev pub AreNodes : List Shape → List ℕ → ℕ → List Node → Type 0
+AreNodes shapes places end [] = Unit {0}
+AreNodes shapes places end (node ∷ rest) = IsNodeBefore shapes places end node rest × AreNodes shapes places end rest
+
+-- nodes over the places from one position up to another
+pub record AreNodesFrom (shapes : List Shape) (places : List ℕ) (begin end : ℕ) (nodes : List Node) : Type 0 where
+  pub begins : position_at end nodes 0 ≡ begin
+  pub each : AreNodes shapes places end nodes
 
 -- the node is of the layer, and its hull is one that is looked for
 pub record IsNodeNear (layer : ℕ) (query : Query) (node : Node) : Type 0 where
   pub on : node.hull.layer ≡ layer
   pub fits : FitsQuery query node.hull.rect
-
--- and it is the leaf of this place
-pub record IsLeafNear (layer : ℕ) (query : Query) (node : Node) (place : ℕ) : Type 0 where
-  pub leaf : node.size ≡ 1
-  pub is : place ≡ node.place
-  pub near : IsNodeNear layer query node

@@ -7,12 +7,12 @@ ghost use Rattle.shape_bins.specs.Forest.{IsForest};
 ghost use Rattle.shape_bins.specs.Hits.{IsHit, IsNearShape, NoHitFrom, IsFirstHit};
 ghost use Rattle.shape_bins.specs.declared.query.Query.TheVariants.{Meets, MeetsOutside, Overlaps, At};
 
-use crate::cover::{box_covered, rect_at};
+use crate::cover::box_covered;
 use crate::filled::filled_boxes;
-use crate::layers::forest;
-use crate::node::Node;
+use crate::forest::Forest;
+use crate::layers::forest_over;
 use crate::query::Query;
-use crate::walk::{add_near, least_near, some_near};
+use crate::walk::{add_near, least_near, rect_at, some_near};
 use bumpalo::Bump;
 use bumpalo::collections::into_bump_slice;
 use cell_hierarchy::Flat;
@@ -24,11 +24,9 @@ use std::marker::Model;
 /// the list.
 #[derive(Drop)]
 pub struct Bins<'b> {
-    shapes: &'b [Shape],
-    nodes: &'b [Node],
+    forest: Forest<'b>,
     /// Boxes that shapes of their layers fill, and the trees over them.
-    boxes: &'b [Shape],
-    box_nodes: &'b [Node],
+    boxes: Forest<'b>,
 }
 
 impl<'b> Model for Bins<'b> {
@@ -38,9 +36,9 @@ impl<'b> Model for Bins<'b> {
 
     ghost Value = { List Shape };
 
-    ghost view = { λ b. b.shapes.now };
+    ghost view = { λ b. b.forest.shapes.now };
 
-    ghost invariant = { λ b. AreBins b.shapes.now b.nodes.now b.boxes.now b.box_nodes.now };
+    ghost invariant = { λ b. AreBins b.forest b.boxes };
 }
 
 impl<'b> Bins<'b> {
@@ -48,15 +46,15 @@ impl<'b> Bins<'b> {
     pub fn shapes(&self) -> &[Shape]
         ensures { result.now ≡ self.now }
     {
-        self.shapes
+        self.forest.shapes
     }
 
-    /// The shapes, and the nodes of the trees over them.
-    pub(crate) fn parts(&self) -> (&'b [Shape], &'b [Node])
-        ensures shapes { result.0.now ≡ self.now }
-        ensures nodes { IsForest result.0.now result.1.now }
+    /// The shapes with the trees over them.
+    pub(crate) fn forest(&self) -> Forest<'b>
+        ensures shapes { result.shapes.now ≡ self.now }
+        ensures forest { IsForest result }
     {
-        (self.shapes, self.nodes)
+        self.forest
     }
 
     /// The least place, at least `from`, of a shape of the layer whose closed box meets the area.
@@ -64,14 +62,14 @@ impl<'b> Bins<'b> {
         ensures { MatchOption result (NoHitFrom self.now layer (Meets area) from)
             (IsFirstHit self.now layer (Meets area) from) }
     {
-        least_near(self.nodes, layer, Query::Meets(area), from)
+        least_near(self.forest, layer, Query::Meets(area), from)
     }
 
     /// The least place of a shape of the layer whose closed box contains the point.
     pub fn first_at(&self, layer: u16, point: Point) -> Option<usize>
         ensures { MatchOption result (NoHitFrom self.now layer (At point) 0) (IsFirstHit self.now layer (At point) 0) }
     {
-        least_near(self.nodes, layer, Query::At(point), 0)
+        least_near(self.forest, layer, Query::At(point), 0)
     }
 
     /// The place of one of the layer's shapes that share area with the area.
@@ -79,7 +77,7 @@ impl<'b> Bins<'b> {
         ensures { MatchOption result (NoHitFrom self.now layer (Overlaps area) 0)
             (IsHit self.now layer (Overlaps area)) }
     {
-        some_near(self.nodes, layer, Query::Overlaps(area))
+        some_near(self.forest, layer, Query::Overlaps(area))
     }
 
     /// One of the layer's rectangles that hold the unit cell with this lower left corner.
@@ -87,7 +85,7 @@ impl<'b> Bins<'b> {
         ensures { MatchOption result (HasCellInSome (rects_on layer self.now) cell.x cell.y
             → ⊥) (IsFound (rects_on layer self.now) cell) }
     {
-        rect_at(self.shapes, self.nodes, layer, cell)
+        rect_at(self.forest, layer, cell)
     }
 
     /// A box that the layer covers and that holds the unit cell with this lower left corner. None says nothing: only
@@ -95,7 +93,7 @@ impl<'b> Bins<'b> {
     pub fn filled_at(&self, layer: u16, cell: Point) -> Option<Rect>
         ensures { IfSome result (IsFound (rects_on layer self.now) cell) }
     {
-        rect_at(self.boxes, self.box_nodes, layer, cell)
+        rect_at(self.boxes, layer, cell)
     }
 
     /// Whether each unit cell of the area lies in some shape of the layer.
@@ -109,7 +107,7 @@ impl<'b> Bins<'b> {
     pub fn add_near(&self, layer: u16, area: Rect, out: &mut Vec<usize>) -> Result<(), Memory>
         ensures { OnOk result (Adds out.old.items out.new.items (IsNearShape self.now layer area)) }
     {
-        add_near(self.nodes, layer, Query::Meets(area), out)
+        add_near(self.forest, layer, Query::Meets(area), out)
     }
 
     /// Adds the places of the layer's shapes whose closed box meets the area and that `held` doesn't contain.
@@ -122,7 +120,7 @@ impl<'b> Bins<'b> {
     ) -> Result<(), Memory>
         ensures { OnOk result (Adds out.old.items out.new.items (IsHit self.now layer (MeetsOutside area held))) }
     {
-        add_near(self.nodes, layer, Query::MeetsOutside { area, held }, out)
+        add_near(self.forest, layer, Query::MeetsOutside { area, held }, out)
     }
 }
 
@@ -131,15 +129,10 @@ pub fn index<'b>(alloc: Global, bump: &'b Bump, flat: &Flat<'b>) -> Result<Bins<
     requires { length flat.now.shapes.now ≤ 4294967295 }
     ensures { IfOk result (λ bins. bins ≡ flat.now.shapes.now) }
 {
-    let nodes = forest(alloc, bump, flat.shapes)?;
-    let boxes = filled_boxes(alloc, bump, flat.shapes)?;
-    let box_nodes = forest(alloc, bump, &boxes)?;
-    Ok(Bins {
-        shapes: flat.shapes,
-        nodes: into_bump_slice(nodes),
-        boxes: into_bump_slice(boxes),
-        box_nodes: into_bump_slice(box_nodes),
-    })
+    let forest = forest_over(alloc, bump, flat.shapes)?;
+    let boxes = into_bump_slice(filled_boxes(alloc, bump, flat.shapes)?);
+    let boxes = forest_over(alloc, bump, boxes)?;
+    Ok(Bins { forest, boxes })
 }
 
 fn share<T: Sync>(_shared: &T) {}

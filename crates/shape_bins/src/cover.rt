@@ -1,59 +1,10 @@
 ghost use Rattle.std.specs.Prelude.{◌↔◌, IsTrue, MatchOption};
-ghost use Rattle.or_geom.specs.Covered.{HasCell, HasCellInSome, IsCovered};
+ghost use Rattle.or_geom.specs.Covered.{HasCellInSome, IsCovered};
 ghost use Rattle.or_geom.specs.Row.{IsFound, IsRowOf, AreRowsTo};
-ghost use Rattle.shape_bins.specs.Forest.{IsForest};
 ghost use Rattle.shape_bins.specs.Layers.{rects_on};
-ghost use Rattle.shape_bins.specs.Over.{IsNodeOver};
 
 use crate::bins::Bins;
-use crate::node::Node;
-use or_geom::{Point, Rect, Shape};
-
-/// Whether the unit cell with this lower left corner lies in the rectangle.
-fn holds(rect: Rect, cell: Point) -> bool
-    ensures { IsTrue result ↔ HasCell rect cell.x cell.y }
-{
-    if cell.x < rect.x1 {
-        return false;
-    }
-    if rect.x2 <= cell.x {
-        return false;
-    }
-    if cell.y < rect.y1 {
-        return false;
-    }
-    if cell.y < rect.y2 {
-        return true;
-    }
-    false
-}
-
-/// Whether the node is of the layer and its hull holds the cell.
-fn is_over(node: Node, layer: u16, cell: Point) -> bool
-    ensures { IsTrue result ↔ IsNodeOver layer cell node }
-{
-    node.hull.layer == layer && holds(node.hull.rect, cell)
-}
-
-/// One of the layer's shapes that hold the cell.
-pub fn rect_at(_shapes: &[Shape], nodes: &[Node], layer: u16, cell: Point) -> Option<Rect>
-    requires { IsForest _shapes.now nodes.now }
-    ensures { MatchOption result (HasCellInSome (rects_on layer _shapes.now) cell.x cell.y
-        → ⊥) (IsFound (rects_on layer _shapes.now) cell) }
-{
-    let mut rest = nodes;
-    while let Some((node, below)) = rest.split_first() {
-        if !is_over(*node, layer, cell) {
-            (_, rest) = below.split_at(node.size - 1);
-            continue;
-        }
-        if node.size == 1 {
-            return Some(node.hull.rect);
-        }
-        rest = below;
-    }
-    None
-}
+use or_geom::{Point, Rect};
 
 /// A rectangle that the layer covers and that holds the cell: a filled box where one is known, which reaches far.
 fn covered_at(bins: &Bins, layer: u16, cell: Point) -> Option<Rect>

@@ -4,6 +4,7 @@
 mod bins;
 mod cover;
 mod filled;
+mod forest;
 mod layers;
 mod node;
 mod numbering;

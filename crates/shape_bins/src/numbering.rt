@@ -1,13 +1,22 @@
 ghost use Rattle.std.specs.Prelude.{◌≡◌, ◌<◌, ◌^◌, length, IsTrue, IfOk, OnOk};
-ghost use Rattle.or_geom.specs.Gathering.{SomeGives};
-ghost use Rattle.shape_bins.specs.Full.{AreFull, AreLeavesWithin, IsFull, IsStep};
-ghost use Rattle.shape_bins.specs.Nodes.{AreBoxNodes, IsLeafNear};
-ghost use Rattle.shape_bins.specs.Numbers.{GivesAll, GivesNumber, KeepsNumbers};
+ghost use Rattle.shape_bins.specs.Forest.{IsForest};
+ghost use Rattle.shape_bins.specs.Full.{AreFull, AreNumbered, GivesBelow, IsInnerFull, IsStep, IsWantedHit};
+ghost use Rattle.shape_bins.specs.Nodes.{IsNodeOver};
+ghost use Rattle.shape_bins.specs.Numbers.{GivesAll, KeepsNumbers};
 
+use crate::forest::{Forest, placed_at};
 use crate::node::Node;
-use crate::query::Query;
+use crate::query::{Query, fits};
 use crate::walk::is_wanted;
 use or_geom::Memory;
+
+/// The shapes that are looked for: those of the layer that fit the query; and the number that they get.
+#[derive(Clone, Copy)]
+pub struct WantedShapes {
+    pub layer: u16,
+    pub query: Query,
+    pub number: u32,
+}
 
 /// Gives the number to the shape at the place if it has none, and adds the place to the list then.
 fn give_one(
@@ -28,95 +37,118 @@ fn give_one(
     Ok(())
 }
 
-/// Whether all nodes below this one are known to be full.
-fn is_full(_given: &[Option<u32>], nodes: &[Node], full: &[bool], at: usize) -> bool
-    requires nodes { AreBoxNodes nodes.now }
-    requires inside { at < length nodes.now }
-    requires sized { length nodes.now < 2 ^ 64 }
-    requires full { AreFull nodes.now _given.now full.now }
-    ensures { IsTrue result → IsFull nodes.now _given.now at }
+/// Gives the number to the leaf's shapes that are looked for and have none, and adds their places to the list.
+fn give_leaf(
+    forest: Forest<'_>,
+    leaf: Node,
+    wanted: WantedShapes,
+    given: &mut [Option<u32>],
+    out: &mut Vec<usize>,
+) -> Result<(), Memory>
+    requires over { IsNodeOver forest.shapes.now forest.places.now leaf }
+    requires sized { length given.old ≡ length forest.shapes.now }
+    ensures kept { KeepsNumbers given.old given.new }
+    ensures gives { OnOk result (GivesBelow forest.entry leaf wanted given.old given.new out.old.items out.new.items) }
 {
-    let size = nodes[at].size;
-    if size == 1 {
-        return false;
+    for at in leaf.first..leaf.end {
+        let placed = placed_at(forest, leaf, at);
+        if fits(wanted.query, placed.shape.rect) {
+            give_one(placed.place, wanted.number, given, out)?;
+        }
     }
-    let end = at + size;
+    Ok(())
+}
+
+/// Whether all shapes of the leaf have numbers.
+fn is_leaf_full(forest: Forest<'_>, given: &[Option<u32>], leaf: Node) -> bool
+    requires over { IsNodeOver forest.shapes.now forest.places.now leaf }
+    requires sized { length given.now ≡ length forest.shapes.now }
+    ensures { IsTrue result → AreNumbered forest.entry.places.now given.now leaf.first leaf.end }
+{
+    for at in leaf.first..leaf.end {
+        let placed = placed_at(forest, leaf, at);
+        if given[placed.place].is_none() {
+            return false;
+        }
+    }
+    true
+}
+
+/// Whether all nodes below this one, which is no leaf, are known to be full.
+fn is_full(forest: Forest<'_>, _given: &[Option<u32>], full: &[bool], at: usize) -> bool
+    requires forest { IsForest forest }
+    requires inside { at < length forest.nodes.now }
+    requires few { length forest.nodes.now < 2 ^ 64 }
+    requires full { AreFull forest _given.now full.now }
+    ensures { IsTrue result → IsInnerFull forest.entry _given.now at }
+{
+    let end = at + forest.nodes[at].size;
     let mut next = at + 1;
     while next < end {
         if !full[next] {
             return false;
         }
-        next += nodes[next].size;
+        next += forest.nodes[next].size;
     }
     true
 }
 
-/// The shapes that are looked for: those of the layer that fit the query.
-#[derive(Clone, Copy)]
-struct Wanted {
-    layer: u16,
-    query: Query,
-}
-
-/// Looks at a node, and gives the number to its shape if it is a leaf that is looked for. Answers the next node to look
-/// at: that behind all below this one, where none of them can be looked for or all have numbers.
+/// Looks at a node, and gives the number to its shapes that are looked for if it is a leaf. Answers the next node to
+/// look at: that behind all below this one, where no shape below it can be looked for or all have numbers.
 fn step(
-    nodes: &[Node],
+    forest: Forest<'_>,
     at: usize,
-    wanted: Wanted,
-    number: u32,
+    wanted: WantedShapes,
     full: &mut [bool],
     given: &mut [Option<u32>],
     out: &mut Vec<usize>,
 ) -> Result<usize, Memory>
-    requires nodes { AreBoxNodes nodes.now }
-    requires inside { at < length nodes.now }
-    requires sized { length nodes.now < 2 ^ 64 }
-    requires leaves { AreLeavesWithin nodes.now (length given.old) }
-    requires full { AreFull nodes.now given.old full.old }
-    ensures full { AreFull nodes.now given.new full.new }
-    ensures gives { IfOk result (λ next. IsStep nodes.now wanted.layer wanted.query number at next given.old given.new
-        out.old.items out.new.items) }
+    requires forest { IsForest forest }
+    requires inside { at < length forest.nodes.now }
+    requires few { length forest.nodes.now < 2 ^ 64 }
+    requires sized { length given.old ≡ length forest.shapes.now }
+    requires full { AreFull forest given.old full.old }
+    ensures sized { length given.new ≡ length given.old }
+    ensures full { AreFull forest.entry given.new full.new }
+    ensures gives { IfOk result (λ next. IsStep forest.entry wanted at next given.old given.new out.old.items
+        out.new.items) }
 {
-    let node = nodes[at];
+    let node = forest.nodes[at];
     let behind = at + node.size;
     if full[at] || !is_wanted(node, wanted.layer, wanted.query) {
         return Ok(behind);
     }
     if node.size == 1 {
-        give_one(node.place, number, given, out)?;
-        full[at] = true;
+        give_leaf(forest, node, wanted, given, out)?;
+        full[at] = is_leaf_full(forest, given, node);
         return Ok(behind);
     }
-    if is_full(given, nodes, full, at) {
+    if is_full(forest, given, full, at) {
         full[at] = true;
         return Ok(behind);
     }
     Ok(at + 1)
 }
 
-/// Gives the number to the shapes of all leaves that are looked for and have none, and adds their places to the list.
+/// Gives the number to all shapes that are looked for and have none, and adds their places to the list.
 pub fn give_all(
-    nodes: &[Node],
-    layer: u16,
-    query: Query,
-    number: u32,
+    forest: Forest<'_>,
+    wanted: WantedShapes,
     full: &mut [bool],
     given: &mut [Option<u32>],
     out: &mut Vec<usize>,
 ) -> Result<(), Memory>
-    requires nodes { AreBoxNodes nodes.now }
-    requires leaves { AreLeavesWithin nodes.now (length given.old) }
-    requires full { AreFull nodes.now given.old full.old }
-    ensures full { AreFull nodes.now given.new full.new }
-    ensures gives { OnOk result (GivesAll (SomeGives (IsLeafNear layer query) nodes.now) number given.old given.new
+    requires forest { IsForest forest }
+    requires sized { length given.old ≡ length forest.shapes.now }
+    requires full { AreFull forest given.old full.old }
+    ensures full { AreFull forest.entry given.new full.new }
+    ensures gives { OnOk result (GivesAll (IsWantedHit forest.entry wanted) wanted.number given.old given.new
         out.old.items out.new.items) }
 {
-    let wanted = Wanted { layer, query };
     let mut at = 0;
-    let end = nodes.len();
+    let end = forest.nodes.len();
     while at < end {
-        at = step(nodes, at, wanted, number, full, given, out)?;
+        at = step(forest, at, wanted, full, given, out)?;
     }
     Ok(())
 }

@@ -3,10 +3,10 @@ ghost use Rattle.shape_bins.specs.Hits.{IsHit};
 ghost use Rattle.shape_bins.specs.Numbers.{GivesAll};
 
 use crate::bins::Bins;
-use crate::node::Node;
-use crate::numbering::give_all;
+use crate::forest::Forest;
+use crate::numbering::{WantedShapes, give_all};
 use crate::query::Query;
-use or_geom::{Memory, Shape};
+use or_geom::Memory;
 use std::alloc::Global;
 use std::marker::Model;
 
@@ -14,8 +14,7 @@ use std::marker::Model;
 /// number is remembered, so that a shape with a number is hardly looked at again.
 #[derive(Drop)]
 pub struct ShapeNumbers<'b> {
-    shapes: &'b [Shape],
-    nodes: &'b [Node],
+    forest: Forest<'b>,
     given: Vec<Option<u32>>,
     full: Vec<bool>,
 }
@@ -26,9 +25,9 @@ impl<'b> Model for ShapeNumbers<'b> {
 
     ghost Value = { NumberedShapes };
 
-    ghost view = { λ n. record { shapes = n.shapes.now; given = n.given.items } };
+    ghost view = { λ n. record { shapes = n.forest.shapes.now; given = n.given.items } };
 
-    ghost invariant = { λ n. AreShapeNumbers n.shapes.now n.nodes.now n.given.items n.full.items };
+    ghost invariant = { λ n. AreShapeNumbers n.forest n.given.items n.full.items };
 }
 
 impl<'b> ShapeNumbers<'b> {
@@ -37,12 +36,11 @@ impl<'b> ShapeNumbers<'b> {
         ensures shapes { IfOk result (λ numbers. numbers.shapes ≡ bins.now) }
         ensures none { IfOk result (λ numbers. numbers.given ≡ replicate (length bins.now) None) }
     {
-        let (shapes, nodes) = bins.parts();
+        let forest = bins.forest();
         Ok(ShapeNumbers {
-            shapes,
-            nodes,
-            given: vec![in alloc; None; shapes.len()]?,
-            full: vec![in alloc; false; nodes.len()]?,
+            forest,
+            given: vec![in alloc; None; forest.shapes.len()]?,
+            full: vec![in alloc; false; forest.nodes.len()]?,
         })
     }
 
@@ -76,14 +74,11 @@ impl<'b> ShapeNumbers<'b> {
         ensures gives { OnOk result (GivesAll (IsHit self.old.shapes layer query) number self.old.given self.new.given
             out.old.items out.new.items) }
     {
-        give_all(
-            self.nodes,
+        let wanted = WantedShapes {
             layer,
             query,
             number,
-            &mut self.full,
-            &mut self.given,
-            out,
-        )
+        };
+        give_all(self.forest, wanted, &mut self.full, &mut self.given, out)
     }
 }

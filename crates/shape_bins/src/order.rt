@@ -1,25 +1,45 @@
-ghost use Rattle.std.specs.Prelude.{◌≡◌, ◌↔◌, ◌<◌, ◌≤◌, ◌-◌, ℕ, length, map, Contains, IfOk};
+ghost use Rattle.std.specs.Prelude.{◌≡◌, ◌<◌, ◌≤◌, ◌-◌, ◌++◌, length, map, IfOk, OnOk};
 ghost use Rattle.std.specs.List.{range_with_len};
-ghost use Rattle.shape_bins.specs.Order.{place_of_key};
+ghost use Rattle.shape_bins.specs.Order.{place_of_key, IsOrderAdded};
 
+use bumpalo::Bump;
 use or_geom::{Memory, Rect, Shape};
 use std::alloc::Global;
 
 /// A place with the number by which it is sorted.
-type Key = (u64, usize);
+type Key = (u32, u32);
 
-/// How much coarser the one axis is measured than the other, as powers of two.
+/// So many bits of each coordinate are looked at.
+const BITS: u32 = 16;
+
+/// How coordinates are measured before they are compared: from the least ones on, in units of powers of two.
 #[derive(Clone, Copy)]
 struct Scale {
+    left: i64,
+    low: i64,
     across: u32,
     upward: u32,
-    ghost few_across: { across < 32 },
-    ghost few_upward: { upward < 32 },
+    ghost few_across: { across < 64 },
+    ghost few_upward: { upward < 64 },
+}
+
+/// Twice the least and the greatest middles of some shapes.
+#[derive(Clone, Copy)]
+struct Middles {
+    left: i64,
+    low: i64,
+    right: i64,
+    high: i64,
 }
 
 /// How many bits of a length are zero before its first one.
 fn zeros(low: i64, high: i64) -> u64 {
     u64::from(high.wrapping_sub(low).leading_zeros())
+}
+
+/// Twice the middle of an interval.
+fn twice_middle(low: i64, high: i64) -> i64 {
+    low.wrapping_add(high)
 }
 
 /// How many powers of two the one sum is more than the other, on an average.
@@ -36,31 +56,70 @@ fn powers(more: u64, less: u64, count: u64) -> u32
     31
 }
 
-/// A scale by which most of the shapes are about as wide as tall, so that many long wires come one after another as
-/// they lie beside each other.
-fn scale_of(shapes: &[Shape]) -> Scale {
-    let mut across: u64 = 0;
-    let mut upward: u64 = 0;
+/// By how many powers of two a length is to be divided for its first bits to be left.
+fn shift_of(length: u64, before: u32) -> u32
+    requires { before < 64 }
+    ensures { result ≤ 64 }
+{
+    let bits = 64 - (length >> before).leading_zeros();
+    bits.saturating_sub(BITS)
+}
+
+/// Twice the least and the greatest middles of the shapes.
+fn middles_of(shapes: &[Shape]) -> Middles {
+    let mut all = Middles {
+        left: i64::MAX,
+        low: i64::MAX,
+        right: i64::MIN,
+        high: i64::MIN,
+    };
     for shape in shapes {
-        across = across.wrapping_add(zeros(shape.rect.x1, shape.rect.x2));
-        upward = upward.wrapping_add(zeros(shape.rect.y1, shape.rect.y2));
+        let x = twice_middle(shape.rect.x1, shape.rect.x2);
+        let y = twice_middle(shape.rect.y1, shape.rect.y2);
+        all = Middles {
+            left: all.left.min(x),
+            low: all.low.min(y),
+            right: all.right.max(x),
+            high: all.high.max(y),
+        };
+    }
+    all
+}
+
+/// A scale by which most of the shapes are about as wide as tall, so that many long wires come one after another as
+/// they lie beside each other, and by which all middles fit the bits that are looked at.
+fn scale_of(shapes: &[Shape]) -> Scale {
+    let mut wide: u64 = 0;
+    let mut tall: u64 = 0;
+    for shape in shapes {
+        wide = wide.wrapping_add(zeros(shape.rect.x1, shape.rect.x2));
+        tall = tall.wrapping_add(zeros(shape.rect.y1, shape.rect.y2));
     }
     let count = shapes.len() as u64;
+    let across = powers(tall, wide, count);
+    let upward = powers(wide, tall, count);
+    let all = middles_of(shapes);
+    let width = all.right.wrapping_sub(all.left).cast_unsigned();
+    let height = all.high.wrapping_sub(all.low).cast_unsigned();
+    let more = shift_of(width, across).max(shift_of(height, upward));
     Scale {
-        across: powers(upward, across, count),
-        upward: powers(across, upward, count),
+        left: all.left,
+        low: all.low,
+        across: (across + more).min(63),
+        upward: (upward + more).min(63),
     }
 }
 
-/// A coordinate within 32 bits, from 0.
-fn from_zero(low: i64, high: i64) -> u64 {
-    let twice = low.wrapping_add(high).wrapping_add(1 << 32).cast_unsigned();
-    (twice >> 1) & 0xffff_ffff
+/// The first bits of how far the coordinate lies from the least one.
+fn first_bits(at: i64, least: i64, shift: u32) -> u32
+    requires { shift < 64 }
+{
+    ((at.wrapping_sub(least).cast_unsigned() >> shift) & 0xffff) as u32
 }
 
 /// A step along Hilbert's curve: in which quarter of a square the point lies, by the order in which the curve goes
 /// through them, and the point as the curve within that quarter sees it.
-fn quarter_of(x: u64, y: u64, bit: u32) -> (u64, u64, u64)
+fn quarter_of(x: u32, y: u32, bit: u32) -> (u32, u32, u32)
     requires { bit < 32 }
 {
     let right = (x >> bit) & 1 == 1;
@@ -75,11 +134,11 @@ fn quarter_of(x: u64, y: u64, bit: u32) -> (u64, u64, u64)
 
 /// Where the middle of the rectangle stands on Hilbert's curve, which fills the plane: what stands near on the curve
 /// lies near.
-fn curve_of(rect: Rect, scale: Scale) -> u64 {
-    let mut x = from_zero(rect.x1, rect.x2) >> scale.across;
-    let mut y = from_zero(rect.y1, rect.y2) >> scale.upward;
-    let mut curve: u64 = 0;
-    for bit in (0..32).rev() {
+fn curve_of(rect: Rect, scale: Scale) -> u32 {
+    let mut x = first_bits(twice_middle(rect.x1, rect.x2), scale.left, scale.across);
+    let mut y = first_bits(twice_middle(rect.y1, rect.y2), scale.low, scale.upward);
+    let mut curve: u32 = 0;
+    for bit in (0..BITS).rev() {
         let (quarter, along, beside) = quarter_of(x, y, bit);
         curve = (curve << 2) | quarter;
         x = along;
@@ -98,41 +157,41 @@ fn keys_of(
 ) -> Result<Vec<Key>, Memory>
     requires order { begin ≤ end }
     requires within { end ≤ length shapes.now }
+    requires few { end ≤ 4294967295 }
     ensures { IfOk result (λ keys. map place_of_key keys.items ≡ range_with_len begin (end - begin)) }
 {
     let mut keys = Vec::with_capacity(alloc, end - begin)?;
     for place in begin..end {
-        keys.push((curve_of(shapes[place].rect, scale), place))?;
+        keys.push((curve_of(shapes[place].rect, scale), place as u32))?;
     }
     Ok(keys)
 }
 
-/// The places of the keys.
-fn places_of(alloc: Global, keys: &[Key]) -> Result<Vec<usize>, Memory>
-    ensures { IfOk result (λ places. places.items ≡ map place_of_key keys.now) }
+/// Adds the places of the keys.
+fn add_places(keys: &[Key], places: &mut Vec<u32, &Bump>) -> Result<(), Memory>
+    ensures { OnOk result (places.new.items ≡ places.old.items ++ map place_of_key keys.now) }
 {
-    let mut places = Vec::with_capacity(alloc, keys.len())?;
     for key in keys {
         places.push(key.1)?;
     }
-    Ok(places)
+    Ok(())
 }
 
-/// The places from `begin` to `end`, those of near shapes one after another.
-pub fn order_of(
+/// Adds the places from `begin` to `end`, those of near shapes one after another.
+pub fn add_order(
     alloc: Global,
     shapes: &[Shape],
     begin: usize,
     end: usize,
-) -> Result<Vec<usize>, Memory>
+    places: &mut Vec<u32, &Bump>,
+) -> Result<(), Memory>
     requires order { begin ≤ end }
     requires within { end ≤ length shapes.now }
-    ensures len { IfOk result (λ places. length places.items ≡ end - begin) }
-    ensures each { IfOk result (λ places. (place : ℕ) → Contains places.items place
-        ↔ ((begin ≤ place) × (place < end))) }
+    requires few { end ≤ 4294967295 }
+    ensures { OnOk result (IsOrderAdded begin end places.old.items places.new.items) }
 {
     let scale = scale_of(&shapes[begin..end]);
     let mut keys = keys_of(alloc, shapes, begin, end, scale)?;
     keys.sort_unstable();
-    places_of(alloc, &keys)
+    add_places(&keys, places)
 }

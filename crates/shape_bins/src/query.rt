@@ -1,4 +1,5 @@
 ghost use Rattle.std.specs.Prelude.{◌↔◌, IsTrue};
+ghost use Rattle.or_geom.specs.Covered.{HasCell};
 ghost use Rattle.or_geom.specs.Joined.{IsIn};
 ghost use Rattle.shape_bins.specs.Meets.{Meet, Overlap};
 ghost use Rattle.shape_bins.specs.Query.{FitsQuery};
@@ -18,6 +19,8 @@ pub enum Query {
     Overlaps(Rect),
     /// Those whose closed boxes contain the point.
     At(Point),
+    /// Those that hold the unit cell with this lower left corner.
+    Holds(Point),
 }
 
 /// Whether the closed rectangles have a point in common.
@@ -80,6 +83,26 @@ fn has_point(rect: Rect, point: Point) -> bool
     true
 }
 
+/// Whether the unit cell with this lower left corner lies in the rectangle.
+#[inline(always)]
+fn holds_cell(rect: Rect, cell: Point) -> bool
+    ensures { IsTrue result ↔ HasCell rect cell.x cell.y }
+{
+    if cell.x < rect.x1 {
+        return false;
+    }
+    if rect.x2 <= cell.x {
+        return false;
+    }
+    if cell.y < rect.y1 {
+        return false;
+    }
+    if rect.y2 <= cell.y {
+        return false;
+    }
+    true
+}
+
 /// Whether a shape with this rectangle is looked for.
 #[inline(always)]
 pub fn fits(query: Query, rect: Rect) -> bool
@@ -91,5 +114,6 @@ pub fn fits(query: Query, rect: Rect) -> bool
         Query::Joins(area) => joined(rect, area),
         Query::Overlaps(area) => overlap(rect, area),
         Query::At(point) => has_point(rect, point),
+        Query::Holds(cell) => holds_cell(rect, cell),
     }
 }

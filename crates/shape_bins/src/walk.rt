@@ -1,12 +1,17 @@
-ghost use Rattle.std.specs.Prelude.{◌↔◌, IsTrue, MatchOption, OnOk};
+ghost use Rattle.std.specs.Prelude.{◌↔◌, ℕ, IsTrue, MatchOption, OnOk};
 ghost use Rattle.or_geom.specs.Adds.{Adds};
-ghost use Rattle.or_geom.specs.Gathering.{SomeGives};
-ghost use Rattle.shape_bins.specs.Nodes.{AreBoxNodes, IsLeafNear, IsNodeNear};
-ghost use Rattle.shape_bins.specs.Least.{NoneFrom, IsLeastFrom, IsLesser};
+ghost use Rattle.or_geom.specs.Covered.{HasCellInSome};
+ghost use Rattle.or_geom.specs.Row.{IsFound};
+ghost use Rattle.shape_bins.specs.Forest.{IsForest};
+ghost use Rattle.shape_bins.specs.Hits.{IsHit, IsHitBelow, IsHitBelowFrom, NoHitFrom, IsFirstHit};
+ghost use Rattle.shape_bins.specs.Layers.{rects_on};
+ghost use Rattle.shape_bins.specs.Least.{IsLeastWith, IsLesser};
+ghost use Rattle.shape_bins.specs.Nodes.{IsNodeNear, IsNodeOver};
 
+use crate::forest::{Forest, placed_at};
 use crate::node::Node;
 use crate::query::{Query, fits};
-use or_geom::Memory;
+use or_geom::{Memory, Point, Rect};
 
 /// Whether the node is of the layer and its hull is one that is looked for. Then so may be shapes below it.
 #[inline(always)]
@@ -16,26 +21,47 @@ pub fn is_wanted(node: Node, layer: u16, query: Query) -> bool
     node.hull.layer == layer && fits(query, node.hull.rect)
 }
 
+/// Adds the places of the leaf's shapes that are looked for.
+fn add_of_leaf(
+    forest: Forest<'_>,
+    leaf: Node,
+    query: Query,
+    out: &mut Vec<usize>,
+) -> Result<(), Memory>
+    requires { IsNodeOver forest.shapes.now forest.places.now leaf }
+    ensures { OnOk result (Adds out.old.items out.new.items (IsHitBelow forest.entry leaf query)) }
+{
+    for at in leaf.first..leaf.end {
+        let placed = placed_at(forest, leaf, at);
+        if fits(query, placed.shape.rect) {
+            out.push(placed.place)?;
+        }
+    }
+    Ok(())
+}
+
 /// Adds the places of all shapes of the layer that are looked for.
 pub fn add_near(
-    nodes: &[Node],
+    forest: Forest<'_>,
     layer: u16,
     query: Query,
     out: &mut Vec<usize>,
 ) -> Result<(), Memory>
-    requires { AreBoxNodes nodes.now }
-    ensures { OnOk result (Adds out.old.items out.new.items (SomeGives (IsLeafNear layer query) nodes.now)) }
+    requires { IsForest forest }
+    ensures { OnOk result (Adds out.old.items out.new.items (IsHit forest.entry.shapes.now layer query)) }
 {
-    let mut rest = nodes;
-    while let Some((node, below)) = rest.split_first() {
-        if !is_wanted(*node, layer, query) {
-            (_, rest) = below.split_at(node.size - 1);
+    let mut at = 0;
+    let end = forest.nodes.len();
+    while at < end {
+        let node = forest.nodes[at];
+        if !is_wanted(node, layer, query) {
+            at += node.size;
             continue;
         }
-        rest = below;
         if node.size == 1 {
-            out.push(node.place)?;
+            add_of_leaf(forest, node, query, out)?;
         }
+        at += 1;
     }
     Ok(())
 }
@@ -52,45 +78,100 @@ fn lesser(found: Option<usize>, place: usize) -> usize
     place
 }
 
-/// The least place, at least `from`, of a shape of the layer that is looked for.
-pub fn least_near(nodes: &[Node], layer: u16, query: Query, from: usize) -> Option<usize>
-    requires { AreBoxNodes nodes.now }
-    ensures { MatchOption result (NoneFrom layer query from nodes.now) (IsLeastFrom layer query from nodes.now) }
+/// The least of a place that was found before and those of the leaf's shapes, at least `from`, that are looked for.
+fn least_of_leaf(
+    forest: Forest<'_>,
+    leaf: Node,
+    query: Query,
+    from: usize,
+    before: Option<usize>,
+) -> Option<usize>
+    requires { IsNodeOver forest.shapes.now forest.places.now leaf }
+    ensures { IsLeastWith before (IsHitBelowFrom forest.entry leaf query from) result }
 {
-    let mut found = None;
-    let mut rest = nodes;
-    while let Some((node, below)) = rest.split_first() {
-        if !is_wanted(*node, layer, query) {
-            (_, rest) = below.split_at(node.size - 1);
+    let mut found = before;
+    for at in leaf.first..leaf.end {
+        let placed = placed_at(forest, leaf, at);
+        if placed.place < from {
             continue;
         }
-        rest = below;
-        if node.size != 1 {
-            continue;
+        if fits(query, placed.shape.rect) {
+            found = Some(lesser(found, placed.place));
         }
-        if node.place < from {
-            continue;
-        }
-        found = Some(lesser(found, node.place));
     }
     found
 }
 
-/// The place of one of the layer's shapes that are looked for.
-pub fn some_near(nodes: &[Node], layer: u16, query: Query) -> Option<usize>
-    requires { AreBoxNodes nodes.now }
-    ensures { MatchOption result (NoneFrom layer query 0 nodes.now) (SomeGives (IsLeafNear layer query) nodes.now) }
+/// The least place, at least `from`, of a shape of the layer that is looked for.
+pub fn least_near(forest: Forest<'_>, layer: u16, query: Query, from: usize) -> Option<usize>
+    requires { IsForest forest }
+    ensures { MatchOption result (NoHitFrom forest.entry.shapes.now layer query from)
+        (IsFirstHit forest.entry.shapes.now layer query from) }
 {
-    let mut rest = nodes;
-    while let Some((node, below)) = rest.split_first() {
-        if !is_wanted(*node, layer, query) {
-            (_, rest) = below.split_at(node.size - 1);
+    let mut found = None;
+    let mut at = 0;
+    let end = forest.nodes.len();
+    while at < end {
+        let node = forest.nodes[at];
+        if !is_wanted(node, layer, query) {
+            at += node.size;
             continue;
         }
         if node.size == 1 {
-            return Some(node.place);
+            found = least_of_leaf(forest, node, query, from, found);
         }
-        rest = below;
+        at += 1;
+    }
+    found
+}
+
+/// The place of one of the leaf's shapes that are looked for.
+fn some_of_leaf(forest: Forest<'_>, leaf: Node, query: Query) -> Option<usize>
+    requires { IsNodeOver forest.shapes.now forest.places.now leaf }
+    ensures { MatchOption result ((place : ℕ) → IsHitBelow forest.entry leaf query place → ⊥)
+        (IsHit forest.entry.shapes.now leaf.hull.layer query) }
+{
+    for at in leaf.first..leaf.end {
+        let placed = placed_at(forest, leaf, at);
+        if fits(query, placed.shape.rect) {
+            return Some(placed.place);
+        }
     }
     None
+}
+
+/// The place of one of the layer's shapes that are looked for.
+pub fn some_near(forest: Forest<'_>, layer: u16, query: Query) -> Option<usize>
+    requires { IsForest forest }
+    ensures { MatchOption result (NoHitFrom forest.entry.shapes.now layer query 0)
+        (IsHit forest.entry.shapes.now layer query) }
+{
+    let mut at = 0;
+    let end = forest.nodes.len();
+    while at < end {
+        let node = forest.nodes[at];
+        if !is_wanted(node, layer, query) {
+            at += node.size;
+            continue;
+        }
+        if node.size == 1 {
+            if let Some(place) = some_of_leaf(forest, node, query) {
+                return Some(place);
+            }
+        }
+        at += 1;
+    }
+    None
+}
+
+/// One of the layer's rectangles that hold the unit cell with this lower left corner.
+pub fn rect_at(forest: Forest<'_>, layer: u16, cell: Point) -> Option<Rect>
+    requires { IsForest forest }
+    ensures { MatchOption result (HasCellInSome (rects_on layer forest.entry.shapes.now) cell.x cell.y
+        → ⊥) (IsFound (rects_on layer forest.entry.shapes.now) cell) }
+{
+    match some_near(forest, layer, Query::Holds(cell)) {
+        Some(place) => Some(forest.shapes[place].rect),
+        None => None,
+    }
 }

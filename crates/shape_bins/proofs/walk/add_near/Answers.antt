@@ -1,40 +1,58 @@
-use Rattle.std.proofs.Common.{◌-◌, ◌∷◌, refl, subst}
-use Rattle.std.proofs.lemmas.List.{nil_from_length}
-use Rattle.or_geom.proofs.AddsLaws.{adds_one, adds_none}
-use Rattle.or_geom.proofs.GatheringLaws.{gather_goes_on, gather_ends}
-use Rattle.shape_bins.specs.Nodes.{AreBoxNodes}
-use Rattle.shape_bins.proofs.WalkLaws.{nodes_drop, passes}
+use Rattle.std.proofs.Common.{ℕ, length, get_or, subst, arith}
+use Rattle.or_geom.specs.Adds.{Adds}
+use Rattle.shape_bins.specs.Hits.{IsHit}
+use Rattle.shape_bins.specs.Places.{HasBetween}
+use Rattle.shape_bins.proofs.NodeLaws.{node_read, begin_past, from_first, to_behind, to_next, to_inner}
+use Rattle.shape_bins.proofs.PlaceLaws.{adds_between, adds_no_more}
+use Rattle.shape_bins.proofs.WalkLaws.{near_none, adds_all}
 use Rattle.shape_bins.proofs.walk.add_near.Goals as goal
+use Rattle.shape_bins.proofs.walk.add_near.Goals.{then-node-eq1+in_ok-add_of_leaf, else-node-eq1}
 
-pub loop-node-preserved-then-not-is_wanted : goal.loop-node-preserved-then-not-is_wanted
-loop-node-preserved-then-not-is_wanted c =
-    let front = c.in-Some.ensures.cases.0 in
-    let nodes : AreBoxNodes (c.in-Some.node.now ∷ c.in-Some.below.now) = subst AreBoxNodes front c.loop-node.invariant.nodes in
+pub overflow_add-at : goal.overflow_add-at
+overflow_add-at c =
+    let n = node_read c.args.forest.shapes.now c.args.forest.places.now (length c.args.forest.shapes.now) c.args.forest.nodes.now c.loop-at.at c.index-forest-at.result c.requires.trees.each c.loop-at-test.true in
+    omega (arith, n.within)
+
+pub loop-at-smaller-then-not-is_wanted : goal.loop-at-smaller-then-not-is_wanted
+loop-at-smaller-then-not-is_wanted c =
+    let n = node_read c.args.forest.shapes.now c.args.forest.places.now (length c.args.forest.shapes.now) c.args.forest.nodes.now c.loop-at.at c.index-forest-at.result c.requires.trees.each c.loop-at-test.true in
+    omega (arith, n.counted, c.loop-at-test.true)
+
+pub loop-at-preserved-then-not-is_wanted : goal.loop-at-preserved-then-not-is_wanted
+loop-at-preserved-then-not-is_wanted c =
+    let n = node_read c.args.forest.shapes.now c.args.forest.places.now (length c.args.forest.shapes.now) c.args.forest.nodes.now c.loop-at.at c.index-forest-at.result c.requires.trees.each c.loop-at-test.true in
+    let P : ℕ → Type 0 = IsHit c.args.forest.shapes.now c.args.layer c.args.query in
+    let F : ℕ → Type 0 = λ k. Adds c.args.out.now.items c.loop-at.out.items (HasBetween P c.args.forest.places.now 0 k) in
     record {
-      gathered = rw c.split_at.ensures.back (passes c.args.layer c.args.query _ _ c.in-Some.below.now c.in-Some.node.now _ _ front nodes.0
-          (λ near. let yes = c.if-not-is_wanted.ensures.1 near in absurd cc) c.loop-node.invariant.gathered);
-      nodes = rw c.split_at.ensures.back (nodes_drop (c.in-Some.node.now.size - 1) c.in-Some.below.now nodes.1);
+      within = n.within;
+      adds = to_behind F c.args.forest.shapes.now c.args.forest.places.now (length c.args.forest.shapes.now) c.args.forest.nodes.now c.loop-at.at (get_or c.args.forest.nodes.now c.loop-at.at c.index-forest-at.result) n (adds_no_more P c.args.forest.places.now 0 _ _ c.args.out.now.items c.loop-at.out.items (omega arith) n.over.rises
+          (near_none c.args.forest.shapes.now c.args.forest.places.now c.args.layer c.args.query (get_or c.args.forest.nodes.now c.loop-at.at c.index-forest-at.result) n.over (λ near. let yes = c.is_wanted.ensures.1 near in let no = c.if-not-is_wanted.true in absurd cc))
+          (from_first F c.args.forest.shapes.now c.args.forest.places.now (length c.args.forest.shapes.now) c.args.forest.nodes.now c.loop-at.at (get_or c.args.forest.nodes.now c.loop-at.at c.index-forest-at.result) n c.loop-at.invariant.adds));
     }
 
-pub loop-node-preserved-in-Continue-1 : goal.loop-node-preserved-in-Continue-1
-loop-node-preserved-in-Continue-1 c =
-    let front = c.in-Some.ensures.cases.0 in
-    let nodes : AreBoxNodes (c.in-Some.node.now ∷ c.in-Some.below.now) = subst AreBoxNodes front c.loop-node.invariant.nodes in
-    record {
-      gathered = gather_goes_on _ _ _ c.in-Some.below.now c.in-Some.node.now _ _ _ front c.loop-node.invariant.gathered
-          (adds_one _ _ _ _ c.in_ok-push.ensures.items (record { leaf = c.if-node-eq1.true; is = refl; near = c.if-not-is_wanted.ensures.0 refl }) (λ p g. g.is));
-      nodes = nodes.1;
-    }
+pub add_of_leaf-requires : goal.add_of_leaf-requires
+add_of_leaf-requires c =
+    let n = node_read c.args.forest.shapes.now c.args.forest.places.now (length c.args.forest.shapes.now) c.args.forest.nodes.now c.loop-at.at c.index-forest-at.result c.requires.trees.each c.loop-at-test.true in
+    n.over
 
-pub loop-node-preserved : goal.loop-node-preserved
-loop-node-preserved c =
-    let front = c.in-Some.ensures.cases.0 in
-    let nodes : AreBoxNodes (c.in-Some.node.now ∷ c.in-Some.below.now) = subst AreBoxNodes front c.loop-node.invariant.nodes in
+pub loop-at-preserved : goal.loop-at-preserved
+loop-at-preserved c =
+    let n = node_read c.args.forest.shapes.now c.args.forest.places.now (length c.args.forest.shapes.now) c.args.forest.nodes.now c.loop-at.at c.index-forest-at.result c.requires.trees.each c.loop-at-test.true in
+    let P : ℕ → Type 0 = IsHit c.args.forest.shapes.now c.args.layer c.args.query in
+    let F : ℕ → Type 0 = λ k. Adds c.args.out.now.items c.loop-at.out.items (HasBetween P c.args.forest.places.now 0 k) in
+    let near = c.is_wanted.ensures.0 c.if-not-is_wanted.false in
     record {
-      gathered = gather_goes_on _ _ _ c.in-Some.below.now c.in-Some.node.now _ _ _ front c.loop-node.invariant.gathered
-          (adds_none _ _ (λ p g. c.if-node-eq1.false g.leaf));
-      nodes = nodes.1;
+      within = omega (arith, c.loop-at-test.true);
+      adds = elim c.if-node-eq1.branch [
+        | then-node-eq1+in_ok-add_of_leaf w ↦ rw w.out-is (to_next (λ k. Adds c.args.out.now.items w.add_of_leaf.new.out.items (HasBetween P c.args.forest.places.now 0 k)) c.args.forest.shapes.now c.args.forest.places.now (length c.args.forest.shapes.now) c.args.forest.nodes.now c.loop-at.at (get_or c.args.forest.nodes.now c.loop-at.at c.index-forest-at.result) n w.if-node-eq1.true
+            (adds_between P c.args.forest.places.now 0 _ _ c.args.out.now.items c.loop-at.out.items w.add_of_leaf.new.out.items (omega arith) n.over.rises (from_first F c.args.forest.shapes.now c.args.forest.places.now (length c.args.forest.shapes.now) c.args.forest.nodes.now c.loop-at.at (get_or c.args.forest.nodes.now c.loop-at.at c.index-forest-at.result) n c.loop-at.invariant.adds)
+            (subst (λ (layer : ℕ). Adds c.loop-at.out.items w.add_of_leaf.new.out.items (HasBetween (IsHit c.args.forest.shapes.now layer c.args.query) c.args.forest.places.now (get_or c.args.forest.nodes.now c.loop-at.at c.index-forest-at.result).first (get_or c.args.forest.nodes.now c.loop-at.at c.index-forest-at.result).end)) near.on w.in_ok-add_of_leaf.ensures)))
+        | else-node-eq1 w ↦ rw w.out-is (to_inner F c.args.forest.shapes.now c.args.forest.places.now (length c.args.forest.shapes.now) c.args.forest.nodes.now c.loop-at.at (get_or c.args.forest.nodes.now c.loop-at.at c.index-forest-at.result) n w.if-node-eq1.false c.loop-at.invariant.adds)
+      ];
     }
 
 pub returns : goal.returns
-returns c = gather_ends _ _ _ _ _ (nil_from_length c.loop-node.rest.now c.in_default.ensures.cases) c.loop-node.invariant.gathered
+returns c =
+    adds_all c.args.forest.shapes.now c.args.forest.places.now c.args.forest.nodes.now c.args.layer c.args.query c.args.out.now.items c.loop-at.out.items c.requires
+    (subst (λ (k : ℕ). Adds c.args.out.now.items c.loop-at.out.items (HasBetween (IsHit c.args.forest.shapes.now c.args.layer c.args.query) c.args.forest.places.now 0 k))
+    (begin_past (length c.args.forest.shapes.now) c.args.forest.nodes.now c.loop-at.at c.loop-at-test.false) c.loop-at.invariant.adds)

@@ -1,13 +1,15 @@
-use Rattle.std.proofs.Common.{length}
-use Rattle.shape_bins.specs.Nodes.{AreBoxNodes}
-use Rattle.shape_bins.proofs.LeastLaws.{IsSought}
+use Rattle.std.proofs.Common.{◌≤◌, ◌-◌, length, None}
+use Rattle.shape_bins.specs.Hits.{IsHitFrom}
+use Rattle.shape_bins.specs.Least.{IsLeastWith}
+use Rattle.shape_bins.specs.Nodes.{position_at}
+use Rattle.shape_bins.specs.Places.{HasBetween}
 use Rattle.shape_bins.proofs.walk.least_near.Given as goal
 
-abbrev pub invariant-loop-node : goal.invariant-loop-node
-invariant-loop-node l = record {
-  sought : IsSought l.layer l.query l.from l.nodes l.rest l.found;
-  nodes : AreBoxNodes l.rest;
+abbrev pub invariant-loop-at : goal.invariant-loop-at
+invariant-loop-at l = record {
+  within : l.at ≤ length l.forest.nodes.now;
+  least : IsLeastWith None (HasBetween (IsHitFrom l.forest.shapes.now l.layer l.fn.query l.from) l.forest.places.now 0 (position_at (length l.forest.shapes.now) l.forest.nodes.now l.at)) l.found;
 }
 
-abbrev pub decreases-loop-node : goal.decreases-loop-node
-decreases-loop-node l = length l.rest
+abbrev pub decreases-loop-at : goal.decreases-loop-at
+decreases-loop-at l = length l.forest.nodes.now - l.at

@@ -1,31 +1,61 @@
-use Rattle.std.proofs.Common.{◌-◌, ◌∷◌, None, refl, subst}
-use Rattle.std.proofs.lemmas.List.{nil_from_length}
-use Rattle.shape_bins.specs.Nodes.{AreBoxNodes}
-use Rattle.shape_bins.proofs.WalkLaws.{nodes_drop}
-use Rattle.shape_bins.proofs.LeastLaws.{sought_passes, sought_goes_on, sought_here, sought_ends}
+use Rattle.std.proofs.Common.{ℕ, length, get_or, sym, subst, arith}
+use Rattle.shape_bins.specs.Hits.{IsHit}
+use Rattle.shape_bins.specs.Places.{HasBetween}
+use Rattle.shape_bins.proofs.NodeLaws.{node_read, begin_past, from_first, to_behind, to_next, to_inner}
+use Rattle.shape_bins.proofs.PlaceLaws.{none_more}
+use Rattle.shape_bins.proofs.WalkLaws.{near_none, hit_between}
 use Rattle.shape_bins.proofs.walk.some_near.Goals as goal
+use Rattle.shape_bins.proofs.walk.some_near.Goals.{then-node-eq1+in_default, else-node-eq1}
 
-pub loop-node-preserved-then-not-is_wanted : goal.loop-node-preserved-then-not-is_wanted
-loop-node-preserved-then-not-is_wanted c =
-    let front = c.in-Some.ensures.cases.0 in
-    let nodes : AreBoxNodes (c.in-Some.node.now ∷ c.in-Some.below.now) = subst AreBoxNodes front c.loop-node.invariant.nodes in
+pub overflow_add-at : goal.overflow_add-at
+overflow_add-at c =
+    let n = node_read c.args.forest.shapes.now c.args.forest.places.now (length c.args.forest.shapes.now) c.args.forest.nodes.now c.loop-at.at c.index-forest-at.result c.requires.trees.each c.loop-at-test.true in
+    omega (arith, n.within)
+
+pub loop-at-smaller-then-not-is_wanted : goal.loop-at-smaller-then-not-is_wanted
+loop-at-smaller-then-not-is_wanted c =
+    let n = node_read c.args.forest.shapes.now c.args.forest.places.now (length c.args.forest.shapes.now) c.args.forest.nodes.now c.loop-at.at c.index-forest-at.result c.requires.trees.each c.loop-at-test.true in
+    omega (arith, n.counted, c.loop-at-test.true)
+
+pub loop-at-preserved-then-not-is_wanted : goal.loop-at-preserved-then-not-is_wanted
+loop-at-preserved-then-not-is_wanted c =
+    let n = node_read c.args.forest.shapes.now c.args.forest.places.now (length c.args.forest.shapes.now) c.args.forest.nodes.now c.loop-at.at c.index-forest-at.result c.requires.trees.each c.loop-at-test.true in
+    let P : ℕ → Type 0 = IsHit c.args.forest.shapes.now c.args.layer c.args.query in
+    let F : ℕ → Type 0 = λ k. (place : ℕ) → HasBetween P c.args.forest.places.now 0 k place → ⊥ in
     record {
-      sought = rw c.split_at.ensures.back (sought_passes c.args.layer c.args.query 0 _ _ c.in-Some.below.now c.in-Some.node.now None front nodes.0
-          (λ near. let yes = c.if-not-is_wanted.ensures.1 near in absurd cc) c.loop-node.invariant.sought);
-      nodes = rw c.split_at.ensures.back (nodes_drop (c.in-Some.node.now.size - 1) c.in-Some.below.now nodes.1);
+      within = n.within;
+      none = to_behind F c.args.forest.shapes.now c.args.forest.places.now (length c.args.forest.shapes.now) c.args.forest.nodes.now c.loop-at.at (get_or c.args.forest.nodes.now c.loop-at.at c.index-forest-at.result) n (none_more P c.args.forest.places.now 0 _ _ (from_first F c.args.forest.shapes.now c.args.forest.places.now (length c.args.forest.shapes.now) c.args.forest.nodes.now c.loop-at.at (get_or c.args.forest.nodes.now c.loop-at.at c.index-forest-at.result) n c.loop-at.invariant.none)
+          (near_none c.args.forest.shapes.now c.args.forest.places.now c.args.layer c.args.query (get_or c.args.forest.nodes.now c.loop-at.at c.index-forest-at.result) n.over (λ near. let yes = c.is_wanted.ensures.1 near in let no = c.if-not-is_wanted.true in absurd cc)));
     }
 
-pub loop-node-preserved : goal.loop-node-preserved
-loop-node-preserved c =
-    let front = c.in-Some.ensures.cases.0 in
-    let nodes : AreBoxNodes (c.in-Some.node.now ∷ c.in-Some.below.now) = subst AreBoxNodes front c.loop-node.invariant.nodes in
-    record {
-      sought = sought_goes_on c.args.layer c.args.query 0 _ _ c.in-Some.below.now c.in-Some.node.now None front (λ other above g. c.if-node-eq1.false g.leaf) c.loop-node.invariant.sought;
-      nodes = nodes.1;
-    }
+pub some_of_leaf-requires : goal.some_of_leaf-requires
+some_of_leaf-requires c =
+    let n = node_read c.args.forest.shapes.now c.args.forest.places.now (length c.args.forest.shapes.now) c.args.forest.nodes.now c.loop-at.at c.index-forest-at.result c.requires.trees.each c.loop-at-test.true in
+    n.over
 
-pub returns-then-node-eq1 : goal.returns-then-node-eq1
-returns-then-node-eq1 c = sought_here c.args.layer c.args.query _ _ c.in-Some.below.now c.in-Some.node.now c.in-Some.ensures.cases.0 c.if-node-eq1.true (c.if-not-is_wanted.ensures.0 refl) c.loop-node.invariant.sought
+pub returns-in-Some : goal.returns-in-Some
+returns-in-Some c =
+    let near = c.is_wanted.ensures.0 c.if-not-is_wanted.false in
+    subst (λ (layer : ℕ). IsHit c.args.forest.shapes.now layer c.args.query c.in-Some.place) near.on c.in-Some.ensures
+
+pub loop-at-preserved : goal.loop-at-preserved
+loop-at-preserved c =
+    let n = node_read c.args.forest.shapes.now c.args.forest.places.now (length c.args.forest.shapes.now) c.args.forest.nodes.now c.loop-at.at c.index-forest-at.result c.requires.trees.each c.loop-at-test.true in
+    let P : ℕ → Type 0 = IsHit c.args.forest.shapes.now c.args.layer c.args.query in
+    let F : ℕ → Type 0 = λ k. (place : ℕ) → HasBetween P c.args.forest.places.now 0 k place → ⊥ in
+    let near = c.is_wanted.ensures.0 c.if-not-is_wanted.false in
+    record {
+      within = omega (arith, c.loop-at-test.true);
+      none = elim c.if-node-eq1.branch [
+        | then-node-eq1+in_default w ↦ to_next F c.args.forest.shapes.now c.args.forest.places.now (length c.args.forest.shapes.now) c.args.forest.nodes.now c.loop-at.at (get_or c.args.forest.nodes.now c.loop-at.at c.index-forest-at.result) n w.if-node-eq1.true
+            (none_more P c.args.forest.places.now 0 _ _ (from_first F c.args.forest.shapes.now c.args.forest.places.now (length c.args.forest.shapes.now) c.args.forest.nodes.now c.loop-at.at (get_or c.args.forest.nodes.now c.loop-at.at c.index-forest-at.result) n c.loop-at.invariant.none)
+            (subst (λ (layer : ℕ). (place : ℕ) → HasBetween (IsHit c.args.forest.shapes.now layer c.args.query) c.args.forest.places.now (get_or c.args.forest.nodes.now c.loop-at.at c.index-forest-at.result).first (get_or c.args.forest.nodes.now c.loop-at.at c.index-forest-at.result).end place → ⊥) near.on w.in_default.ensures))
+        | else-node-eq1 w ↦ to_inner F c.args.forest.shapes.now c.args.forest.places.now (length c.args.forest.shapes.now) c.args.forest.nodes.now c.loop-at.at (get_or c.args.forest.nodes.now c.loop-at.at c.index-forest-at.result) n w.if-node-eq1.false c.loop-at.invariant.none
+      ];
+    }
 
 pub returns : goal.returns
-returns c = sought_ends c.args.layer c.args.query 0 c.args.nodes.now c.loop-node.rest.now None (nil_from_length c.loop-node.rest.now c.in_default.ensures.cases) c.loop-node.invariant.sought
+returns c = λ place above hit. c.loop-at.invariant.none place
+    (subst (λ (k : ℕ). HasBetween (IsHit c.args.forest.shapes.now c.args.layer c.args.query) c.args.forest.places.now 0 k place)
+    (sym (begin_past (length c.args.forest.shapes.now) c.args.forest.nodes.now c.loop-at.at c.loop-at-test.false))
+    (hit_between c.args.forest.shapes.now c.args.forest.places.now c.args.forest.nodes.now c.args.layer c.args.query place c.requires hit))

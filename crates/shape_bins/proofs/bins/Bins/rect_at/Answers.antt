@@ -2,6 +2,3 @@ use Rattle.shape_bins.proofs.bins.Bins.rect_at.Goals as goal
 
 pub returns : goal.returns
 returns c = rw (← c.self.view_is) c.rect_at.ensures
-
-pub rect_at-requires : goal.rect_at-requires
-rect_at-requires c = c.self.invariant.forest

@@ -1,10 +1,8 @@
 use Rattle.std.proofs.Common.{◌≡◌, ℕ, List, length, sym, ap, subst, arith}
 use Rattle.std.specs.Prelude.{Option, OnOk}
 use Rattle.std.proofs.lemmas.List.{take_at}
-use Rattle.std.proofs.lemmas.Result.{on_ok_weaker}
 use Rattle.shape_bins.specs.Hits.{IsHit}
 use Rattle.shape_bins.specs.Numbers.{GivesAll}
-use Rattle.shape_bins.proofs.FullLaws.{hits_given}
 use Rattle.shape_bins.proofs.numbers.ShapeNumbers.give.Goals as goal
 
 pub returns-clause-gives : goal.returns-clause-gives
@@ -13,7 +11,6 @@ returns-clause-gives c =
     let same : length c.give_all.new.given ≡ length given = omega (arith, ap length c.deref_mut-2.ensures.value) in
     let sized : length c.give_all.new.given ≡ c.self.inside.given.len = omega arith in
     rw (← c.self.view_is) (subst
-    (λ (ns : List (Option ℕ)). OnOk c.give_all.result (GivesAll (IsHit c.self.inside.shapes.now c.args.layer c.args.query) c.args.number given ns c.args.out.now.items c.give_all.new.out.items))
+    (λ (ns : List (Option ℕ)). OnOk c.give_all.result (GivesAll (IsHit c.self.inside.forest.shapes.now c.args.layer c.args.query) c.args.number given ns c.args.out.now.items c.give_all.new.out.items))
     (sym (take_at c.give_all.new.given _ c.self.inside.given.len sized))
-    (on_ok_weaker _ (λ a. hits_given c.self.inside.shapes.now c.args.layer c.args.query c.self.inside.nodes.now c.args.number given c.give_all.new.given c.args.out.now.items c.give_all.new.out.items c.self.invariant.forest a)
-    (rw c.deref_mut-2.ensures.value at c.give_all.ensures.gives)))
+    (rw c.deref_mut-2.ensures.value at c.give_all.ensures.gives))

@@ -1,6 +1,0 @@
-use Rattle.std.proofs.Common.{◌≡◌, map, take}
-use Rattle.shape_bins.specs.Order.{place_of_key}
-use Rattle.shape_bins.proofs.order.places_of.Given as goal
-
-abbrev pub invariant-loop-key : goal.invariant-loop-key
-invariant-loop-key l = l.places.items ≡ map place_of_key (take l.key-index l.keys)

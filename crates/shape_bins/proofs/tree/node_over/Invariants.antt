@@ -1,0 +1,5 @@
+use Rattle.shape_bins.proofs.TreeLaws.{HoldsFirst}
+use Rattle.shape_bins.proofs.tree.node_over.Given as goal
+
+abbrev pub invariant-loop-leaf : goal.invariant-loop-leaf
+invariant-loop-leaf l = HoldsFirst l.leaves l.leaf-index l.rect
