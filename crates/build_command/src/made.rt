@@ -48,12 +48,12 @@ fn view_name(alloc: Global, config: &Config) -> Result<Vec<u8>, Memory>
     Ok(name)
 }
 
-/// A view under its name.
-fn view(alloc: Global, config: &Config, ending: &str, bytes: Vec<u8>) -> Result<MemFile, Memory>
-    ensures name { IfOk result (λ file. file.name ≡ view_name config.now ++ ending.now) }
+/// A view under its name, which ends so.
+fn view(alloc: Global, name: &[u8], ending: &str, bytes: Vec<u8>) -> Result<MemFile, Memory>
+    ensures name { IfOk result (λ file. file.name ≡ name.now ++ ending.now) }
     ensures bytes { IfOk result (λ file. file.bytes ≡ bytes.items) }
 {
-    let mut name = view_name(alloc, config)?;
+    let mut name = Vec::from_slice(alloc, name)?;
     name.extend_from_slice(ending.as_bytes())?;
     Ok(MemFile {
         name: Name::from_vec(name),
@@ -65,11 +65,12 @@ fn view(alloc: Global, config: &Config, ending: &str, bytes: Vec<u8>) -> Result<
 fn views_of(alloc: Global, config: &Config, built: Built) -> Result<Items<MemFile>, Memory>
     ensures { IfOk result (λ files. files ≡ views config.now built) }
 {
+    let name = view_name(alloc, config)?;
     let mut files = Items::new(alloc);
-    files.push(view(alloc, config, ".sp", built.spice)?)?;
-    files.push(view(alloc, config, ".gds", built.gds)?)?;
-    files.push(view(alloc, config, ".lef", built.lef)?)?;
-    files.push(view(alloc, config, ".v", built.verilog)?)?;
+    files.push(view(alloc, &name, ".sp", built.spice)?)?;
+    files.push(view(alloc, &name, ".gds", built.gds)?)?;
+    files.push(view(alloc, &name, ".lef", built.lef)?)?;
+    files.push(view(alloc, &name, ".v", built.verilog)?)?;
     Ok(files)
 }
 
