@@ -44,7 +44,7 @@ IsMakingForm words (rom config content) = rom_form words ≡ Some (record { conf
 abbrev pub AreNoMaking : List (List ℕ) → Type 0
 AreNoMaking words = (m : Making) → ¬ IsMakingForm words m
 
--- what the program's words say
+-- what is asked for, over plain data
 abbrev pub told_request : Asked → Making
 told_request (asked.Build config) = build config.now
 told_request (asked.Demo number) = demo number

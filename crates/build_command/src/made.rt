@@ -35,7 +35,7 @@ pub struct Made {
     pub reply: Reply,
 }
 
-/// The views' name without an ending.
+/// The path of the views without an ending: folder, `/` and output name, or the output name alone.
 fn view_name(alloc: Global, config: &Config) -> Result<Vec<u8>, Memory>
     ensures { IfOk result (λ name. name.items ≡ view_name config.now) }
 {
@@ -48,7 +48,7 @@ fn view_name(alloc: Global, config: &Config) -> Result<Vec<u8>, Memory>
     Ok(name)
 }
 
-/// A view under its name, which ends so.
+/// A view as a file, whose name is this one with the ending.
 fn view(alloc: Global, name: &[u8], ending: &str, bytes: Vec<u8>) -> Result<MemFile, Memory>
     ensures name { IfOk result (λ file. file.name ≡ name.now ++ ending.now) }
     ensures bytes { IfOk result (λ file. file.bytes ≡ bytes.items) }
@@ -91,6 +91,7 @@ fn success_reply(
     })
 }
 
+/// All that is written and printed of what was built.
 fn made_of(alloc: Global, config: &Config, plan: &Plan, built: Built) -> Result<Made, Memory>
     ensures { IfOk result (λ made. made ≡ made_of config.now plan.now built) }
 {
@@ -99,6 +100,7 @@ fn made_of(alloc: Global, config: &Config, plan: &Plan, built: Built) -> Result<
     Ok(Made { views, reply })
 }
 
+/// The refusal of a fault. The line of a broken rule names layers.
 fn refusal_in(layers: Items<Layer>, fault: BuildFault) -> Refusal
     ensures { result ≡ refusal_in layers fault }
 {

@@ -1,4 +1,4 @@
--- The words that a command borrows, and which command words are.
+-- What the words ask: a build or a question, and how many workers may do it.
 use Rattle.std.specs.Prelude.{◌≡◌, ℕ, ◌<◌, ◌≤◌, List, Option, Some, None}
 use Rattle.build_command.specs.declared.words.Making as making
 use Rattle.build_command.specs.Words.{IsMakingForm, AreNoMaking, told_making, HasMakingWorkers}
@@ -11,6 +11,7 @@ use Rattle.openram_cli.specs.declared.command.Question.{Question}
 use Rattle.openram_cli.specs.Command.{Command, LayoutWords, command_of}
 use Rattle.openram_cli.specs.Command.Command.{check, nets, compare, devices, kit}
 
+-- over plain data
 abbrev pub told_layout : declared_words.LayoutWords → LayoutWords
 told_layout words = record { tech = words.tech.now; gds = words.gds.now; top = words.top.now }
 

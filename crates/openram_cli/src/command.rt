@@ -93,7 +93,7 @@ fn demo_number(word: &str) -> Option<u16>
     let Ok(number) = word.parse::<u16>() else {
         return None;
     };
-    // A sign and leading zeros are read too, and no form.
+    // `parse` also takes a plus sign and leading zeros; a word with these is no form.
     let mut buffer = Buffer::new();
     if buffer.format(number) == word {
         return Some(number);
@@ -177,6 +177,7 @@ fn compare_in(rest: &[String]) -> Option<Question<'_>>
     Some(alone(Asked::Compare { layout, netlist }))
 }
 
+/// Whether all bytes are printable ASCII.
 fn are_printable(text: &[u8]) -> bool
     ensures { result ≡ list_all is_printable_byte text.now }
 {

@@ -21,7 +21,7 @@ use std::alloc::Global;
 use std::thread::Threads;
 use tile_checker::{Gate, OpenGate};
 
-/// Reads what the question of the words names, and answers it. Words that ask none are refused.
+/// Reads the files that the question names, and answers it. Without a question the words are refused as usage.
 fn reply_to<R: Threads + Sync, G: Gate + Sync, S: Store>(
     rt: &R,
     alloc: Global,
@@ -81,7 +81,7 @@ pub fn run_gated<R: Threads + Sync, G: Gate + Sync, S: Store, K: Sink>(
     // text are a function of words and files.
     ensures one { EndsAsAnswer (map string_bytes words.now) result (outside_at (S.state store.old) (K.state out.old))
         (outside_at (S.state store.new) (K.state out.new)) }
-    // So they are of words that build one, with the files at the end.
+    // The same of words that build a memory: status, text and the files at the end.
     ensures work { EndAsAsked (map string_bytes words.now) result (outside_at (S.state store.old) (K.state out.old))
         (outside_at (S.state store.new) (K.state out.new)) }
     // A build whose kit `kit` finds no weakness in is refused with none of what such a kit rules out: no pins or taps
@@ -122,7 +122,7 @@ pub fn run<R: Threads + Sync, S: Store, K: Sink>(
     // text are a function of words and files.
     ensures one { EndsAsAnswer (map string_bytes words.now) result (outside_at (S.state store.old) (K.state out.old))
         (outside_at (S.state store.new) (K.state out.new)) }
-    // So they are of words that build one, with the files at the end.
+    // The same of words that build a memory: status, text and the files at the end.
     ensures work { EndAsAsked (map string_bytes words.now) result (outside_at (S.state store.old) (K.state out.old))
         (outside_at (S.state store.new) (K.state out.new)) }
     // A build whose kit `kit` finds no weakness in is refused with none of what such a kit rules out: no pins or taps
