@@ -10,3 +10,4 @@ pub mod NumberLaws
 pub mod FullLaws
 pub mod FilledLaws
 pub mod RunLaws
+pub mod ClearLaws

@@ -1,10 +1,11 @@
 -- Boxes that shapes of one layer fill.
-use Rattle.std.specs.Prelude.{◌≡◌, ◌+◌, ◌≤◌, ◌≤ℤ◌, List, [], ◌∷◌, length, All}
+use Rattle.std.specs.Prelude.{◌≡◌, ◌+◌, ◌≤◌, ℤ, ◌≤ℤ◌, List, [], ◌∷◌, length, All}
 use Rattle.or_geom.specs.declared.shape.Rect.{Rect}
 use Rattle.or_geom.specs.declared.shape.Shape.{Shape}
 use Rattle.or_geom.specs.Covered.{IsCovered}
 use Rattle.shape_bins.specs.declared.filled.Filled.{Filled}
 use Rattle.shape_bins.specs.declared.forest.Forest.{Forest}
+use Rattle.shape_bins.specs.Clear.{AreClear}
 use Rattle.shape_bins.specs.Forest.{IsForest}
 use Rattle.shape_bins.specs.Layers.{IsCoveredBy}
 
@@ -57,8 +58,9 @@ pub record AreJoinedFrom (shapes : List Shape) (new : List Filled) : Type 0 wher
   pub few : length new ≤ length shapes
   pub filled : All (IsFilledBy shapes) new
 
--- trees over the shapes, and trees over boxes that they fill
-pub record AreBins (all boxes : Forest) : Type 0 where
+-- trees over the shapes, and trees over boxes that they fill, with the boxes' clearances
+pub record AreBins (all boxes : Forest) (clearances : List ℤ) : Type 0 where
   pub forest : IsForest all
   pub box_forest : IsForest boxes
   pub filled : AreFilledBoxes all.shapes.now boxes.shapes.now
+  pub clear : AreClear all.shapes.now boxes.shapes.now clearances

@@ -3,6 +3,7 @@ use Rattle.std.specs.Prelude.{◌≡◌, ℕ, ◌≤◌, List, slice_get, Some}
 use Rattle.or_geom.specs.declared.shape.Rect.{Rect}
 use Rattle.or_geom.specs.declared.shape.Shape.{Shape}
 use Rattle.shape_bins.specs.declared.forest.Forest.{Forest}
+use Rattle.shape_bins.specs.declared.forest.Placed.{Placed}
 use Rattle.shape_bins.specs.declared.node.Node.{Node}
 use Rattle.shape_bins.specs.declared.query.Query.{Query}
 use Rattle.shape_bins.specs.declared.query.Query.TheVariants.{Meets}
@@ -15,6 +16,10 @@ pub record IsHit (shapes : List Shape) (layer : ℕ) (query : Query) (place : �
   pub there : slice_get shapes place ≡ Some shape
   pub on : shape.layer ≡ layer
   pub fits : FitsQuery query shape.rect
+
+-- a shape with its place
+abbrev pub IsHitOf : List Shape → ℕ → Query → Placed → Type 0
+IsHitOf shapes layer query placed = IsHit shapes layer query placed.place
 
 -- at a place from there on
 pub record IsHitFrom (shapes : List Shape) (layer : ℕ) (query : Query) (from : ℕ) (place : ℕ) : Type 0 where

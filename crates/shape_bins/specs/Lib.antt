@@ -12,3 +12,4 @@ pub mod Numbers
 pub mod Full
 pub mod Filled
 pub mod Runs
+pub mod Clear

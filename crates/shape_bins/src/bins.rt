@@ -2,17 +2,19 @@ ghost use Rattle.std.specs.Prelude.{◌≡◌, ◌↔◌, ◌≤◌, length, IsT
 ghost use Rattle.or_geom.specs.Adds.{Adds};
 ghost use Rattle.or_geom.specs.Covered.{HasCellInSome, IsCovered};
 ghost use Rattle.or_geom.specs.Row.{IsFound};
+ghost use Rattle.shape_bins.specs.Clear.{IsClearBox};
 ghost use Rattle.shape_bins.specs.Layers.{rects_on};
 ghost use Rattle.shape_bins.specs.Forest.{IsForest};
 ghost use Rattle.shape_bins.specs.Hits.{IsHit, IsNearShape, NoHitFrom, IsFirstHit};
 ghost use Rattle.shape_bins.specs.declared.query.Query.TheVariants.{Meets, MeetsOutside, Overlaps, At};
 
+use crate::clear::{ClearBox, clearances_of};
 use crate::cover::box_covered;
 use crate::filled::filled_boxes;
 use crate::forest::Forest;
 use crate::layers::forest_over;
 use crate::query::Query;
-use crate::walk::{add_near, least_near, rect_at, some_near};
+use crate::walk::{add_near, largest_near, least_near, rect_at, some_near};
 use bumpalo::Bump;
 use bumpalo::collections::into_bump_slice;
 use cell_hierarchy::Flat;
@@ -27,6 +29,8 @@ pub struct Bins<'b> {
     forest: Forest<'b>,
     /// Boxes that shapes of their layers fill, and the trees over them.
     boxes: Forest<'b>,
+    /// The clearance of each box.
+    clearances: &'b [i64],
 }
 
 impl<'b> Model for Bins<'b> {
@@ -38,7 +42,7 @@ impl<'b> Model for Bins<'b> {
 
     ghost view = { λ b. b.forest.shapes.now };
 
-    ghost invariant = { λ b. AreBins b.forest b.boxes };
+    ghost invariant = { λ b. AreBins b.forest b.boxes b.clearances.now };
 }
 
 impl<'b> Bins<'b> {
@@ -88,12 +92,15 @@ impl<'b> Bins<'b> {
         rect_at(self.forest, layer, cell)
     }
 
-    /// A box that the layer covers and that holds the unit cell with this lower left corner. None says nothing: only
-    /// boxes are known that many shapes fill together.
-    pub fn filled_at(&self, layer: u16, cell: Point) -> Option<Rect>
-        ensures { IfSome result (IsFound (rects_on layer self.now) cell) }
+    /// A box that the layer covers and that holds the unit cell with this lower left corner: the largest that is known.
+    /// None says nothing: only boxes are known that many shapes fill together.
+    pub fn filled_at(&self, layer: u16, cell: Point) -> Option<ClearBox>
+        ensures { IfSome result (IsClearBox self.now layer cell) }
     {
-        rect_at(self.boxes, layer, cell)
+        let place = largest_near(self.boxes, layer, Query::Holds(cell))?;
+        let rect = self.boxes.shapes[place].rect;
+        let clearance = self.clearances[place];
+        Some(ClearBox { rect, clearance })
     }
 
     /// Whether each unit cell of the area lies in some shape of the layer.
@@ -132,7 +139,12 @@ pub fn index<'b>(alloc: Global, bump: &'b Bump, flat: &Flat<'b>) -> Result<Bins<
     let forest = forest_over(alloc, bump, flat.shapes)?;
     let boxes = into_bump_slice(filled_boxes(alloc, bump, flat.shapes)?);
     let boxes = forest_over(alloc, bump, boxes)?;
-    Ok(Bins { forest, boxes })
+    let clearances = into_bump_slice(clearances_of(bump, forest, boxes.shapes)?);
+    Ok(Bins {
+        forest,
+        boxes,
+        clearances,
+    })
 }
 
 fn share<T: Sync>(_shared: &T) {}

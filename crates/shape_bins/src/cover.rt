@@ -11,8 +11,8 @@ fn covered_at(bins: &Bins, layer: u16, cell: Point) -> Option<Rect>
     ensures { MatchOption result (HasCellInSome (rects_on layer bins.now) cell.x cell.y
         → ⊥) (IsFound (rects_on layer bins.now) cell) }
 {
-    if let Some(rect) = bins.filled_at(layer, cell) {
-        return Some(rect);
+    if let Some(filled) = bins.filled_at(layer, cell) {
+        return Some(filled.rect);
     }
     bins.rect_at(layer, cell)
 }

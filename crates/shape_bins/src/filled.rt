@@ -38,7 +38,7 @@ fn are_stacked(a: Rect, b: Rect) -> bool
 }
 
 /// Whether the rectangles are as tall as each other and one stands beside the other, or they share area.
-fn are_beside(a: Rect, b: Rect) -> bool
+pub fn are_beside(a: Rect, b: Rect) -> bool
     ensures { IsTrue result ↔ AreBeside a b }
 {
     if a.y1 != b.y1 {

@@ -2,6 +2,7 @@
 #![tactic(auto)]
 
 mod bins;
+mod clear;
 mod cover;
 mod filled;
 mod forest;
@@ -16,5 +17,6 @@ mod tree;
 mod walk;
 
 pub use bins::{Bins, bins_are_shared, index};
+pub use clear::ClearBox;
 pub use numbers::ShapeNumbers;
 pub use query::Query;

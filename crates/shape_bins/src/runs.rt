@@ -2,7 +2,7 @@ ghost use Rattle.std.specs.Prelude.{◌≡◌, All, IfOk, IfSome, OnOk};
 ghost use Rattle.shape_bins.specs.Filled.{IsFilledBy};
 ghost use Rattle.shape_bins.specs.Runs.{IsLonger, KeepsRun, KeepsRuns, TakesLeft, GivesRun, AddsShape};
 
-use crate::filled::{Filled, MANY, both};
+use crate::filled::{Filled, MANY, are_beside, both};
 use or_geom::{Memory, Shape};
 use std::alloc::Global;
 use std::collections::VecDeque;
@@ -27,10 +27,13 @@ fn single(shape: Shape) -> Run
     }
 }
 
-/// The run with the shape at its end, if both fill a box.
+/// The run with the shape at its right end, if both fill a box.
 fn longer(run: Run, shape: Shape) -> Option<Run>
     ensures { IfSome result (IsLonger run shape) }
 {
+    if !are_beside(run.filled.shape.rect, shape.rect) {
+        return None;
+    }
     let filled = both(run.filled, single(shape).filled)?;
     Some(Run {
         filled,

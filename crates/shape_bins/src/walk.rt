@@ -1,14 +1,14 @@
-ghost use Rattle.std.specs.Prelude.{◌↔◌, ℕ, IsTrue, MatchOption, OnOk};
+ghost use Rattle.std.specs.Prelude.{◌≡◌, ◌⊎◌, ◌↔◌, ℕ, Some, IsTrue, IfSome, MatchOption, OnOk};
 ghost use Rattle.or_geom.specs.Adds.{Adds};
 ghost use Rattle.or_geom.specs.Covered.{HasCellInSome};
 ghost use Rattle.or_geom.specs.Row.{IsFound};
 ghost use Rattle.shape_bins.specs.Forest.{IsForest};
-ghost use Rattle.shape_bins.specs.Hits.{IsHit, IsHitBelow, IsHitBelowFrom, NoHitFrom, IsFirstHit};
+ghost use Rattle.shape_bins.specs.Hits.{IsHit, IsHitOf, IsHitBelow, IsHitBelowFrom, NoHitFrom, IsFirstHit};
 ghost use Rattle.shape_bins.specs.Layers.{rects_on};
 ghost use Rattle.shape_bins.specs.Least.{IsLeastWith, IsLesser};
 ghost use Rattle.shape_bins.specs.Nodes.{IsNodeNear, IsNodeOver};
 
-use crate::forest::{Forest, placed_at};
+use crate::forest::{Forest, Placed, placed_at};
 use crate::node::Node;
 use crate::query::{Query, fits};
 use or_geom::{Memory, Point, Rect};
@@ -162,6 +162,77 @@ pub fn some_near(forest: Forest<'_>, layer: u16, query: Query) -> Option<usize>
         at += 1;
     }
     None
+}
+
+/// The area of a rectangle, by which rectangles are compared. A wrong one costs time.
+fn area_of(rect: Rect) -> u64 {
+    let width = rect.x2.abs_diff(rect.x1);
+    width.saturating_mul(rect.y2.abs_diff(rect.y1))
+}
+
+/// Whether a rectangle is larger than that of the shape found before.
+fn is_larger(rect: Rect, found: Option<Placed>) -> bool {
+    let Some(before) = found else {
+        return true;
+    };
+    area_of(before.shape.rect) < area_of(rect)
+}
+
+/// The larger one of a shape and one found before.
+fn larger(found: Option<Placed>, placed: Placed) -> Placed
+    ensures { (result ≡ placed) ⊎ (found ≡ Some result) }
+{
+    let Some(before) = found else {
+        return placed;
+    };
+    if is_larger(placed.shape.rect, found) {
+        return placed;
+    }
+    before
+}
+
+/// The largest of a shape that was found before and the leaf's shapes that are looked for.
+fn largest_of_leaf(
+    forest: Forest<'_>,
+    leaf: Node,
+    query: Query,
+    before: Option<Placed>,
+) -> Option<Placed>
+    requires { IsNodeOver forest.shapes.now forest.places.now leaf }
+    ensures { IfSome before (IsHitOf forest.entry.shapes.now leaf.hull.layer query) → IfSome result
+        (IsHitOf forest.entry.shapes.now leaf.hull.layer query) }
+{
+    let mut found = before;
+    for at in leaf.first..leaf.end {
+        let placed = placed_at(forest, leaf, at);
+        if !fits(query, placed.shape.rect) {
+            continue;
+        }
+        found = Some(larger(found, placed));
+    }
+    found
+}
+
+/// The place of the largest of the layer's shapes that are looked for. That it is the largest isn't claimed.
+pub fn largest_near(forest: Forest<'_>, layer: u16, query: Query) -> Option<usize>
+    requires { IsForest forest }
+    ensures { IfSome result (IsHit forest.entry.shapes.now layer query) }
+{
+    let mut found: Option<Placed> = None;
+    let mut at = 0;
+    let end = forest.nodes.len();
+    while at < end {
+        let node = forest.nodes[at];
+        if !is_wanted(node, layer, query) || !is_larger(node.hull.rect, found) {
+            at += node.size;
+            continue;
+        }
+        if node.size == 1 {
+            found = largest_of_leaf(forest, node, query, found);
+        }
+        at += 1;
+    }
+    Some(found?.place)
 }
 
 /// One of the layer's rectangles that hold the unit cell with this lower left corner.
