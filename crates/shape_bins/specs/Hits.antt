@@ -16,15 +16,16 @@ pub record IsHit (shapes : List Shape) (layer : ℕ) (query : Query) (place : �
   pub on : shape.layer ≡ layer
   pub fits : FitsQuery query shape.rect
 
--- at a place from there on
+-- it is such a shape, and the place is at least `from`
 pub record IsHitFrom (shapes : List Shape) (layer : ℕ) (query : Query) (from : ℕ) (place : ℕ) : Type 0 where
   pub from_there : from ≤ place
   pub hit : IsHit shapes layer query place
 
--- and its place is one of the node's
+-- the place stands between the node's positions, and the shape there is of the node's layer and is one that is looked for
 abbrev pub IsHitBelow : Forest → Node → Query → ℕ → Type 0
 IsHitBelow forest node query = HasBetween (IsHit forest.shapes.now node.hull.layer query) forest.places.now node.first node.end
 
+-- and the place is at least `from`
 abbrev pub IsHitBelowFrom : Forest → Node → Query → ℕ → ℕ → Type 0
 IsHitBelowFrom forest node query from = HasBetween (IsHitFrom forest.shapes.now node.hull.layer query from) forest.places.now node.first node.end
 
