@@ -66,6 +66,7 @@ over_more shapes places more node over = record {
   rises = over.rises;
   within = omega (arith, over.within, length-append places more);
   held = λ at place above below there. over.held at place above below (sym (get_first places more at (omega (arith, below, over.within))) ∙ there);
+  least = λ at place above below there. over.least at place above below (sym (get_first places more at (omega (arith, below, over.within))) ∙ there);
 }
 
 nodes_more : (shapes : List Shape) (places more : List ℕ) (end : ℕ) (nodes : List Node) → AreNodes shapes places end nodes → AreNodes shapes (places ++ more) end nodes

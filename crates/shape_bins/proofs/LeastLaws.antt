@@ -3,7 +3,7 @@ use Rattle.std.proofs.Common.{◌≡◌, ◌⊎◌, inl, inr, ℕ, ◌+◌, ◌�
 use Rattle.std.specs.Prelude.{IfSome, slice_get}
 use Rattle.std.proofs.lemmas.Option.{same_Some}
 use Rattle.shape_bins.specs.Least.{IsAtMost, IsLeastWith, IsLesser}
-use Rattle.shape_bins.specs.Places.{HasBetween}
+use Rattle.shape_bins.specs.Places.{AllAtLeast, HasBetween}
 use Rattle.shape_bins.proofs.PlaceLaws.{between_split, between_first, between_second, between_one, at_between}
 
 at_most_less : (found : Option ℕ) (less other : ℕ) → IsAtMost found less → less ≤ other → IsAtMost found other
@@ -67,3 +67,12 @@ pub least_skip : (P : ℕ → Type 0) (places : List ℕ) (first at place : ℕ)
     → IsLeastWith before (HasBetween P places first (at + 1)) found
 least_skip P places first at place before found above there none a =
     least_no_more P places first at (at + 1) before found above (omega arith) (λ k h. none (subst P (between_one P places at place k there h) h.1)) a
+
+-- no place further on is less than the one found
+pub least_enough : (P : ℕ → Type 0) (places : List ℕ) (first mid end least : ℕ) (before found : Option ℕ) → first ≤ mid → mid ≤ end → IsAtMost found least → AllAtLeast least places mid end → IsLeastWith before (HasBetween P places first mid) found
+    → IsLeastWith before (HasBetween P places first end) found
+least_enough P places first mid end least before found above below enough all a = least_between P places first mid end before found found above below a (record {
+  one = λ place e. inl e;
+  below = λ other e. subst (λ (o : Option ℕ). IsAtMost o other) (sym e) (omega arith);
+  least = λ other h. at_most_less found least other enough (all h.0.at other h.0.from h.0.to h.0.there);
+})

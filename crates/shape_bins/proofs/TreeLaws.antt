@@ -12,7 +12,7 @@ use Rattle.or_geom.proofs.ListLaws.{contains_first, contains_later}
 use Rattle.shape_bins.specs.declared.node.Node.{Node}
 use Rattle.shape_bins.specs.Leaves.{IsLeafNode, AreLeafNodes, IsOverLeaves, IsTreeAdded}
 use Rattle.shape_bins.specs.Nodes.{IsInHull, IsNodeOver, AreNodes, AreNodesFrom, position_at}
-use Rattle.shape_bins.specs.Places.{AllBetween}
+use Rattle.shape_bins.specs.Places.{AllBetween, AllAtLeast}
 
 holds_all : (outer mid inner : Rect) → HoldsRect outer mid → HoldsRect mid inner → HoldsRect outer inner
 holds_all outer mid inner a b = record { left = omega (arith, ints, a.left, b.left); right = omega (arith, ints, a.right, b.right); low = omega (arith, ints, a.low, b.low); high = omega (arith, ints, a.high, b.high) }
@@ -62,6 +62,17 @@ leaves_held shapes places layer begin end [] hull on holds a at place above belo
 leaves_held shapes places layer begin end (x ∷ xs) hull on holds a at place above below there = elim (cases_lt at x.end) [
   | inl lt ↦ held_wider shapes hull x.hull place (a.0.on ∙ sym on) (holds x (contains_first x xs)) (a.0.over.held at place (omega (arith, above, a.0.begins)) lt there)
   | inr ge ↦ leaves_held shapes places layer x.end end xs hull on (λ leaf h. holds leaf (contains_later x xs leaf h)) a.1 at place ge below there
+]
+
+-- what is no greater than the least places of all leaves is no greater than each place
+pub leaves_least : (shapes : List Shape) (places : List ℕ) (layer begin end least : ℕ) (xs : List Node) → ((leaf : Node) → Contains xs leaf → least ≤ leaf.least) → AreLeafNodes shapes places layer begin end xs → AllAtLeast least places begin end
+leaves_least shapes places layer begin end least [] all a at place above below there = absurd (omega (arith, above, below, a))
+leaves_least shapes places layer begin end least (x ∷ xs) all a at place above below there = elim (cases_lt at x.end) [
+  | inl lt ↦
+      let first = all x (contains_first x xs) in
+      let here = a.0.over.least at place (omega (arith, above, a.0.begins)) lt there in
+      omega (arith, first, here)
+  | inr ge ↦ leaves_least shapes places layer x.end end least xs (λ leaf h. all leaf (contains_later x xs leaf h)) a.1 at place ge below there
 ]
 
 -- nodes one after another
@@ -140,6 +151,7 @@ over_leaves shapes places layer begin end leaves node some o a =
       rises = omega (arith, first, last, rise);
       within = omega (arith, last, within);
       held = λ at place above below there. leaves_held shapes places layer begin end leaves node.hull (o.on shapes places layer begin end a) o.holds a at place (omega (arith, above, first)) (omega (arith, below, last)) there;
+      least = λ at place above below there. leaves_least shapes places layer begin end node.least leaves o.least a at place (omega (arith, above, first)) (omega (arith, below, last)) there;
     }
 
 -- a tree is added by adding its only leaf
@@ -183,6 +195,18 @@ holds_goes_on leaves k old new item there first wider here j leaf below at = eli
       subst (λ (n : Node). HoldsRect new n.hull.rect) (same_Some item leaf (sym there ∙ subst (λ (i : ℕ). slice_get leaves i ≡ Some leaf) same at)) here
 ]
 
+-- no least place of the first leaves is less
+abbrev pub IsLeastOfFirst : List Node → ℕ → ℕ → Type 0
+IsLeastOfFirst leaves k least = (j : ℕ) (leaf : Node) → j < k → slice_get leaves j ≡ Some leaf → least ≤ leaf.least
+
+pub least_goes_on : (leaves : List Node) (k old new : ℕ) (item : Node) → slice_get leaves k ≡ Some item → IsLeastOfFirst leaves k old → new ≤ old → new ≤ item.least → IsLeastOfFirst leaves (k + 1) new
+least_goes_on leaves k old new item there first less here j leaf below at = elim (cases_lt j k) [
+  | inl before ↦ let le = first j leaf before at in omega (arith, less, le)
+  | inr more ↦
+      let same : j ≡ k = omega (arith, more, below) in
+      subst (λ (n : Node). new ≤ n.least) (same_Some item leaf (sym there ∙ subst (λ (i : ℕ). slice_get leaves i ≡ Some leaf) same at)) here
+]
+
 last_end : (shapes : List Shape) (places : List ℕ) (layer begin end : ℕ) (leaves : List Node) (other : Node) → 0 < length leaves → AreLeafNodes shapes places layer begin end leaves → (get_or leaves (length leaves - 1) other).end ≡ end
 last_end shapes places layer begin end [] other some a = absurd (omega (arith, some))
 last_end shapes places layer begin end (x ∷ []) other some a = a.1
@@ -196,9 +220,9 @@ first_of shapes places layer begin end (x ∷ xs) node is a =
     let e : x ≡ node = same_Some x node is in
     (subst (λ (n : Node). n.first ≡ begin) e a.0.begins, subst (λ (n : Node). n.hull.layer ≡ layer) e a.0.on)
 
-pub over_made : (leaves : List Node) (first other : Node) (rect : Rect) (k size : ℕ) → 0 < length leaves → slice_get leaves 0 ≡ Some first → length leaves ≤ k → HoldsFirst leaves k rect → size + 1 ≡ 2 * length leaves
-    → IsOverLeaves leaves (record { hull = record { layer = first.hull.layer; rect = rect }; size = size; first = first.first; end = (get_or leaves (length leaves - 1) other).end })
-over_made leaves first other rect k size some at all holds sized = record {
+pub over_made : (leaves : List Node) (first other : Node) (rect : Rect) (k least size : ℕ) → 0 < length leaves → slice_get leaves 0 ≡ Some first → length leaves ≤ k → HoldsFirst leaves k rect → IsLeastOfFirst leaves k least → size + 1 ≡ 2 * length leaves
+    → IsOverLeaves leaves (record { hull = record { layer = first.hull.layer; rect = rect }; size = size; first = first.first; end = (get_or leaves (length leaves - 1) other).end; least = least })
+over_made leaves first other rect k least size some at all holds lower sized = record {
   sized = sized;
   on = λ shapes places layer begin end a. (first_of shapes places layer begin end leaves first at a).1;
   begins = λ shapes places layer begin end a. (first_of shapes places layer begin end leaves first at a).0;
@@ -206,17 +230,25 @@ over_made leaves first other rect k size some at all holds sized = record {
   holds = λ leaf h.
       let lt = h.1 in
       holds h.0 leaf (omega (arith, lt, all)) (slice_get-get_or leaves h.0 leaf lt ∙ ap (λ (n : Node). Some n) h.2);
+  least = λ leaf h.
+      let lt = h.1 in
+      lower h.0 leaf (omega (arith, lt, all)) (slice_get-get_or leaves h.0 leaf lt ∙ ap (λ (n : Node). Some n) h.2);
 }
 
 -- a leaf
-pub leaf_made : (shapes : List Shape) (places : List ℕ) (layer first end at : ℕ) (rect : Rect) → first < end → end ≤ length places → end ≤ at → AllBetween (IsInHull shapes (record { layer = layer; rect = rect })) places first at
-    → IsLeafNode shapes places layer first end (record { hull = record { layer = layer; rect = rect }; size = 1; first = first; end = end })
-leaf_made shapes places layer first end at rect some within past held = record {
+pub leaf_made : (shapes : List Shape) (places : List ℕ) (layer first end at least : ℕ) (rect : Rect) → first < end → end ≤ length places → end ≤ at → AllBetween (IsInHull shapes (record { layer = layer; rect = rect })) places first at
+    → AllAtLeast least places first at → IsLeafNode shapes places layer first end (record { hull = record { layer = layer; rect = rect }; size = 1; first = first; end = end; least = least })
+leaf_made shapes places layer first end at least rect some within past held lower = record {
   single = refl;
   begins = refl;
   ends = refl;
   on = refl;
-  over = record { rises = omega (arith, some); within = within; held = λ k place above below there. held k place above (omega (arith, below, past)) there };
+  over = record {
+    rises = omega (arith, some);
+    within = within;
+    held = λ k place above below there. held k place above (omega (arith, below, past)) there;
+    least = λ k place above below there. lower k place above (omega (arith, below, past)) there;
+  };
 }
 
 pub held_here : (shapes : List Shape) (layer place : ℕ) (rect : Rect) (shape : Shape) → slice_get shapes place ≡ Some shape → shape.layer ≡ layer → HoldsRect rect shape.rect → IsInHull shapes (record { layer = layer; rect = rect }) place
@@ -238,6 +270,22 @@ held_goes_on shapes places layer first at old new shape there on wider here held
   | inr more ↦
       let same : k ≡ at = omega (arith, more, below) in
       held_here shapes layer place new shape (there place (subst (λ (j : ℕ). slice_get places j ≡ Some place) same is)) on here
+]
+
+-- the place at one position, and the lesser of a bound and the place at the next
+pub least_begins : (places : List ℕ) (first least : ℕ) → slice_get places first ≡ Some least → AllAtLeast least places first (first + 1)
+least_begins places first least there at place above below is =
+    let same : at ≡ first = omega (arith, above, below) in
+    let e = same_Some least place (sym there ∙ subst (λ (k : ℕ). slice_get places k ≡ Some place) same is) in
+    omega (arith, e)
+
+pub lower_goes_on : (places : List ℕ) (first at old new here : ℕ) → slice_get places at ≡ Some here → new ≤ old → new ≤ here → AllAtLeast old places first at → AllAtLeast new places first (at + 1)
+lower_goes_on places first at old new here there less below_here all k place above below is = elim (cases_lt k at) [
+  | inl before ↦ let le = all k place above before is in omega (arith, less, le)
+  | inr more ↦
+      let same : k ≡ at = omega (arith, more, below) in
+      let e = same_Some here place (sym there ∙ subst (λ (j : ℕ). slice_get places j ≡ Some place) same is) in
+      omega (arith, e, below_here)
 ]
 
 pub only_leaf : (leaves : List Node) (other : Node) → length leaves ≡ 1 → leaves ≡ get_or leaves 0 other ∷ []

@@ -10,7 +10,7 @@ use Rattle.or_geom.specs.Containing.{HoldsRect}
 use Rattle.or_geom.specs.Adds.{Adds}
 use Rattle.or_geom.specs.Joined.{IsIn}
 use Rattle.or_geom.proofs.AddsLaws.{adds_as}
-use Rattle.shape_bins.specs.declared.forest.Placed.{Placed}
+use Rattle.shape_bins.specs.declared.forest.IndexedShape.{IndexedShape}
 use Rattle.shape_bins.specs.declared.node.Node.{Node}
 use Rattle.shape_bins.specs.declared.query.Query.{Query}
 use Rattle.shape_bins.specs.declared.query.Query.TheVariants.{Meets, MeetsOutside, Joins, Overlaps, At, Holds}
@@ -80,10 +80,10 @@ near_none shapes places layer query node over none place h =
     none (record { on = sym held.on ∙ on; fits = fits_outer query node.hull.rect held.shape.rect held.holds fits })
 
 -- a shape that is placed is looked for if its rectangle is
-pub placed_hit : (shapes : List Shape) (places : List ℕ) (layer at : ℕ) (query : Query) (placed : Placed) → IsListedAt shapes places layer at placed → FitsQuery query placed.shape.rect → IsHit shapes layer query placed.place
+pub placed_hit : (shapes : List Shape) (places : List ℕ) (layer at : ℕ) (query : Query) (placed : IndexedShape) → IsListedAt shapes places layer at placed → FitsQuery query placed.shape.rect → IsHit shapes layer query placed.place
 placed_hit shapes places layer at query placed is fits = record { shape = placed.shape; there = is.there; on = is.on; fits = fits }
 
-pub placed_no_hit : (shapes : List Shape) (places : List ℕ) (layer at : ℕ) (query : Query) (placed : Placed) → IsListedAt shapes places layer at placed → (FitsQuery query placed.shape.rect → ⊥) → IsHit shapes layer query placed.place → ⊥
+pub placed_no_hit : (shapes : List Shape) (places : List ℕ) (layer at : ℕ) (query : Query) (placed : IndexedShape) → IsListedAt shapes places layer at placed → (FitsQuery query placed.shape.rect → ⊥) → IsHit shapes layer query placed.place → ⊥
 placed_no_hit shapes places layer at query placed is none hit =
     none (subst (λ (s : Shape). FitsQuery query s.rect) (same_Some hit.shape placed.shape (sym hit.there ∙ is.there)) hit.fits)
 

@@ -37,7 +37,7 @@ pub record GivesBetween (P : ℕ → Type 0) (places : List ℕ) (first end numb
   pub gives : GivesNumber P number old new before after
   pub all : (place : ℕ) → HasBetween P places first end place → HasNumber new place
 
--- of the node's layer
+-- shapes of the node's layer that are looked for were given the number, among them all at and below the node that had none
 abbrev pub GivesBelow : Forest → Node → WantedShapes → List (Option ℕ) → List (Option ℕ) → List ℕ → List ℕ → Type 0
 GivesBelow forest node wanted =
     GivesBetween (IsHit forest.shapes.now node.hull.layer wanted.query) forest.places.now node.first node.end wanted.number

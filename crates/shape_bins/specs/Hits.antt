@@ -3,7 +3,7 @@ use Rattle.std.specs.Prelude.{◌≡◌, ℕ, ◌≤◌, List, slice_get, Some}
 use Rattle.or_geom.specs.declared.shape.Rect.{Rect}
 use Rattle.or_geom.specs.declared.shape.Shape.{Shape}
 use Rattle.shape_bins.specs.declared.forest.Forest.{Forest}
-use Rattle.shape_bins.specs.declared.forest.Placed.{Placed}
+use Rattle.shape_bins.specs.declared.forest.IndexedShape.{IndexedShape}
 use Rattle.shape_bins.specs.declared.node.Node.{Node}
 use Rattle.shape_bins.specs.declared.query.Query.{Query}
 use Rattle.shape_bins.specs.declared.query.Query.TheVariants.{Meets}
@@ -17,19 +17,20 @@ pub record IsHit (shapes : List Shape) (layer : ℕ) (query : Query) (place : �
   pub on : shape.layer ≡ layer
   pub fits : FitsQuery query shape.rect
 
--- a shape with its place
-abbrev pub IsHitOf : List Shape → ℕ → Query → Placed → Type 0
-IsHitOf shapes layer query placed = IsHit shapes layer query placed.place
+-- the shape at its place is one that is looked for
+abbrev pub IsHitOf : List Shape → ℕ → Query → IndexedShape → Type 0
+IsHitOf shapes layer query found = IsHit shapes layer query found.place
 
--- at a place from there on
+-- it is such a shape, and the place is at least `from`
 pub record IsHitFrom (shapes : List Shape) (layer : ℕ) (query : Query) (from : ℕ) (place : ℕ) : Type 0 where
   pub from_there : from ≤ place
   pub hit : IsHit shapes layer query place
 
--- and its place is one of the node's
+-- the place stands between the node's positions, and the shape there is of the node's layer and is one that is looked for
 abbrev pub IsHitBelow : Forest → Node → Query → ℕ → Type 0
 IsHitBelow forest node query = HasBetween (IsHit forest.shapes.now node.hull.layer query) forest.places.now node.first node.end
 
+-- and the place is at least `from`
 abbrev pub IsHitBelowFrom : Forest → Node → Query → ℕ → ℕ → Type 0
 IsHitBelowFrom forest node query from = HasBetween (IsHitFrom forest.shapes.now node.hull.layer query from) forest.places.now node.first node.end
 

@@ -12,6 +12,7 @@ pub record IsLeastWith (before : Option ℕ) (P : ℕ → Type 0) (found : Optio
   pub below : (other : ℕ) → before ≡ Some other → IsAtMost found other
   pub least : (other : ℕ) → P other → IsAtMost found other
 
+-- the lesser of the place and of the one that was found, if one was
 pub record IsLesser (found : Option ℕ) (place lesser : ℕ) : Type 0 where
   pub below : lesser ≤ place
   pub before : IfSome found (λ other. lesser ≤ other)

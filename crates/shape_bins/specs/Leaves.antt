@@ -1,5 +1,5 @@
 -- Leaves, and the trees that are put together over them.
-use Rattle.std.specs.Prelude.{◌≡◌, ℕ, ◌+◌, ◌*◌, List, [], ◌∷◌, ◌++◌, length, slice_get, Some, Contains}
+use Rattle.std.specs.Prelude.{◌≡◌, ℕ, ◌+◌, ◌*◌, ◌≤◌, List, [], ◌∷◌, ◌++◌, length, slice_get, Some, Contains}
 use Rattle.or_geom.specs.declared.shape.Shape.{Shape}
 use Rattle.or_geom.specs.Containing.{HoldsRect}
 use Rattle.shape_bins.specs.declared.node.Node.{Node}
@@ -31,6 +31,7 @@ pub record IsOverLeaves (leaves : List Node) (node : Node) : Type 0 where
   pub begins : (shapes : List Shape) (places : List ℕ) (layer begin end : ℕ) → AreLeafNodes shapes places layer begin end leaves → node.first ≡ begin
   pub ends : (shapes : List Shape) (places : List ℕ) (layer begin end : ℕ) → AreLeafNodes shapes places layer begin end leaves → node.end ≡ end
   pub holds : (leaf : Node) → Contains leaves leaf → HoldsRect node.hull.rect leaf.hull.rect
+  pub least : (leaf : Node) → Contains leaves leaf → node.least ≤ leaf.least
 
 -- the tree over the leaves was added
 pub record IsTreeAdded (leaves old new : List Node) : Type 0 where

@@ -12,6 +12,7 @@ pub record IsOutside (area held r : Rect) : Type 0 where
   pub meets : Meet r area
   pub outside : HoldsRect held r → ⊥
 
+-- a shape with this rectangle is one that the query looks for
 abbrev pub FitsQuery : Query → Rect → Type 0
 FitsQuery (Meets area) r = Meet r area
 FitsQuery (MeetsOutside area held) r = IsOutside area held r

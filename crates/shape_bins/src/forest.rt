@@ -17,21 +17,21 @@ pub struct Forest<'b> {
 
 /// A shape and its place.
 #[derive(Clone, Copy)]
-pub struct Placed {
+pub struct IndexedShape {
     pub place: usize,
     pub shape: Shape,
 }
 
 /// The shape whose place stands at the position, which is one of the node's.
 #[inline(always)]
-pub fn placed_at(forest: Forest<'_>, _node: Node, at: usize) -> Placed
+pub fn placed_at(forest: Forest<'_>, _node: Node, at: usize) -> IndexedShape
     requires over { IsNodeOver forest.shapes.now forest.places.now _node }
     requires from { _node.first ≤ at }
     requires to { at < _node.end }
     ensures { IsListedAt forest.entry.shapes.now forest.entry.places.now _node.hull.layer at result }
 {
     let place = forest.places[at] as usize;
-    Placed {
+    IndexedShape {
         place,
         shape: forest.shapes[place],
     }

@@ -50,7 +50,7 @@ fn give_leaf(
     ensures kept { KeepsNumbers given.old given.new }
     ensures gives { OnOk result (GivesBelow forest.entry leaf wanted given.old given.new out.old.items out.new.items) }
 {
-    for at in leaf.first..leaf.end {
+    for at in leaf.first as usize..leaf.end as usize {
         let placed = placed_at(forest, leaf, at);
         if fits(wanted.query, placed.shape.rect) {
             give_one(placed.place, wanted.number, given, out)?;
@@ -65,7 +65,7 @@ fn is_leaf_full(forest: Forest<'_>, given: &[Option<u32>], leaf: Node) -> bool
     requires sized { length given.now ≡ length forest.shapes.now }
     ensures { IsTrue result → AreNumbered forest.entry.places.now given.now leaf.first leaf.end }
 {
-    for at in leaf.first..leaf.end {
+    for at in leaf.first as usize..leaf.end as usize {
         let placed = placed_at(forest, leaf, at);
         if given[placed.place].is_none() {
             return false;
@@ -74,7 +74,7 @@ fn is_leaf_full(forest: Forest<'_>, given: &[Option<u32>], leaf: Node) -> bool
     true
 }
 
-/// Whether all nodes below this one, which is no leaf, are known to be full.
+/// Whether the children of this node, which is no leaf, are marked as full.
 fn is_full(forest: Forest<'_>, _given: &[Option<u32>], full: &[bool], at: usize) -> bool
     requires forest { IsForest forest }
     requires inside { at < length forest.nodes.now }

@@ -10,8 +10,8 @@ use or_geom::Memory;
 use std::alloc::Global;
 use std::marker::Model;
 
-/// Numbers for the shapes of bins, as of the nets that they are on. Which parts of the trees have no shape without a
-/// number is remembered, so that a shape with a number is hardly looked at again.
+/// A number or none for each shape of the bins, as of the net that it is on. A node of the trees is marked when all
+/// shapes at and below it are seen to have numbers, and `give` passes over the marked ones.
 #[derive(Drop)]
 pub struct ShapeNumbers<'b> {
     forest: Forest<'b>,

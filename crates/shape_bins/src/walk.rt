@@ -5,10 +5,10 @@ ghost use Rattle.or_geom.specs.Row.{IsFound};
 ghost use Rattle.shape_bins.specs.Forest.{IsForest};
 ghost use Rattle.shape_bins.specs.Hits.{IsHit, IsHitOf, IsHitBelow, IsHitBelowFrom, NoHitFrom, IsFirstHit};
 ghost use Rattle.shape_bins.specs.Layers.{rects_on};
-ghost use Rattle.shape_bins.specs.Least.{IsLeastWith, IsLesser};
+ghost use Rattle.shape_bins.specs.Least.{IsAtMost, IsLeastWith, IsLesser};
 ghost use Rattle.shape_bins.specs.Nodes.{IsNodeNear, IsNodeOver};
 
-use crate::forest::{Forest, Placed, placed_at};
+use crate::forest::{Forest, IndexedShape, placed_at};
 use crate::node::Node;
 use crate::query::{Query, fits};
 use or_geom::{Memory, Point, Rect};
@@ -31,7 +31,7 @@ fn add_of_leaf(
     requires { IsNodeOver forest.shapes.now forest.places.now leaf }
     ensures { OnOk result (Adds out.old.items out.new.items (IsHitBelow forest.entry leaf query)) }
 {
-    for at in leaf.first..leaf.end {
+    for at in leaf.first as usize..leaf.end as usize {
         let placed = placed_at(forest, leaf, at);
         if fits(query, placed.shape.rect) {
             out.push(placed.place)?;
@@ -90,7 +90,7 @@ fn least_of_leaf(
     ensures { IsLeastWith before (IsHitBelowFrom forest.entry leaf query from) result }
 {
     let mut found = before;
-    for at in leaf.first..leaf.end {
+    for at in leaf.first as usize..leaf.end as usize {
         let placed = placed_at(forest, leaf, at);
         if placed.place < from {
             continue;
@@ -102,7 +102,19 @@ fn least_of_leaf(
     found
 }
 
-/// The least place, at least `from`, of a shape of the layer that is looked for.
+/// Whether a place was found that is no greater than this one.
+#[inline(always)]
+fn is_at_most(found: Option<usize>, place: u32) -> bool
+    ensures { IsTrue result ↔ IsAtMost found place }
+{
+    match found {
+        Some(other) => other <= place as usize,
+        None => false,
+    }
+}
+
+/// The least place, at least `from`, of a shape of the layer that is looked for. Passes over a node if no place of its
+/// shapes is less than the one found so far: so shapes that lie on one another aren't all looked at.
 pub fn least_near(forest: Forest<'_>, layer: u16, query: Query, from: usize) -> Option<usize>
     requires { IsForest forest }
     ensures { MatchOption result (NoHitFrom forest.entry.shapes.now layer query from)
@@ -113,7 +125,7 @@ pub fn least_near(forest: Forest<'_>, layer: u16, query: Query, from: usize) -> 
     let end = forest.nodes.len();
     while at < end {
         let node = forest.nodes[at];
-        if !is_wanted(node, layer, query) {
+        if is_at_most(found, node.least) || !is_wanted(node, layer, query) {
             at += node.size;
             continue;
         }
@@ -131,7 +143,7 @@ fn some_of_leaf(forest: Forest<'_>, leaf: Node, query: Query) -> Option<usize>
     ensures { MatchOption result ((place : ℕ) → IsHitBelow forest.entry leaf query place → ⊥)
         (IsHit forest.entry.shapes.now leaf.hull.layer query) }
 {
-    for at in leaf.first..leaf.end {
+    for at in leaf.first as usize..leaf.end as usize {
         let placed = placed_at(forest, leaf, at);
         if fits(query, placed.shape.rect) {
             return Some(placed.place);
@@ -171,7 +183,7 @@ fn area_of(rect: Rect) -> u64 {
 }
 
 /// Whether a rectangle is larger than that of the shape found before.
-fn is_larger(rect: Rect, found: Option<Placed>) -> bool {
+fn is_larger(rect: Rect, found: Option<IndexedShape>) -> bool {
     let Some(before) = found else {
         return true;
     };
@@ -179,7 +191,7 @@ fn is_larger(rect: Rect, found: Option<Placed>) -> bool {
 }
 
 /// The larger one of a shape and one found before.
-fn larger(found: Option<Placed>, placed: Placed) -> Placed
+fn larger(found: Option<IndexedShape>, placed: IndexedShape) -> IndexedShape
     ensures { (result ≡ placed) ⊎ (found ≡ Some result) }
 {
     let Some(before) = found else {
@@ -196,14 +208,14 @@ fn largest_of_leaf(
     forest: Forest<'_>,
     leaf: Node,
     query: Query,
-    before: Option<Placed>,
-) -> Option<Placed>
+    before: Option<IndexedShape>,
+) -> Option<IndexedShape>
     requires { IsNodeOver forest.shapes.now forest.places.now leaf }
     ensures { IfSome before (IsHitOf forest.entry.shapes.now leaf.hull.layer query) → IfSome result
         (IsHitOf forest.entry.shapes.now leaf.hull.layer query) }
 {
     let mut found = before;
-    for at in leaf.first..leaf.end {
+    for at in leaf.first as usize..leaf.end as usize {
         let placed = placed_at(forest, leaf, at);
         if !fits(query, placed.shape.rect) {
             continue;
@@ -218,7 +230,7 @@ pub fn largest_near(forest: Forest<'_>, layer: u16, query: Query) -> Option<usiz
     requires { IsForest forest }
     ensures { IfSome result (IsHit forest.entry.shapes.now layer query) }
 {
-    let mut found: Option<Placed> = None;
+    let mut found: Option<IndexedShape> = None;
     let mut at = 0;
     let end = forest.nodes.len();
     while at < end {

@@ -8,6 +8,11 @@ pub leaves_over-requires-clause-on : goal.leaves_over-requires-clause-on
 leaves_over-requires-clause-on c = rw c.deref.ensures.value (added_on c.args.shapes.now c.layer_at-layer.result c.loop-begin.begin c.run_end-end.result c.loop-begin.places.items c.add_order.new.places.items
     c.loop-begin.invariant.forest.sized c.run_end-end.ensures c.in_ok-add_order.ensures)
 
+pub leaves_over-requires-clause-few : goal.leaves_over-requires-clause-few
+leaves_over-requires-clause-few c =
+    let sized = added_len c.loop-begin.begin c.run_end-end.result c.loop-begin.places.items c.add_order.new.places.items c.loop-begin.invariant.forest.sized (omega (arith, c.run_end-end.ensures.longer)) c.in_ok-add_order.ensures in
+    rw c.deref.ensures.value (omega (arith, sized, c.run_end-end.ensures.within, c.requires))
+
 pub loop-begin-preserved : goal.loop-begin-preserved
 loop-begin-preserved c =
     let rise : c.loop-begin.begin ≤ c.run_end-end.result = omega (arith, c.run_end-end.ensures.longer) in

@@ -1,6 +1,6 @@
 use Rattle.std.proofs.Common.{ℕ, Option, length, subst, sym, arith}
 use Rattle.std.specs.Prelude.{IfSome}
-use Rattle.shape_bins.specs.declared.forest.Placed.{Placed}
+use Rattle.shape_bins.specs.declared.forest.IndexedShape.{IndexedShape}
 use Rattle.shape_bins.specs.Hits.{IsHitOf}
 use Rattle.shape_bins.proofs.NodeLaws.{node_read}
 use Rattle.shape_bins.proofs.walk.largest_near.Goals as goal
@@ -33,7 +33,7 @@ loop-at-preserved c = record {
     | then-node-eq1 w ↦
       let near = c.is_wanted.ensures.0 c.if-not-is_wanted.false in
       let leaf = subst (λ (layer : ℕ). IfSome c.loop-at.found (IsHitOf c.args.forest.shapes.now layer c.args.query) → IfSome w.largest_of_leaf-found.result (IsHitOf c.args.forest.shapes.now layer c.args.query)) near.on w.largest_of_leaf-found.ensures in
-      subst (λ (o : Option Placed). IfSome o (IsHitOf c.args.forest.shapes.now c.args.layer c.args.query)) (sym w.found-is) (leaf c.loop-at.invariant.hit)
-    | else-node-eq1 w ↦ subst (λ (o : Option Placed). IfSome o (IsHitOf c.args.forest.shapes.now c.args.layer c.args.query)) (sym w.found-is) c.loop-at.invariant.hit
+      subst (λ (o : Option IndexedShape). IfSome o (IsHitOf c.args.forest.shapes.now c.args.layer c.args.query)) (sym w.found-is) (leaf c.loop-at.invariant.hit)
+    | else-node-eq1 w ↦ subst (λ (o : Option IndexedShape). IfSome o (IsHitOf c.args.forest.shapes.now c.args.layer c.args.query)) (sym w.found-is) c.loop-at.invariant.hit
   ];
 }
