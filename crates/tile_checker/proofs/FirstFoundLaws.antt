@@ -57,7 +57,7 @@ pub rule_first : (number : ℕ) (rule : Rule) (shapes : List Shape) (tile : Rect
 rule_first number rule shapes tile places n kept now are le a =
     first_with_as kept now (SomeBelow (IsFromIndex number rule shapes tile places) n) (IsViolationIn number rule shapes tile) (λ v b. b.has.from.is)
     (λ v w.
-    let l = are.each v.first v.second w.violation.first w.violation.breaks w.owned in
+    let l = are.each v.first v.second w.violation.first w.violation.second w.violation.breaks w.owned in
     let p = place_of places l.place l.among in
     record { index = p.0; below = omega (arith, le, slice_get_within places p.0 l.place p.1); has = record { place = l.place; stands = p.1; from = record { at = l.there; is = w } } })
     a

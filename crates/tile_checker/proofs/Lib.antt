@@ -5,6 +5,7 @@ mod ReportLaws
 mod ViolationLaws
 mod UnjoinedLaws
 mod TileLaws
+mod LayerLaws
 mod OwnerLaws
 mod ShareLaws
 mod NearLaws

@@ -1,5 +1,5 @@
 -- Which shapes a tile has to look at, so that it finds all that it owns.
-use Rattle.std.proofs.Common.{◌≡◌, inl, inr, ℕ, ◌<◌, List, [], length, ℤ, pos, ◌≤ℤ◌, ◌+ℤ◌, ◌-ℤ◌, Option, Some, None, refl, sym, ap, subst, ◌∙◌, arith, ◌↔◌}
+use Rattle.std.proofs.Common.{◌≡◌, ℕ, ◌<◌, List, [], length, ℤ, pos, ◌≤ℤ◌, ◌+ℤ◌, ◌-ℤ◌, Option, Some, None, refl, sym, ap, subst, ◌∙◌, arith, ◌↔◌}
 use Rattle.std.specs.Prelude.{All, Contains, slice_get}
 use Rattle.std.specs.Int.{int_max, int_min}
 use Rattle.std.proofs.lemmas.Int.{ints, clamps}
@@ -11,7 +11,7 @@ use Rattle.or_geom.specs.Adds.{Adds}
 use Rattle.or_geom.specs.Gathering.{SomeGives}
 use Rattle.or_geom.specs.Covered.{HasCell}
 use Rattle.or_geom.proofs.ListLaws.{contained_at}
-use Rattle.or_geom.proofs.AddsLaws.{adds_none, adds_as, adds_both}
+use Rattle.or_geom.proofs.AddsLaws.{adds_none, adds_as}
 use Rattle.or_geom.proofs.GatheringLaws.{giver, gives_some}
 use Rattle.tech_rules.specs.declared.tech.Rule.{Rule}
 use Rattle.tech_rules.specs.declared.tech.Rule.TheVariants.{Width, Space, Enclose}
@@ -23,9 +23,10 @@ use Rattle.tile_checker.specs.Minimum.{IsMinimum, HasMinimum}
 use Rattle.tile_checker.specs.Breaks.{AreNear, Breaks, IsGrown}
 use Rattle.tile_checker.specs.RuleReport.{IsLater, IsViolation}
 use Rattle.tile_checker.specs.Firsts.{IsAt, IsFrom, ArePlaces}
-use Rattle.tile_checker.specs.Tiles.{minimum, corner, Owns, HasCorners, AreTiles, IsViolationIn, IsFoundIn, IsFromIn, IsFromPlace, IsListed, IsNearOnSome, AreFirstPlaces}
+use Rattle.tile_checker.specs.Tiles.{minimum, corner, Owns, HasCorners, AreTiles, IsViolationIn, IsFoundIn, IsFromIn, IsFromPlace, IsListed, AreFirstPlaces}
 use Rattle.tile_checker.proofs.AloneLaws.{IsForOne}
 use Rattle.tile_checker.proofs.NearLaws.{near_meets}
+use Rattle.tile_checker.proofs.LayerLaws.{lesser, on_lesser}
 use Rattle.tile_checker.proofs.PlaceLaws.{place_of}
 use Rattle.tile_checker.proofs.TileLaws.{cell_tile}
 use Rattle.tile_checker.proofs.PlaceLaws.{adds_all}
@@ -73,7 +74,7 @@ pub rule_found : (number : ℕ) (rule : Rule) (shapes : List Shape) (tile : Rect
 rule_found number rule shapes tile firsts old new are a =
     adds_as old new (SomeGives (IsFromPlace number rule shapes tile) firsts) (IsViolationIn number rule shapes tile)
     (λ v g. let r = giver (IsFromPlace number rule shapes tile) firsts v g in r.2.is)
-    (λ v w. let l = are.each v.first v.second w.violation.first w.violation.breaks w.owned in
+    (λ v w. let l = are.each v.first v.second w.violation.first w.violation.second w.violation.breaks w.owned in
     gives_some (IsFromPlace number rule shapes tile) firsts v l.place l.among (record { at = l.there; is = w }))
     a
 
@@ -128,7 +129,7 @@ width_each layer min shapes tile places hits a None h breaks owned = near_listed
 width_each layer min shapes tile places hits a (Some b) h breaks owned = absurd breaks
 
 pub width_firsts : (layer : ℕ) (min : ℤ) (shapes : List Shape) (tile : Rect) (places : List ℕ) → ArePlaces shapes places → AreListed shapes layer tile places → AreFirstPlaces (Width layer min) shapes tile places
-width_firsts layer min shapes tile places are hits = record { inside = are; each = width_each layer min shapes tile places hits }
+width_firsts layer min shapes tile places are hits = record { inside = are; each = λ a b h later. width_each layer min shapes tile places hits a b h }
 
 enclose_each : (layer : ℕ) (by : List ℕ) (min : ℤ) (shapes : List Shape) (tile : Rect) (places : List ℕ) → AreListed shapes layer tile places → (a : Shape) (b : Option Shape) → Contains shapes a → Breaks (Enclose layer by min) shapes a b
     → Owns tile (Enclose layer by min) a b → IsListed shapes places a
@@ -136,7 +137,7 @@ enclose_each layer by min shapes tile places hits a None h breaks owned = near_l
 enclose_each layer by min shapes tile places hits a (Some b) h breaks owned = absurd breaks
 
 pub enclose_firsts : (layer : ℕ) (by : List ℕ) (min : ℤ) (shapes : List Shape) (tile : Rect) (places : List ℕ) → ArePlaces shapes places → AreListed shapes layer tile places → AreFirstPlaces (Enclose layer by min) shapes tile places
-enclose_firsts layer by min shapes tile places are hits = record { inside = are; each = enclose_each layer by min shapes tile places hits }
+enclose_firsts layer by min shapes tile places are hits = record { inside = are; each = λ a b h later. enclose_each layer by min shapes tile places hits a b h }
 
 pub grown_of : (min : ℤ) (r : Rect) → pos 1 ≤ℤ min → (g : Rect) × IsGrown min r g
 grown_of min r some =
@@ -144,20 +145,16 @@ grown_of min r some =
     let h = r.tall in
     (record { x1 = r.x1 -ℤ min; y1 = r.y1 -ℤ min; x2 = r.x2 +ℤ min; y2 = r.y2 +ℤ min; wide = omega (arith, ints, w, some); tall = omega (arith, ints, h, some) }, record { left = refl; right = refl; low = refl; high = refl })
 
-space_each : (layer other : ℕ) (min : ℤ) (shapes : List Shape) (tile area : Rect) (places : List ℕ) → pos 1 ≤ℤ min → IsGrown min tile area → AreListed shapes layer area places → AreListed shapes other area places → (a : Shape) (b : Option Shape)
-    → Contains shapes a → Breaks (Space layer other min) shapes a b → Owns tile (Space layer other min) a b → IsListed shapes places a
-space_each layer other min shapes tile area places some t one two a None h breaks owned = absurd breaks
-space_each layer other min shapes tile area places some t one two a (Some b) h breaks owned =
+space_each : (layer other : ℕ) (min : ℤ) (shapes : List Shape) (tile area : Rect) (places : List ℕ) → pos 1 ≤ℤ min → IsGrown min tile area → AreListed shapes (lesser layer other) area places → (a : Shape) (b : Option Shape) → Contains shapes a
+    → IsLater shapes a b → Breaks (Space layer other min) shapes a b → Owns tile (Space layer other min) a b → IsListed shapes places a
+space_each layer other min shapes tile area places some t hits a None h later breaks owned = absurd breaks
+space_each layer other min shapes tile area places some t hits a (Some b) h later breaks owned =
     let g = grown_of min a.rect some in
-    let meet = corner_meets min a b tile area g.0 some breaks.near t g.1 owned in
-    elim breaks.on [
-      | inl on ↦ near_listed shapes layer area places a one h on.0 meet
-      | inr on ↦ near_listed shapes other area places a two h on.0 meet
-    ]
+    near_listed shapes (lesser layer other) area places a hits h (on_lesser layer other a b breaks.on later.1) (corner_meets min a b tile area g.0 some breaks.near t g.1 owned)
 
-pub space_firsts : (layer other : ℕ) (min : ℤ) (shapes : List Shape) (tile area : Rect) (places : List ℕ) → pos 1 ≤ℤ min → IsGrown min tile area → ArePlaces shapes places → AreListed shapes layer area places → AreListed shapes other area places
+pub space_firsts : (layer other : ℕ) (min : ℤ) (shapes : List Shape) (tile area : Rect) (places : List ℕ) → pos 1 ≤ℤ min → IsGrown min tile area → ArePlaces shapes places → AreListed shapes (lesser layer other) area places
     → AreFirstPlaces (Space layer other min) shapes tile places
-space_firsts layer other min shapes tile area places some t are one two = record { inside = are; each = space_each layer other min shapes tile area places some t one two }
+space_firsts layer other min shapes tile area places some t are hits = record { inside = are; each = space_each layer other min shapes tile area places some t hits }
 
 near_places : (shapes : List Shape) (layer : ℕ) (area : Rect) (none places : List ℕ) → none ≡ [] → Adds none places (IsNearShape shapes layer area) → ArePlaces shapes places × AreListed shapes layer area places
 near_places shapes layer area none places empty a =
@@ -175,25 +172,12 @@ enclose_listed rule layer by min shapes tile none places is empty a =
     let n = near_places shapes layer tile none places empty a in
     subst (λ (r : Rule). AreFirstPlaces r shapes tile places) (sym is) (enclose_firsts layer by min shapes tile places n.0 n.1)
 
-near_some : (shapes : List Shape) (layer other : ℕ) (area : Rect) (place : ℕ) → IsNearOnSome shapes layer other area place → place < length shapes
-near_some shapes layer other area place (inl h) = near_inside shapes layer area place h
-near_some shapes layer other area place (inr h) = near_inside shapes other area place h
-
 pub space_listed : (rule : Rule) (layer other : ℕ) (min : ℤ) (shapes : List Shape) (tile area : Rect) (none places : List ℕ) → rule ≡ Space layer other min → HasMinimum rule → IsGrown min tile area → none ≡ []
-    → Adds none places (IsNearOnSome shapes layer other area) → AreFirstPlaces rule shapes tile places
+    → Adds none places (IsNearShape shapes (lesser layer other) area) → AreFirstPlaces rule shapes tile places
 space_listed rule layer other min shapes tile area none places is minimum grown empty a =
-    let all = adds_all places (IsNearOnSome shapes layer other area) (subst (λ (l : List ℕ). Adds l places (IsNearOnSome shapes layer other area)) empty a) in
+    let n = near_places shapes (lesser layer other) area none places empty a in
     let m : IsMinimum min = subst HasMinimum is minimum in
-    subst (λ (r : Rule). AreFirstPlaces r shapes tile places) (sym is)
-    (space_firsts layer other min shapes tile area places m.positive grown (λ place h. near_some shapes layer other area place ((all place).0 h)) (λ place hit. (all place).1 (inl hit)) (λ place hit. (all place).1 (inr hit)))
-
-pub both_near : (shapes : List Shape) (layer other : ℕ) (area : Rect) (old now new : List ℕ) → Adds old now (IsNearShape shapes layer area) → Adds now new (IsNearShape shapes other area) → Adds old new (IsNearOnSome shapes layer other area)
-both_near shapes layer other area old now new a b = adds_both old now new (IsNearShape shapes layer area) (IsNearShape shapes other area) a b
-
-pub one_near : (shapes : List Shape) (layer other : ℕ) (area : Rect) (old new : List ℕ) → layer ≡ other → Adds old new (IsNearShape shapes layer area) → Adds old new (IsNearOnSome shapes layer other area)
-one_near shapes layer other area old new same a =
-    adds_as old new (IsNearShape shapes layer area) (IsNearOnSome shapes layer other area) (λ place h. inl h)
-    (λ place h. elim h [ inl k ↦ k | inr k ↦ subst (λ (l : ℕ). IsNearShape shapes l area place) (sym same) k ]) a
+    subst (λ (r : Rule). AreFirstPlaces r shapes tile places) (sym is) (space_firsts layer other min shapes tile area places m.positive grown n.0 n.1)
 
 -- rules that no two shapes break
 pub width_alone : (rule : Rule) (layer : ℕ) (min : ℤ) (shapes : List Shape) → rule ≡ Width layer min → IsForOne rule shapes

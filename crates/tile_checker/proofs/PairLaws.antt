@@ -1,9 +1,10 @@
 -- The pairs that are found among the shapes near a first one.
-use Rattle.std.proofs.Common.{◌≡◌, inl, inr, ℕ, ◌<◌, ℤ, ◌-ℤ◌, List, length, Option, Some, None, refl, sym, subst, ◌∙◌}
+use Rattle.std.proofs.Common.{◌≡◌, inl, inr, ℕ, ◌<◌, ℤ, ◌-ℤ◌, List, length, Option, Some, None, refl, sym, subst, ◌∙◌, arith}
 use Rattle.std.specs.Prelude.{slice_get}
 use Rattle.std.specs.Int.{int_max}
 use Rattle.or_geom.specs.Covered.{HasCell}
 use Rattle.std.specs.List.Sorted.{IsStrictlySortedBy}
+use Rattle.std.specs.declared.cmp.Ordering.TheVariants.{Less}
 use Rattle.std.proofs.lemmas.Option.{same_Some, slice_get_within}
 use Rattle.or_geom.specs.declared.shape.Rect.{Rect}
 use Rattle.or_geom.specs.declared.shape.Shape.{Shape}
@@ -27,6 +28,7 @@ use Rattle.tile_checker.proofs.SpaceLaws.{gap_in, gap_out}
 use Rattle.tile_checker.specs.declared.first.First.{First}
 use Rattle.tile_checker.specs.Firsts.{IsAt, IsPartner, HasNoPartner, IsPartnerAt, ArePartners, ArePartnersIn}
 use Rattle.tile_checker.specs.Tiles.{Owns, IsFromIn, IsPairAt, IsPartIn}
+use Rattle.tile_checker.proofs.LayerLaws.{layers_rise}
 use Rattle.tile_checker.proofs.NearLaws.{near_meets}
 use Rattle.tile_checker.proofs.PlaceLaws.{sorted_at, later_place, place_of}
 use Rattle.tile_checker.proofs.FilledLaws.{one_box_covers}
@@ -45,16 +47,19 @@ on_partner rule a b partner (inl p) (inr on) = on.1 ∙ (sym p.0 ∙ (on.0 ∙ s
 on_partner rule a b partner (inr p) (inl on) = on.1 ∙ (sym p.0 ∙ (on.0 ∙ sym p.1))
 on_partner rule a b partner (inr p) (inr on) = on.1 ∙ sym p.1
 
-no_partner : (rule : SpaceRule) (a b : Shape) → HasNoPartner rule a.layer → AreOn rule a b → ⊥
-no_partner rule a b none (inl on) = none.0 on.0
-no_partner rule a b none (inr on) = none.1 on.0
+no_partner : (rule : SpaceRule) (a b : Shape) → HasNoPartner rule a.layer → AreOn rule a b → shape_order a b ≡ Less → ⊥
+no_partner rule a b none on less =
+    let lesser = none b.layer on in
+    let rises = layers_rise a b less in
+    omega (arith, lesser, rises)
 
-never_found : (rule : SpaceRule) (shapes : List Shape) (first : First) (v : Violation) (second : Option Shape) → HasNoPartner rule first.shape.layer → v.first ≡ first.shape → Breaks (kind rule) shapes v.first second → ⊥
-never_found rule shapes first v None none is breaks = breaks
-never_found rule shapes first v (Some b) none is breaks = no_partner rule v.first b (subst (λ (s : Shape). HasNoPartner rule s.layer) (sym is) none) breaks.on
+never_found : (rule : SpaceRule) (shapes : List Shape) (first : First) (v : Violation) (second : Option Shape) → HasNoPartner rule first.shape.layer → v.first ≡ first.shape → IsLater shapes v.first second → Breaks (kind rule) shapes v.first second → ⊥
+never_found rule shapes first v None none is later breaks = breaks
+never_found rule shapes first v (Some b) none is later breaks = no_partner rule v.first b (subst (λ (s : Shape). HasNoPartner rule s.layer) (sym is) none) breaks.on later.1
 
 pub none_found : (rule : SpaceRule) (shapes : List Shape) (tile : Rect) (first : First) (old : List Violation) → HasNoPartner rule first.shape.layer → Adds old old (IsFromIn rule.number (kind rule) shapes tile first)
-none_found rule shapes tile first old none = adds_none old (IsFromIn rule.number (kind rule) shapes tile first) (λ v f. never_found rule shapes first v v.second none f.from.of f.from.violation.breaks)
+none_found rule shapes tile first old none =
+    adds_none old (IsFromIn rule.number (kind rule) shapes tile first) (λ v f. never_found rule shapes first v v.second none f.from.of f.from.violation.second f.from.violation.breaks)
 
 pair_is : (rule : SpaceRule) (shapes : List Shape) (tile : Rect) (first : First) (places : List ℕ) (v : Violation) → IsStrictlySortedBy shape_order shapes → IsAt shapes first → SomeGives (IsPairAt rule shapes tile first) places v
     → IsFromIn rule.number (kind rule) shapes tile first v

@@ -20,12 +20,13 @@ pub record IsFrom (number : ℕ) (rule : Rule) (shapes : List Shape) (first : Fi
   pub of : v.first ≡ first.shape
   pub violation : IsViolationOf number rule shapes v
 
--- the layer whose shapes may break a space rule together with those of the first
+-- the layer whose shapes may break a space rule together with those of this layer
 abbrev pub IsPartner : SpaceRule → ℕ → ℕ → Type 0
 IsPartner rule layer partner = ((layer ≡ rule.layer) × (partner ≡ rule.other)) ⊎ ((layer ≡ rule.other) × (partner ≡ rule.layer))
 
+-- no such layer but lesser ones, whose shapes come before those of this layer
 abbrev pub HasNoPartner : SpaceRule → ℕ → Type 0
-HasNoPartner rule layer = (layer ≡ rule.layer → ⊥) × (layer ≡ rule.other → ⊥)
+HasNoPartner rule layer = (partner : ℕ) → IsPartner rule layer partner → partner < layer
 
 -- a shape stands at the place that lies with this one on the rule's layers
 pub record IsPartnerAt (rule : SpaceRule) (shapes : List Shape) (a : Shape) (place : ℕ) : Type 0 where

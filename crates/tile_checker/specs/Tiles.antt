@@ -10,13 +10,12 @@ use Rattle.tech_rules.specs.declared.tech.Rule.{Rule}
 use Rattle.tech_rules.specs.declared.tech.Rule.TheVariants.{Width, Space, Enclose}
 use Rattle.shape_bins.specs.Layers.{rects_on}
 use Rattle.shape_bins.specs.Meets.{Meet}
-use Rattle.shape_bins.specs.Hits.{IsNearShape}
 use Rattle.tile_checker.specs.declared.violation.Violation.{Violation}
 use Rattle.tile_checker.specs.declared.space.SpaceRule.{SpaceRule}
 use Rattle.tile_checker.specs.declared.first.First.{First}
 use Rattle.tile_checker.specs.Breaks.{Breaks}
 use Rattle.tile_checker.specs.Frame.{point}
-use Rattle.tile_checker.specs.RuleReport.{IsViolation}
+use Rattle.tile_checker.specs.RuleReport.{IsLater, IsViolation}
 use Rattle.tile_checker.specs.Found.{IsSpaceFound, IsViolationOf}
 use Rattle.tile_checker.specs.Firsts.{IsFrom, ArePlaces}
 
@@ -94,20 +93,16 @@ pub record IsFromPlace (number : ℕ) (rule : Rule) (shapes : List Shape) (tile 
   pub at : slice_get shapes place ≡ Some v.first
   pub is : IsViolationIn number rule shapes tile v
 
--- a shape of one of the layers, whose closed box meets the area, stands at the place
-abbrev pub IsNearOnSome : List Shape → ℕ → ℕ → Rect → ℕ → Type 0
-IsNearOnSome shapes layer other area place = IsNearShape shapes layer area place ⊎ IsNearShape shapes other area place
-
 -- the place of a shape stands in the list
 pub record IsListed (shapes : List Shape) (places : List ℕ) (a : Shape) : Type 0 where
   pub place : ℕ
   pub among : Contains places place
   pub there : slice_get shapes place ≡ Some a
 
--- the first shapes of all that breaks the rule and the tile owns stand at some of the places
+-- The first shapes of all that breaks the rule and the tile owns stand at some of the places. Of two shapes the first is the one that comes before the other.
 pub record AreFirstPlaces (rule : Rule) (shapes : List Shape) (tile : Rect) (places : List ℕ) : Type 0 where
   pub inside : ArePlaces shapes places
-  pub each : (a : Shape) (b : Option Shape) → Contains shapes a → Breaks rule shapes a b → Owns tile rule a b → IsListed shapes places a
+  pub each : (a : Shape) (b : Option Shape) → Contains shapes a → IsLater shapes a b → Breaks rule shapes a b → Owns tile rule a b → IsListed shapes places a
 
 -- what meets the rectangle so that the lower left corner of what both share lies in the tile meets the part as well
 abbrev pub IsPartIn : Rect → Rect → Rect → Type 0

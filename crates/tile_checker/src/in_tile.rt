@@ -8,7 +8,7 @@ ghost use Rattle.or_geom.specs.Reachable.{AreReachable};
 ghost use Rattle.tech_rules.specs.declared.tech.Rule.TheVariants as kind;
 ghost use Rattle.tile_checker.specs.Minimum.{HasMinimum};
 ghost use Rattle.tile_checker.specs.Firsts.{IsAt, ArePlaces};
-ghost use Rattle.tile_checker.specs.Tiles.{AreFirstPlaces, IsNearOnSome, IsFromIn, IsFromPlace, IsViolationIn};
+ghost use Rattle.tile_checker.specs.Tiles.{AreFirstPlaces, IsFromIn, IsFromPlace, IsViolationIn};
 ghost use Rattle.tile_checker.specs.WideArea.{IsSeen};
 
 use crate::enclose::{EncloseRule, add_encloses, grown};
@@ -23,24 +23,8 @@ use or_geom::{Memory, Rect};
 use shape_bins::Bins;
 use tech_rules::Rule;
 
-/// Adds the places of all shapes of the two layers that meet the area.
-fn add_of_layers(
-    bins: &Bins,
-    layer: u16,
-    other: u16,
-    area: Rect,
-    firsts: &mut Vec<usize>,
-) -> Result<(), Memory>
-    ensures { OnOk result (Adds firsts.old.items firsts.new.items (IsNearOnSome bins.now layer other area)) }
-{
-    bins.add_near(layer, area, firsts)?;
-    if layer == other {
-        return Ok(());
-    }
-    bins.add_near(other, area, firsts)
-}
-
-/// Lists the places of all first shapes of what breaks the rule and the tile owns, and perhaps of others.
+/// Lists the places of all first shapes of what breaks the rule and the tile owns, and perhaps of others. The order of
+/// shapes is first that of their layers, so the first shape of a space rule is of the lesser layer.
 pub fn list_firsts(
     bins: &Bins,
     rule: &Rule,
@@ -57,7 +41,7 @@ pub fn list_firsts(
         Rule::Enclose { layer, .. } => bins.add_near(*layer, tile, firsts),
         Rule::Space { layer, other, min } => {
             let area = grown(tile, Minimum { value: *min });
-            add_of_layers(bins, *layer, *other, area, firsts)
+            bins.add_near((*layer).min(*other), area, firsts)
         }
     }
 }

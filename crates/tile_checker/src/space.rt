@@ -45,15 +45,13 @@ fn are_near(a: Rect, b: Rect, min: Minimum) -> bool
     false
 }
 
-/// The layer whose shapes may break the rule together with a shape of this layer.
+/// The layer whose shapes may come after a shape of this layer and break the rule together with it. The order of shapes
+/// is first that of their layers, so this layer is the lesser one of the rule's.
 fn partner_of(rule: SpaceRule, layer: u16) -> Option<u16>
     ensures { MatchOption result (HasNoPartner rule layer) (IsPartner rule layer) }
 {
-    if layer == rule.layer {
-        return Some(rule.other);
-    }
-    if layer == rule.other {
-        return Some(rule.layer);
+    if layer == rule.layer.min(rule.other) {
+        return Some(rule.layer.max(rule.other));
     }
     None
 }

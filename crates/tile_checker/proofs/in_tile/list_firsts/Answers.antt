@@ -15,5 +15,5 @@ returns-in-Space c =
     let g = c.grown-area.ensures in
     on_ok_weaker _
     (λ a. space_listed c.args.rule.now _ _ c.in-Space.min c.args.bins.now c.args.tile c.grown-area.result _ _ c.in-Space.is c.requires.minimum
-    (record { left = omega (arith, ints, g.left); right = omega (arith, ints, g.right); low = omega (arith, ints, g.low); high = omega (arith, ints, g.high) }) c.clear.ensures.items a)
-    c.add_of_layers.ensures
+    (record { left = omega (arith, ints, g.left); right = omega (arith, ints, g.right); low = omega (arith, ints, g.low); high = omega (arith, ints, g.high) }) c.clear.ensures.items (rw c.min.ensures at a))
+    c.add_near-in-Space.ensures
