@@ -13,7 +13,7 @@ use Rattle.or_geom.proofs.GatheringLaws.{giver, gives_some}
 use Rattle.element_drawing.specs.PlainLabel.{PlainLabel}
 use Rattle.cell_chains.proofs.MemberLaws.{image_from}
 use Rattle.cell_hierarchy.specs.FlatSet.{IsMoved}
-use Rattle.cell_hierarchy.specs.Things.{Thing, DrawsThing, HasThing, DrawingGrows}
+use Rattle.cell_hierarchy.specs.Things.{Thing, DrawsThing, HasThing, GatheredGrows}
 use Rattle.cell_hierarchy.specs.Things.Thing.{AShape, ALabel, APoint}
 use Rattle.cell_hierarchy.specs.Placed.{path_join, IsLabelAt, LabelGives, PointGives, IsThingAt, IsOfDrawing}
 use Rattle.cell_hierarchy.specs.Plain.{plain_label}
@@ -115,7 +115,7 @@ own_each own at old new (APoint b) (AShape s) a h m = absurd m
 own_each own at old new (APoint b) (ALabel l) a h m = absurd m
 own_each own at old new (APoint b) (APoint p) a h m = adds_each old.points.items new.points.items _ p a.points (gives_some (PointGives at.place) own.points.items p b h m)
 
-pub own_grows : (own : Drawing) (at : Placement) (old new : Gathered) → AddsOwn own at old new → DrawingGrows old new (IsOfDrawing own at)
+pub own_grows : (own : Drawing) (at : Placement) (old new : Gathered) → AddsOwn own at old new → GatheredGrows old new (IsOfDrawing own at)
 own_grows own at old new a = record {
   only = λ x h. own_only own at old new x a h;
   stays = λ x h. own_stays own at old new x a h;

@@ -15,7 +15,7 @@ use Rattle.or_geom.proofs.ListLaws.{contains_none}
 use Rattle.or_geom.proofs.PlaceLaws.{same_point, same_rect}
 use Rattle.cell_chains.specs.Hierarchy.{AreCells, IsCellOf}
 use Rattle.cell_hierarchy.specs.Plain.{plain_label}
-use Rattle.cell_hierarchy.specs.Things.{Thing, IsFlatThing, HasThing, DrawingGrows}
+use Rattle.cell_hierarchy.specs.Things.{Thing, IsFlatThing, HasThing, GatheredGrows}
 use Rattle.cell_hierarchy.specs.Things.Thing.{AShape, ALabel, APoint}
 use Rattle.cell_hierarchy.specs.Placed.{IsThingAt}
 use Rattle.cell_hierarchy.specs.Parts.{IsPlacedAt, IsOfCellIn}
@@ -92,7 +92,7 @@ nothing_has nothing (ALabel l) a b c h = contains_none l (subst (λ (ls : List L
 nothing_has nothing (APoint p) a b c h = contains_none p (subst (λ (ps : List Point). Contains ps p) c h)
 
 pub top_has : (tree : Tree) (top : List ℕ) (at : Placement) (nothing gathered : Gathered) → nothing.shapes.items ≡ [] → nothing.labels.items ≡ [] → nothing.points.items ≡ [] → at.place ≡ home → at.path.now ≡ []
-    → DrawingGrows nothing gathered (IsOfCellIn tree at top) → (x : Thing) → HasThing gathered x ↔ IsFlatThing tree.layers.now tree.keeps_labels tree.structs.now top x
+    → GatheredGrows nothing gathered (IsOfCellIn tree at top) → (x : Thing) → HasThing gathered x ↔ IsFlatThing tree.layers.now tree.keeps_labels tree.structs.now top x
 top_has tree top at nothing gathered a b c there bare g x = (
   λ h. elim (g.only x h) [
     | inl old ↦ absurd (nothing_has nothing x a b c old)

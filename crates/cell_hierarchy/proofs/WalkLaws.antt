@@ -13,7 +13,7 @@ use Rattle.cell_chains.specs.declared.cell.Cell.{Cell}
 use Rattle.cell_chains.specs.Chains.{elements_of}
 use Rattle.cell_chains.specs.Hierarchy.{IsCellOf}
 use Rattle.cell_hierarchy.specs.Below.{SomeBelow}
-use Rattle.cell_hierarchy.specs.Things.{Thing, IsOwnThing, DrawingGrows}
+use Rattle.cell_hierarchy.specs.Things.{Thing, IsOwnThing, GatheredGrows}
 use Rattle.cell_hierarchy.specs.Placed.{IsOfDrawing, IsPlacedBelow}
 use Rattle.cell_hierarchy.specs.Drawings.{IsPartOf}
 use Rattle.cell_hierarchy.specs.Parts.{IsCellTree, IsPlacedAt, IsBelowAt, IsLiveAt, IsOfCellIn, IsOfElement}
@@ -102,11 +102,11 @@ pub record AtLive (tree : Tree) (index : ℕ) (at : Placement) (live : List ℕ)
 abbrev pub CellSoFar : Tree → ℕ → Placement → CellPart → ℕ → Thing → Type 0
 CellSoFar tree index at part i x = IsOfDrawing part.own at x ⊎ SomeBelow (AtLive tree index at part.live.items) i x
 
-pub so_far_begin : (tree : Tree) (index : ℕ) (at : Placement) (part : CellPart) (old now : Gathered) → DrawingGrows old now (IsOfDrawing part.own at) → DrawingGrows old now (CellSoFar tree index at part 0)
+pub so_far_begin : (tree : Tree) (index : ℕ) (at : Placement) (part : CellPart) (old now : Gathered) → GatheredGrows old now (IsOfDrawing part.own at) → GatheredGrows old now (CellSoFar tree index at part 0)
 so_far_begin tree index at part old now g =
     grows_as old now (IsOfDrawing part.own at) (CellSoFar tree index at part 0) (λ x h. inl h) (λ x h. elim h [ inl own ↦ own | inr b ↦ absurd (let lt = b.below in omega (arith, lt)) ]) g
 
-live_step : (tree : Tree) (index : ℕ) (at : Placement) (live : List ℕ) (i n : ℕ) (now next : Gathered) → i < length live → n ≡ get_or live i n → DrawingGrows now next (IsOfElement tree index at n) → DrawingGrows now next (AtLive tree index at live i)
+live_step : (tree : Tree) (index : ℕ) (at : Placement) (live : List ℕ) (i n : ℕ) (now next : Gathered) → i < length live → n ≡ get_or live i n → GatheredGrows now next (IsOfElement tree index at n) → GatheredGrows now next (AtLive tree index at live i)
 live_step tree index at live i n now next lt read g =
     let got = slice_get_read live _ i n refl lt read in
     grows_as now next (IsOfElement tree index at n) (AtLive tree index at live i) (λ x h. record { n = n; is = got; taken = h })
@@ -124,8 +124,8 @@ one_less P Q i x (inr b) = elim (below_or b.index i b.below) [
   | inr e ↦ inr (subst (λ (m : ℕ). Q m x) e b.has)
 ]
 
-pub so_far_on : (tree : Tree) (index : ℕ) (at : Placement) (part : CellPart) (i n : ℕ) (old now next : Gathered) → i < length part.live.items → n ≡ get_or part.live.items i n → DrawingGrows old now (CellSoFar tree index at part i)
-    → DrawingGrows now next (IsOfElement tree index at n) → DrawingGrows old next (CellSoFar tree index at part (i + 1))
+pub so_far_on : (tree : Tree) (index : ℕ) (at : Placement) (part : CellPart) (i n : ℕ) (old now next : Gathered) → i < length part.live.items → n ≡ get_or part.live.items i n → GatheredGrows old now (CellSoFar tree index at part i)
+    → GatheredGrows now next (IsOfElement tree index at n) → GatheredGrows old next (CellSoFar tree index at part (i + 1))
 so_far_on tree index at part i n old now next lt read f g =
     grows_as old next (λ x. CellSoFar tree index at part i x ⊎ AtLive tree index at part.live.items i x) (CellSoFar tree index at part (i + 1))
     (one_more (IsOfDrawing part.own at) (AtLive tree index at part.live.items) i) (one_less (IsOfDrawing part.own at) (AtLive tree index at part.live.items) i)
@@ -190,11 +190,11 @@ cell_of tree index at part i x le w c =
           })
     ]
 
-pub cell_done : (tree : Tree) (index : ℕ) (at : Placement) (part : CellPart) (i : ℕ) (old new : Gathered) → IsWalkedAt tree index part → length part.live.items ≤ i → DrawingGrows old new (CellSoFar tree index at part i)
-    → (name : List ℕ) → IsCellOf tree.structs.now tree.cells.now index name → DrawingGrows old new (IsOfCellIn tree at name)
+pub cell_done : (tree : Tree) (index : ℕ) (at : Placement) (part : CellPart) (i : ℕ) (old new : Gathered) → IsWalkedAt tree index part → length part.live.items ≤ i → GatheredGrows old new (CellSoFar tree index at part i)
+    → (name : List ℕ) → IsCellOf tree.structs.now tree.cells.now index name → GatheredGrows old new (IsOfCellIn tree at name)
 cell_done tree index at part i old new w le g name of =
     let one : w.cell ≡ of.cell = same_Some w.cell of.cell (sym w.is ∙ of.is) in
     let two : w.structure ≡ of.structure = same_Some w.structure of.structure (sym w.stands ∙ (ap (λ (c : Cell). slice_get tree.structs.now c.structure) one ∙ of.stands)) in
     let named : w.structure.name ≡ name = ap (λ (s : Structure). s.name) two ∙ of.named in
-    subst (λ (m : List ℕ). DrawingGrows old new (IsOfCellIn tree at m)) named
+    subst (λ (m : List ℕ). GatheredGrows old new (IsOfCellIn tree at m)) named
     (grows_as old new (CellSoFar tree index at part i) (IsOfCellIn tree at w.structure.name) (λ x h. of_cell tree index at part i x w h) (λ x h. cell_of tree index at part i x le w h) g)

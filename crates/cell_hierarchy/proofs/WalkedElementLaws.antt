@@ -16,7 +16,7 @@ use Rattle.cell_chains.specs.Instances.{Item, HasItem, reference_name, array_nam
 use Rattle.cell_chains.specs.Hierarchy.{IsCellOf, referred_name}
 use Rattle.cell_hierarchy.specs.Below.{SomeBelow}
 use Rattle.cell_hierarchy.specs.Grid.{array_item}
-use Rattle.cell_hierarchy.specs.Things.{Thing, DrawingGrows}
+use Rattle.cell_hierarchy.specs.Things.{Thing, GatheredGrows}
 use Rattle.cell_hierarchy.specs.Placed.{IsOfItem, IsPlacedBelow}
 use Rattle.cell_hierarchy.specs.Parts.{IsCellTree, IsPlacedAt, IsBelowAt, IsLiveAt, IsElementOf, IsOfCellIn, IsOfElement, IsOfArrayItem}
 use Rattle.cell_hierarchy.specs.declared.gathered.Gathered.{Gathered}
@@ -73,7 +73,7 @@ pub record SomeItem (tree : Tree) (at : Placement) (n : ℕ) (e : Element) (x : 
   pub taken : IsOfItem tree.layers.now tree.keeps_labels tree.structs.now at item x
 
 pub element_as : (tree : Tree) (index : ℕ) (at : Placement) (n : ℕ) (cell : Cell) (structure : Structure) (e : Element) (P : Thing → Type 0) (old new : Gathered) → IsElementAt tree index n cell structure e
-    → ((x : Thing) → P x → SomeItem tree at n e x) → ((x : Thing) → SomeItem tree at n e x → P x) → DrawingGrows old new P → DrawingGrows old new (IsOfElement tree index at n)
+    → ((x : Thing) → P x → SomeItem tree at n e x) → ((x : Thing) → SomeItem tree at n e x → P x) → GatheredGrows old new P → GatheredGrows old new (IsOfElement tree index at n)
 element_as tree index at n cell structure e P old new a to from g =
     grows_as old new P (IsOfElement tree index at n)
     (λ x h. let s = to x h in record { cell = cell; is = a.is; structure = structure; stands = a.stands; element = e; there = a.there; item = s.item; has = s.has; taken = s.taken })
@@ -85,7 +85,7 @@ element_as tree index at n cell structure e P old new a to from g =
     g
 
 pub element_reference : (tree : Tree) (index : ℕ) (at made : Placement) (n : ℕ) (cell : Cell) (structure : Structure) (name : List ℕ) (place : Place) (props : List Prop) (old new : Gathered)
-    → IsElementAt tree index n cell structure (Sref name place props) → IsItemBelow tree.keeps_labels at (reference_item n name place props) made → DrawingGrows old new (IsOfCellIn tree made name) → DrawingGrows old new (IsOfElement tree index at n)
+    → IsElementAt tree index n cell structure (Sref name place props) → IsItemBelow tree.keeps_labels at (reference_item n name place props) made → GatheredGrows old new (IsOfCellIn tree made name) → GatheredGrows old new (IsOfElement tree index at n)
 element_reference tree index at made n cell structure name place props old new a below g =
     element_as tree index at n cell structure (Sref name place props) (IsOfCellIn tree made name) old new a
     (λ x h. record { item = reference_item n name place props; has = record { named = refl; cell = refl; placed = refl }; taken = item_of_cell tree.layers.now tree.keeps_labels tree.structs.now at (reference_item n name place props) made x below h })
@@ -96,7 +96,7 @@ element_reference tree index at made n cell structure name place props old new a
 
 pub element_array : (tree : Tree) (index : ℕ) (at : Placement) (array : ArrayBelow) (cell : Cell) (structure : Structure) (name : List ℕ) (columns rows : ℤ) (props : List Prop) (old new : Gathered)
     → IsElementAt tree index array.n cell structure (Aref name array.grid.place columns rows array.grid.across array.grid.down props) → columns ≡ pos array.grid.columns → rows ≡ pos array.grid.rows
-    → DrawingGrows old new (SomeBelow (λ column. SomeBelow (IsOfArrayItem tree at array name column) array.grid.rows) array.grid.columns) → DrawingGrows old new (IsOfElement tree index at array.n)
+    → GatheredGrows old new (SomeBelow (λ column. SomeBelow (IsOfArrayItem tree at array name column) array.grid.rows) array.grid.columns) → GatheredGrows old new (IsOfElement tree index at array.n)
 element_array tree index at array cell structure name columns rows props old new a ec er g =
     element_as tree index at array.n cell structure (Aref name array.grid.place columns rows array.grid.across array.grid.down props) (SomeBelow (λ column. SomeBelow (IsOfArrayItem tree at array name column) array.grid.rows) array.grid.columns) old new a
     (λ x h.
@@ -119,12 +119,12 @@ element_array tree index at array cell structure name columns rows props old new
     })
     g
 
-pub element_none : (tree : Tree) (index : ℕ) (at : Placement) (n : ℕ) (cell : Cell) (structure : Structure) (e : Element) (out : Gathered) → IsElementAt tree index n cell structure e → ((item : Item) → HasItem n e item → ⊥) → DrawingGrows out out (IsOfElement tree index at n)
+pub element_none : (tree : Tree) (index : ℕ) (at : Placement) (n : ℕ) (cell : Cell) (structure : Structure) (e : Element) (out : Gathered) → IsElementAt tree index n cell structure e → ((item : Item) → HasItem n e item → ⊥) → GatheredGrows out out (IsOfElement tree index at n)
 element_none tree index at n cell structure e out a none =
     element_as tree index at n cell structure e (λ x. ⊥) out out a (λ x h. absurd h) (λ x h. none h.item h.has) (grows_none out (λ x. ⊥) (λ x h. h))
 
 pub item_grows : (tree : Tree) (at made : Placement) (array : ArrayBelow) (name : List ℕ) (column row : ℕ) (old new : Gathered) → IsItemBelow tree.keeps_labels at (array_item array.n name array.grid.place array.grid.across array.grid.down column row) made
-    → DrawingGrows old new (IsOfCellIn tree made name) → DrawingGrows old new (IsOfArrayItem tree at array name column row)
+    → GatheredGrows old new (IsOfCellIn tree made name) → GatheredGrows old new (IsOfArrayItem tree at array name column row)
 item_grows tree at made array name column row old new below g =
     let item = array_item array.n name array.grid.place array.grid.across array.grid.down column row in
     grows_as old new (IsOfCellIn tree made name) (IsOfArrayItem tree at array name column row) (λ x h. item_of_cell tree.layers.now tree.keeps_labels tree.structs.now at item made x below h)
@@ -147,8 +147,8 @@ element_writable tree index n e d target t o is = subst IsWritableElement is (el
 
 -- a reference is walked
 pub reference_done : (tree : Tree) (index : ℕ) (at made : Placement) (n : ℕ) (e : Element) (target : ℕ) (name : List ℕ) (place : Place) (props : List Prop) (old new : Gathered) → IsCellTree tree → IsPlacedAt tree index at → IsElementOf tree index n e target
-    → e ≡ Sref name place props → IsPlacedBelow tree.keeps_labels at (reference_name n props) place made → ((other : List ℕ) → IsCellOf tree.structs.now tree.cells.now target other → DrawingGrows old new (IsOfCellIn tree made other))
-    → DrawingGrows old new (IsOfElement tree index at n)
+    → e ≡ Sref name place props → IsPlacedBelow tree.keeps_labels at (reference_name n props) place made → ((other : List ℕ) → IsCellOf tree.structs.now tree.cells.now target other → GatheredGrows old new (IsOfCellIn tree made other))
+    → GatheredGrows old new (IsOfElement tree index at n)
 reference_done tree index at made n e target name place props old new t p o is below grows =
     let w = element_writable tree index n e (Sref name place props) target t o is in
     let a = subst (λ (f : Element). IsElementAt tree index n o.cell o.structure f) is (element_of tree index n e target t o) in
@@ -158,22 +158,22 @@ reference_done tree index at made n e target name place props old new t p o is b
 -- an array is walked
 pub array_done : (tree : Tree) (index : ℕ) (at : Placement) (array : ArrayBelow) (e : Element) (name : List ℕ) (columns rows : ℤ) (props : List Prop) (old new : Gathered) → IsCellTree tree → IsPlacedAt tree index at
     → IsElementOf tree index array.n e array.target → e ≡ Aref name array.grid.place columns rows array.grid.across array.grid.down props → columns ≡ pos array.grid.columns → rows ≡ pos array.grid.rows
-    → ((other : List ℕ) → IsCellOf tree.structs.now tree.cells.now array.target other → DrawingGrows old new (SomeBelow (λ column. SomeBelow (IsOfArrayItem tree at array other column) array.grid.rows) array.grid.columns))
-    → DrawingGrows old new (IsOfElement tree index at array.n)
+    → ((other : List ℕ) → IsCellOf tree.structs.now tree.cells.now array.target other → GatheredGrows old new (SomeBelow (λ column. SomeBelow (IsOfArrayItem tree at array other column) array.grid.rows) array.grid.columns))
+    → GatheredGrows old new (IsOfElement tree index at array.n)
 array_done tree index at array e name columns rows props old new t p o is ec er grows =
     let a = subst (λ (f : Element). IsElementAt tree index array.n o.cell o.structure f) is (element_of tree index array.n e array.target t o) in
     let h = target_of tree index at array.n e array.target name t p o (ap referred_name is) in
     element_array tree index at array o.cell o.structure name columns rows props old new a ec er (grows name h.named)
 
 -- another element takes nothing over
-pub other_done : (tree : Tree) (index : ℕ) (at : Placement) (n : ℕ) (e d : Element) (target : ℕ) (out : Gathered) → IsCellTree tree → IsElementOf tree index n e target → e ≡ d → ((item : Item) → HasItem n d item → ⊥) → DrawingGrows out out (IsOfElement tree index at n)
+pub other_done : (tree : Tree) (index : ℕ) (at : Placement) (n : ℕ) (e d : Element) (target : ℕ) (out : Gathered) → IsCellTree tree → IsElementOf tree index n e target → e ≡ d → ((item : Item) → HasItem n d item → ⊥) → GatheredGrows out out (IsOfElement tree index at n)
 other_done tree index at n e d target out t o is none =
     element_none tree index at n o.cell o.structure d out (subst (λ (f : Element). IsElementAt tree index n o.cell o.structure f) is (element_of tree index n e target t o)) none
 
 -- an item of an array is walked
 pub item_done : (tree : Tree) (at made : Placement) (array : ArrayBelow) (column row : ℕ) (old new : Gathered) → IsPlacedBelow tree.keeps_labels at (array_name array.n column row) (item_place array.grid.place column row array.grid.across array.grid.down) made
-    → ((other : List ℕ) → IsCellOf tree.structs.now tree.cells.now array.target other → DrawingGrows old new (IsOfCellIn tree made other))
-    → (name : List ℕ) → IsCellOf tree.structs.now tree.cells.now array.target name → DrawingGrows old new (IsOfArrayItem tree at array name column row)
+    → ((other : List ℕ) → IsCellOf tree.structs.now tree.cells.now array.target other → GatheredGrows old new (IsOfCellIn tree made other))
+    → (name : List ℕ) → IsCellOf tree.structs.now tree.cells.now array.target name → GatheredGrows old new (IsOfArrayItem tree at array name column row)
 item_done tree at made array column row old new below grows name named =
     item_grows tree at made array name column row old new (record { below = below; some = array_name_some array.n column row }) (grows name named)
 

@@ -1,5 +1,5 @@
 -- From what a top draws to its flat lists, and the faults on the way.
-use Rattle.std.specs.Prelude.{◌≡◌, ◌⊎◌, ◌↔◌, ◌^◌, ◌<◌, min, ℕ, Bool, true, List, Contains, length, map}
+use Rattle.std.specs.Prelude.{◌≡◌, ◌⊎◌, ◌↔◌, ◌^◌, ◌<◌, min, ℕ, Bool, true, if◌then◌else◌, List, Contains, length, map, vec_capacity}
 use Rattle.std.specs.List.Sorted.{IsStrictlySortedBy}
 use Rattle.or_geom.specs.declared.shape.Point.{Point}
 use Rattle.or_geom.specs.declared.shape.Shape.{Shape}
@@ -44,6 +44,12 @@ IsManyFault layers structs top (flatten_fault.TooDeep depth) = ⊥
 IsManyFault layers structs top (flatten_fault.TooMany shapes labels) = HasMany layers structs top shapes labels
 IsManyFault layers structs top (flatten_fault.Far x y) = ⊥
 IsManyFault layers structs top flatten_fault.Memory = Unit {0}
+
+-- lists with room for as much as was counted, and for labels only where they are kept
+pub record HasRoomFor (counts : SaturatedCounts) (kept : Bool) (gathered : Gathered) : Type 0 where
+  pub shapes : vec_capacity gathered.shapes ≡ counts.shapes
+  pub labels : vec_capacity gathered.labels ≡ (if kept then counts.labels else 0)
+  pub points : vec_capacity gathered.points ≡ counts.labels
 
 -- exactly the flat shapes of the structure, its flat labels where they are kept, and the points of its flat labels
 pub record IsTopDrawing (layers : List Layer) (kept : Bool) (structs : List Structure) (top : List ℕ) (gathered : Gathered) : Type 0 where

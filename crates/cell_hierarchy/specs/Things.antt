@@ -70,7 +70,7 @@ abbrev pub HasThing : Gathered → Thing → Type 0
 HasThing gathered x = IsListedThing gathered.shapes.items gathered.labels.items gathered.points.items x
 
 -- what was gathered grew by exactly the things that have P
-pub record DrawingGrows (old new : Gathered) (P : Thing → Type 0) : Type 0 where
+pub record GatheredGrows (old new : Gathered) (P : Thing → Type 0) : Type 0 where
   pub only : (x : Thing) → HasThing new x → HasThing old x ⊎ P x
   pub stays : (x : Thing) → HasThing old x → HasThing new x
   pub each : (x : Thing) → P x → HasThing new x

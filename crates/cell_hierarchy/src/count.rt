@@ -1,6 +1,6 @@
 ghost use Rattle.std.specs.Prelude.{◌≡◌, ◌↔◌, ◌^◌, min, length, IsTrue, IfOk, IfErr, OnOk};
 ghost use Rattle.cell_chains.specs.Hierarchy.{AreCells};
-ghost use Rattle.cell_hierarchy.specs.Counts.{AreAllOwnCounts};
+ghost use Rattle.cell_hierarchy.specs.Counts.{AreAllOwnCounts, AreCountsWithin};
 ghost use Rattle.cell_hierarchy.specs.Drawings.{AreAllCells, AreCellParts};
 ghost use Rattle.cell_hierarchy.specs.FlatLists.{HasFew};
 ghost use Rattle.cell_hierarchy.specs.Parts.{IsCellTree};
@@ -60,19 +60,24 @@ fn are_over(counts: SaturatedCounts) -> bool
 
 /// How many shapes and labels stand below the top, before equal ones are merged. Refuses more than 2^24 shapes or 2^22
 /// labels.
-pub fn check_counts(alloc: Global, tree: &Tree, top: &Name) -> Result<SaturatedCounts, FlattenFault>
+pub fn checked_counts(
+    alloc: Global,
+    tree: &Tree,
+    top: &Name,
+) -> Result<SaturatedCounts, FlattenFault>
     requires tree { IsCellTree tree.now }
     requires cells { AreCells tree.now.structs.now top.now tree.now.cells.now }
+    ensures counts { IfOk result (AreCountsWithin 32 tree.now.layers.now tree.now.structs.now top.now) }
     ensures few { OnOk result (HasFew tree.now.layers.now tree.now.structs.now top.now) }
     ensures many { IfErr result (IsManyFault tree.now.layers.now tree.now.structs.now top.now) }
 {
     let own = own_counts(alloc, tree)?;
-    let counts = counts_below(alloc, tree.layers, tree.structs, top, tree.cells, &own)?;
-    if are_over(counts) {
+    let below = counts_below(alloc, tree.layers, tree.structs, top, tree.cells, &own)?;
+    if are_over(below) {
         return Err(FlattenFault::TooMany {
-            shapes: counts.shapes,
-            labels: counts.labels,
+            shapes: below.shapes,
+            labels: below.labels,
         });
     }
-    Ok(counts)
+    Ok(below)
 }

@@ -5,7 +5,7 @@ ghost use Rattle.cell_hierarchy.specs.FlatLists.{AreFlatShapes, AreFlatLists, Is
 ghost use Rattle.cell_hierarchy.specs.Plain.{lists_of};
 ghost use Rattle.cell_hierarchy.specs.Settled.{IsFlatKept};
 
-use crate::count::check_counts;
+use crate::count::checked_counts;
 use crate::fault::FlattenFault;
 use crate::flat::Flat;
 use crate::parts::parts_of;
@@ -42,7 +42,7 @@ fn flat_of<'b>(
         parts: &parts,
         keeps_labels,
     };
-    let counts = check_counts(alloc, &tree, top)?;
+    let counts = checked_counts(alloc, &tree, top)?;
     let gathered = top_drawing(alloc, bump, &tree, top, counts)?;
     sorted_flat(gathered)
 }

@@ -1,4 +1,5 @@
 ghost use Rattle.std.specs.Prelude.{◌≡◌, [], IfOk};
+ghost use Rattle.cell_hierarchy.specs.Settled.{HasRoomFor};
 
 use crate::counts::SaturatedCounts;
 use crate::flat::Label;
@@ -6,8 +7,9 @@ use bumpalo::Bump;
 use or_geom::{Memory, Point, Shape};
 use std::alloc::Global;
 
-/// What a top and all cells below it draw, as a `Drawing` of them all. The shapes and labels lie in the arena from the
-/// first, so that they become a flat layout where they are.
+/// What a top and all cells below it draw, in no order and perhaps some of it twice: shapes, labels, and the points of
+/// all labels, which are listed also where the labels themselves are not kept. The shapes and labels lie in the arena
+/// from the first, and are sorted there.
 #[derive(Drop)]
 pub struct Gathered<'b> {
     pub shapes: Vec<Shape, &'b Bump>,
@@ -25,6 +27,7 @@ pub fn nothing_gathered<'b>(
     ensures shapes { IfOk result (λ gathered. gathered.shapes.items ≡ []) }
     ensures labels { IfOk result (λ gathered. gathered.labels.items ≡ []) }
     ensures points { IfOk result (λ gathered. gathered.points.items ≡ []) }
+    ensures room { IfOk result (HasRoomFor counts keeps_labels) }
 {
     let shapes = counts.shapes as usize;
     let points = counts.labels as usize;

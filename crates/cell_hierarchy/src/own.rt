@@ -9,7 +9,7 @@ ghost use Rattle.cell_hierarchy.specs.FlatSet.{IsMoved};
 ghost use Rattle.cell_hierarchy.specs.Placed.{IsOfDrawing, LabelGives, PointGives};
 ghost use Rattle.cell_hierarchy.specs.Plain.{plain_label};
 ghost use Rattle.cell_hierarchy.specs.Drawings.{IsOwnDrawing};
-ghost use Rattle.cell_hierarchy.specs.Things.{DrawingGrows};
+ghost use Rattle.cell_hierarchy.specs.Things.{GatheredGrows};
 
 use crate::drawing::Drawing;
 use crate::flat::Label;
@@ -96,7 +96,7 @@ pub fn add_own<'b>(
 ) -> Result<(), Memory>
     requires offset { IsNearPoint at.now.place.at }
     requires own { IsOwnDrawing own.now }
-    ensures { OnOk result (DrawingGrows out.old out.new (IsOfDrawing own.now at.now)) }
+    ensures { OnOk result (GatheredGrows out.old out.new (IsOfDrawing own.now at.now)) }
 {
     add_shapes(at.place, &own.shapes, &mut out.shapes)?;
     add_labels(at, &own.labels, &mut out.labels)?;

@@ -12,8 +12,8 @@ use crate::gathered::Gathered;
 use bumpalo::Bump;
 use bumpalo::collections::into_bump_slice;
 
-/// Sorts the list and drops what stands in it twice. What compares as equal has to be equal for nothing to be lost,
-/// which the premise of `keeps` says of the type.
+/// Sorts a list in an arena and drops repetitions, as `sort_distinct` of `or_geom` does with a list on the heap. What
+/// compares as equal has to be equal for nothing to be lost, which the premise of `keeps` says of the type.
 fn sort_distinct<T: Ord + Drop>(list: &mut Vec<T, &Bump>)
     ensures rises { IsStrictlySortedBy T.cmp list.new.items }
     ensures keeps { ((x y : T) → IsTrue (T.eq x y) → x ≡ y) → (x : T) → Contains list.old.items x
@@ -24,7 +24,7 @@ fn sort_distinct<T: Ord + Drop>(list: &mut Vec<T, &Bump>)
     list.dedup();
 }
 
-/// Sorts the labels and drops what stands among them twice.
+/// Sorts the labels and drops repetitions. Labels with the same texts are one, wherever the texts lie.
 fn sort_distinct_labels<'b>(labels: &mut Vec<Label<'b>, &'b Bump>)
     ensures rises { IsStrictlySortedBy label_order (map plain_label labels.new.items) }
     ensures same { (label : PlainLabel) → Contains (map plain_label labels.new.items) label
@@ -34,7 +34,8 @@ fn sort_distinct_labels<'b>(labels: &mut Vec<Label<'b>, &'b Bump>)
     labels.dedup();
 }
 
-/// What was gathered, sorted and each thing once, where it lies; refused if it doesn't fit 32 bits.
+/// The shapes and labels that were gathered, each list sorted in the arena where it lies, and each item once. Refuses
+/// if a corner of a shape or a point of a label lies outside 32 bits, and tells the first that does.
 pub fn sorted_flat<'b>(gathered: Gathered<'b>) -> Result<Flat<'b>, FlattenFault>
     ensures flat { IfOk result (IsFlatOf gathered.entry) }
     ensures far { IfErr result (IsFarFault gathered.entry) }

@@ -1,5 +1,6 @@
 ghost use Rattle.std.specs.Prelude.{IfOk};
 ghost use Rattle.cell_chains.specs.Hierarchy.{AreCells};
+ghost use Rattle.cell_hierarchy.specs.Counts.{AreCountsWithin};
 ghost use Rattle.cell_hierarchy.specs.Parts.{IsCellTree};
 ghost use Rattle.cell_hierarchy.specs.Settled.{IsTopDrawing};
 
@@ -12,7 +13,8 @@ use bumpalo::Bump;
 use or_geom::{Memory, Name, Orient, Place, Point};
 use std::alloc::Global;
 
-/// What the top draws with all cells below it; it is the last of the cells. `counts` is how much room to make for that.
+/// What the top draws with all cells below it; it is the last of the cells. `counts` is how much that is, and room is
+/// made for it.
 pub fn top_drawing<'b>(
     alloc: Global,
     bump: &'b Bump,
@@ -22,6 +24,7 @@ pub fn top_drawing<'b>(
 ) -> Result<Gathered<'b>, Memory>
     requires tree { IsCellTree tree.now }
     requires cells { AreCells tree.now.structs.now _top.now tree.now.cells.now }
+    requires counts { AreCountsWithin 32 tree.now.layers.now tree.now.structs.now _top.now counts }
     ensures { IfOk result (IsTopDrawing tree.now.layers.now tree.now.keeps_labels tree.now.structs.now _top.now) }
 {
     let at = Placement {

@@ -2,7 +2,7 @@ ghost use Rattle.std.specs.Prelude.{◌≡◌, ◌<◌, ℕ, List, OnOk};
 ghost use Rattle.cell_chains.specs.Hierarchy.{IsCellOf};
 ghost use Rattle.cell_hierarchy.specs.Below.{SomeBelow};
 ghost use Rattle.cell_hierarchy.specs.Grid.{IsWritableGrid, IsSpotOf};
-ghost use Rattle.cell_hierarchy.specs.Things.{DrawingGrows};
+ghost use Rattle.cell_hierarchy.specs.Things.{GatheredGrows};
 ghost use Rattle.cell_hierarchy.specs.Parts.{IsCellTree, IsPlacedAt, IsBelowAt, IsLiveAt, IsElementOf, IsOfElement};
 ghost use Rattle.cell_hierarchy.specs.Parts.{IsOfCellIn, IsOfArrayItem};
 
@@ -48,7 +48,7 @@ pub fn add_cell<'b>(
     requires tree { IsCellTree tree.now }
     requires at { IsPlacedAt tree.now index at.now }
     ensures { OnOk result ((name : List ℕ) → IsCellOf tree.now.structs.now tree.now.cells.now index name
-        → DrawingGrows out.old out.new (IsOfCellIn tree.now at.now name)) }
+        → GatheredGrows out.old out.new (IsOfCellIn tree.now at.now name)) }
 {
     let part = &tree.parts[index];
     add_own(at, &part.own, out)?;
@@ -72,7 +72,7 @@ fn add_element<'b>(
     requires tree { IsCellTree tree.now }
     requires at { IsPlacedAt tree.now index at.now }
     requires live { IsLiveAt tree.now index n }
-    ensures { OnOk result (DrawingGrows out.old out.new (IsOfElement tree.now index at.now n)) }
+    ensures { OnOk result (GatheredGrows out.old out.new (IsOfElement tree.now index at.now n)) }
 {
     let (element, target) = element_at(tree, index, n);
     match element {
@@ -124,7 +124,7 @@ fn add_array<'b>(
     requires at { IsBelowAt tree.now array.target at.now }
     requires writable { IsWritableGrid array.grid }
     ensures { OnOk result ((name : List ℕ) → IsCellOf tree.now.structs.now tree.now.cells.now array.target name
-        → DrawingGrows out.old out.new (SomeBelow
+        → GatheredGrows out.old out.new (SomeBelow
         (λ column. SomeBelow (IsOfArrayItem tree.now at.now array name column) array.grid.rows) array.grid.columns)) }
 {
     for column in 0..array.grid.columns {
@@ -149,7 +149,7 @@ fn add_column<'b>(
     requires writable { IsWritableGrid array.grid }
     requires in_grid { column < array.grid.columns }
     ensures { OnOk result ((name : List ℕ) → IsCellOf tree.now.structs.now tree.now.cells.now array.target name
-        → DrawingGrows out.old out.new (SomeBelow (IsOfArrayItem tree.now at.now array name column) array.grid.rows)) }
+        → GatheredGrows out.old out.new (SomeBelow (IsOfArrayItem tree.now at.now array name column) array.grid.rows)) }
 {
     for row in 0..array.grid.rows {
         add_item(alloc, bump, tree, array, Spot { column, row }, at, out)?;
@@ -173,7 +173,7 @@ fn add_item<'b>(
     requires writable { IsWritableGrid array.grid }
     requires spot { IsSpotOf array.grid spot }
     ensures { OnOk result ((name : List ℕ) → IsCellOf tree.now.structs.now tree.now.cells.now array.target name
-        → DrawingGrows out.old out.new (IsOfArrayItem tree.now at.now array name spot.column spot.row)) }
+        → GatheredGrows out.old out.new (IsOfArrayItem tree.now at.now array name spot.column spot.row)) }
 {
     let inner = item_below(
         alloc,

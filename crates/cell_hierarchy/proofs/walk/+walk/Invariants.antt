@@ -2,7 +2,7 @@ use Rattle.std.proofs.Common.{◌+◌, ◌*◌, ℕ, List}
 use Rattle.cell_chains.specs.Hierarchy.{IsCellOf}
 use Rattle.cell_hierarchy.specs.Below.{SomeBelow}
 use Rattle.cell_hierarchy.specs.Parts.{IsOfArrayItem}
-use Rattle.cell_hierarchy.specs.Things.{DrawingGrows}
+use Rattle.cell_hierarchy.specs.Things.{GatheredGrows}
 use Rattle.cell_hierarchy.proofs.WalkLaws.{CellSoFar}
 use Rattle.cell_hierarchy.proofs.walk.+walk.Given as goal
 
@@ -22,12 +22,12 @@ abbrev pub decreases-add_item : goal.decreases-add_item
 decreases-add_item l = 5 * l.array.target + 2
 
 abbrev pub invariant-add_cell-loop-i : goal.invariant-add_cell-loop-i
-invariant-add_cell-loop-i l = DrawingGrows l.fn.out l.out (CellSoFar l.tree l.fn.index l.at l.part l.i)
+invariant-add_cell-loop-i l = GatheredGrows l.fn.out l.out (CellSoFar l.tree l.fn.index l.at l.part l.i)
 
 abbrev pub invariant-add_array-loop-column : goal.invariant-add_array-loop-column
 invariant-add_array-loop-column l =
-    (name : List ℕ) → IsCellOf l.tree.structs.now l.tree.cells.now l.fn.array.target name → DrawingGrows l.fn.out l.out (SomeBelow (λ column. SomeBelow (IsOfArrayItem l.tree l.at l.fn.array name column) l.fn.array.grid.rows) l.column)
+    (name : List ℕ) → IsCellOf l.tree.structs.now l.tree.cells.now l.fn.array.target name → GatheredGrows l.fn.out l.out (SomeBelow (λ column. SomeBelow (IsOfArrayItem l.tree l.at l.fn.array name column) l.fn.array.grid.rows) l.column)
 
 abbrev pub invariant-add_column-loop-row : goal.invariant-add_column-loop-row
 invariant-add_column-loop-row l =
-    (name : List ℕ) → IsCellOf l.tree.structs.now l.tree.cells.now l.fn.array.target name → DrawingGrows l.fn.out l.out (SomeBelow (IsOfArrayItem l.tree l.at l.fn.array name l.fn.column) l.row)
+    (name : List ℕ) → IsCellOf l.tree.structs.now l.tree.cells.now l.fn.array.target name → GatheredGrows l.fn.out l.out (SomeBelow (IsOfArrayItem l.tree l.at l.fn.array name l.fn.column) l.row)
