@@ -34,9 +34,9 @@ clear_more shapes boxes count box clearance old new there clear is all = record 
   each = λ place other reach at got. elim (got_cases old clearance place reach (subst (λ (l : List ℤ). slice_get l place ≡ Some reach) is got)) [
     | inl before ↦ all.each place other reach at before
     | inr last ↦
-      let here : place ≡ count = last.0 ∙ all.sized in
-      let same : box ≡ other = same_Some box other (sym there ∙ subst (λ (k : ℕ). slice_get boxes k ≡ Some other) here at) in
-      subst (λ (s : Shape). IsClear shapes s.layer s.rect reach) same (subst (λ (z : ℤ). IsClear shapes box.layer box.rect z) (sym last.1) clear)
+        let here : place ≡ count = last.0 ∙ all.sized in
+        let same : box ≡ other = same_Some box other (sym there ∙ subst (λ (k : ℕ). slice_get boxes k ≡ Some other) here at) in
+        subst (λ (s : Shape). IsClear shapes s.layer s.rect reach) same (subst (λ (z : ℤ). IsClear shapes box.layer box.rect z) (sym last.1) clear)
   ];
 }
 

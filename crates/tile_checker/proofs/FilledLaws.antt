@@ -9,12 +9,16 @@ use Rattle.or_geom.specs.Adds.{Adds}
 use Rattle.or_geom.specs.Covered.{HasCell}
 use Rattle.or_geom.specs.Gap.{IsGap}
 use Rattle.or_geom.specs.Span.{across, upward}
-use Rattle.or_geom.proofs.ListLaws.{one_at}
+use Rattle.std.specs.Prelude.{Contains}
+use Rattle.or_geom.proofs.ListLaws.{one_at, contains_none}
+use Rattle.shape_bins.specs.declared.clear.ClearBox.{ClearBox}
+use Rattle.shape_bins.specs.Clear.{AreNearer}
 use Rattle.shape_bins.specs.declared.query.Query.TheVariants.{MeetsOutside}
 use Rattle.shape_bins.specs.Hits.{IsHit, IsNearShape}
 use Rattle.or_geom.specs.Containing.{HoldsRect}
-use Rattle.tile_checker.specs.Breaks.{IsGapCovered}
-use Rattle.tile_checker.specs.Firsts.{IsFilledAround, LieInOneBox, ArePartnersIn}
+use Rattle.tile_checker.specs.Breaks.{AreNear, IsGapCovered}
+use Rattle.tile_checker.specs.Firsts.{IsFilledAround, IsClearAround, LieInOneBox, ArePartnersIn}
+use Rattle.tile_checker.proofs.NearLaws.{near_gaps}
 use Rattle.tile_checker.proofs.PlaceLaws.{adds_all}
 
 -- the gap of two spans, which lies where both do
@@ -113,6 +117,19 @@ one_box_covers shapes a b one =
       covered = λ u v h. one.first.covered u v (cell_held one.box gap u v (record { left = x.above; right = x.below; low = y.above; high = y.below }) h);
     }
 
+none_contained : (place : ℕ) → Contains [] place → ⊥
+none_contained place h = contains_none place h
+
+-- what is near a shape in the box is nearer to the box than its clearance, which is no less than the minimum
+clear_nearer : (min : ℤ) (a b : Rect) (box : ClearBox) → pos 1 ≤ℤ min → AreNear min a b → HoldsRect box.rect a → min ≤ℤ box.clearance → AreNearer box.clearance b box.rect
+clear_nearer min a b box some near holds enough =
+    let n = near_gaps min a b some near in record {
+      left = omega (arith, ints, n.left, holds.right, enough);
+      right = omega (arith, ints, n.right, holds.left, enough);
+      low = omega (arith, ints, n.low, holds.high, enough);
+      high = omega (arith, ints, n.high, holds.low, enough);
+    }
+
 holds_or : (outer inner : Rect) → HoldsRect outer inner ⊎ (HoldsRect outer inner → ⊥)
 holds_or outer inner =
     by_lt_z inner.x1 outer.x1 (λ lt. inr (λ h. let k = h.left in omega (arith, ints, k, lt)))
@@ -122,25 +139,37 @@ holds_or outer inner =
     (λ high. inl (record { left = left; right = right; low = low; high = high })))))
 
 -- all shapes that meet the area are listed
-pub partners_near : (shapes : List Shape) (layer : ℕ) (a : Shape) (area : Rect) (none places : List ℕ) → none ≡ [] → Adds none places (IsNearShape shapes layer area) → ArePartnersIn shapes layer a area places
-partners_near shapes layer a area none places empty adds =
+pub partners_near : (min : ℤ) (shapes : List Shape) (layer : ℕ) (a : Shape) (area : Rect) (none places : List ℕ) → none ≡ [] → Adds none places (IsNearShape shapes layer area) → ArePartnersIn min shapes layer a area places
+partners_near min shapes layer a area none places empty adds =
     let all = adds_all places (IsNearShape shapes layer area) (subst (λ (l : List ℕ). Adds l places (IsNearShape shapes layer area)) empty adds) in
     record { only = λ place h. (all place).0 h; each = λ place b at near. inl ((all place).1 near) }
 
 -- or those are that the box doesn't hold
-pub partners_outside : (shapes : List Shape) (layer : ℕ) (a : Shape) (area box : Rect) (none places : List ℕ) → layer ≡ a.layer → none ≡ [] → IsFilledAround shapes a box → Adds none places (IsHit shapes layer (MeetsOutside area box))
-    → ArePartnersIn shapes layer a area places
-partners_outside shapes layer a area box none places own empty around adds =
+pub partners_outside : (min : ℤ) (shapes : List Shape) (layer : ℕ) (a : Shape) (area box : Rect) (none places : List ℕ) → layer ≡ a.layer → none ≡ [] → IsFilledAround shapes a box → Adds none places (IsHit shapes layer (MeetsOutside area box))
+    → ArePartnersIn min shapes layer a area places
+partners_outside min shapes layer a area box none places own empty around adds =
     let all = adds_all places (IsHit shapes layer (MeetsOutside area box)) (subst (λ (l : List ℕ). Adds l places (IsHit shapes layer (MeetsOutside area box))) empty adds) in
     record {
       only = λ place h. let hit = (all place).0 h in record { shape = hit.shape; there = hit.there; on = hit.on; fits = hit.fits.meets };
       each = λ place b at near. let e : near.shape ≡ b = one_at shapes place near.shape b near.there at in elim (holds_or box near.shape.rect) [
-        | inl held ↦ inr (record {
+        | inl held ↦ inr (λ close not. not (record {
           one_layer = sym own ∙ (sym near.on ∙ (λ i. (e i).layer));
           box = box;
           first = around;
           second = subst (λ (s : Shape). HoldsRect box s.rect) e held;
-        })
+        }))
         | inr out ↦ inl ((all place).1 (record { shape = near.shape; there = near.there; on = near.on; fits = record { meets = near.fits; outside = out } }))
       ];
     }
+
+-- none are, where no shape outside of the box comes nearer to it than the minimum
+pub partners_clear : (min : ℤ) (shapes : List Shape) (layer : ℕ) (a : Shape) (area : Rect) (box : ClearBox) (places : List ℕ) → pos 1 ≤ℤ min → layer ≡ a.layer → places ≡ [] → IsClearAround shapes a box → min ≤ℤ box.clearance
+    → ArePartnersIn min shapes layer a area places
+partners_clear min shapes layer a area box places some own empty around enough = record {
+  only = λ place h. absurd (none_contained place (subst (λ (l : List ℕ). Contains l place) empty h));
+  each = λ place b at near.
+      let e : near.shape ≡ b = one_at shapes place near.shape b near.there at in
+      let on : b.layer ≡ a.layer = subst (λ (s : Shape). s.layer ≡ a.layer) e (near.on ∙ own) in
+      inr (λ close not. around.clear (omega (arith, ints, some, enough)) place b at on (clear_nearer min a.rect b.rect box some close around.around.holds enough)
+      (λ held. not (record { one_layer = sym on; box = box.rect; first = around.around; second = held })));
+}

@@ -88,7 +88,7 @@ grown_corner min a b tile grown g h =
     (subst (λ (z : ℤ). HasCell tile (int_max (a.rect.x1 -ℤ min) b.rect.x1) (int_max z b.rect.y1)) (sym g.low) h)
 
 pair_each : (rule : SpaceRule) (shapes : List Shape) (tile : Rect) (first : First) (partner : ℕ) (grown area : Rect) (places : List ℕ) (v : Violation) (second : Option Shape) → IsStrictlySortedBy shape_order shapes → IsAt shapes first
-    → IsPartner rule first.shape.layer partner → IsGrown rule.min.value first.shape.rect grown → IsPartIn tile grown area → ArePartnersIn shapes partner first.shape area places → v.first ≡ first.shape → v.rule ≡ rule.number
+    → IsPartner rule first.shape.layer partner → IsGrown rule.min.value first.shape.rect grown → IsPartIn tile grown area → ArePartnersIn rule.min.value shapes partner first.shape area places → v.first ≡ first.shape → v.rule ≡ rule.number
     → v.second ≡ second → IsLater shapes first.shape second → Breaks (kind rule) shapes first.shape second → Owns tile (kind rule) first.shape second → SomeGives (IsPairAt rule shapes tile first) places v
 pair_each rule shapes tile first partner grown area places v None rises at partners is_grown part hits of numbered is later breaks owned = absurd breaks
 pair_each rule shapes tile first partner grown area places v (Some b) rises at partners is_grown part hits of numbered is later breaks owned =
@@ -108,11 +108,11 @@ pair_each rule shapes tile first partner grown area places v (Some b) rises at p
         found = record { on = breaks.on; near = breaks.near; bare = λ c. breaks.bare (gap_out rule shapes first.shape b breaks.on c) };
         owned = owned;
       })
-      | inr one ↦ absurd (breaks.bare (one_box_covers shapes first.shape b one))
+      | inr harmless ↦ absurd (harmless breaks.near (λ one. breaks.bare (one_box_covers shapes first.shape b one)))
     ]
 
 pub pairs_found : (rule : SpaceRule) (shapes : List Shape) (tile : Rect) (first : First) (partner : ℕ) (grown area : Rect) (places : List ℕ) (old new : List Violation) → IsStrictlySortedBy shape_order shapes → IsAt shapes first
-    → IsPartner rule first.shape.layer partner → IsGrown rule.min.value first.shape.rect grown → IsPartIn tile grown area → ArePartnersIn shapes partner first.shape area places
+    → IsPartner rule first.shape.layer partner → IsGrown rule.min.value first.shape.rect grown → IsPartIn tile grown area → ArePartnersIn rule.min.value shapes partner first.shape area places
     → Adds old new (SomeGives (IsPairAt rule shapes tile first) places) → Adds old new (IsFromIn rule.number (kind rule) shapes tile first)
 pairs_found rule shapes tile first partner grown area places old new rises at partners is_grown part hits a =
     adds_as old new (SomeGives (IsPairAt rule shapes tile first) places) (IsFromIn rule.number (kind rule) shapes tile first)
@@ -125,7 +125,7 @@ pairs_found rule shapes tile first partner grown area places old new rises at pa
     a
 
 -- those at the places that were found are partners
-pub hits_partners : (rule : SpaceRule) (shapes : List Shape) (a : Shape) (partner : ℕ) (area : Rect) (places : List ℕ) → IsPartner rule a.layer partner → ArePartnersIn shapes partner a area places → ArePartners rule shapes a places
+pub hits_partners : (rule : SpaceRule) (shapes : List Shape) (a : Shape) (partner : ℕ) (area : Rect) (places : List ℕ) → IsPartner rule a.layer partner → ArePartnersIn rule.min.value shapes partner a area places → ArePartners rule shapes a places
 hits_partners rule shapes a partner area places partners hits place h =
     let hit = hits.only place h in
     record { shape = hit.shape; there = hit.there; on = partner_on rule a hit.shape partner partners hit.on }

@@ -1,13 +1,16 @@
 -- What is found from one first shape.
-use Rattle.std.specs.Prelude.{◌≡◌, ◌⊎◌, ℕ, ◌<◌, List, Contains, slice_get, length, Some}
+use Rattle.std.specs.Prelude.{◌≡◌, ◌⊎◌, ℕ, ◌<◌, ℤ, List, Contains, slice_get, length, Some}
 use Rattle.or_geom.specs.declared.shape.Rect.{Rect}
 use Rattle.or_geom.specs.declared.shape.Shape.{Shape}
 use Rattle.tech_rules.specs.declared.tech.Rule.{Rule}
+use Rattle.shape_bins.specs.declared.clear.ClearBox.{ClearBox}
+use Rattle.shape_bins.specs.Clear.{IsClear}
 use Rattle.shape_bins.specs.Hits.{IsNearShape}
 use Rattle.shape_bins.specs.Layers.{IsCoveredBy}
 use Rattle.or_geom.specs.Containing.{HoldsRect}
 use Rattle.tile_checker.specs.declared.violation.Violation.{Violation}
 use Rattle.tile_checker.specs.declared.space.SpaceRule.{SpaceRule}
+use Rattle.tile_checker.specs.Breaks.{AreNear}
 use Rattle.tile_checker.specs.Found.{AreOn, IsViolationOf}
 use Rattle.tile_checker.specs.declared.first.First.{First}
 
@@ -45,6 +48,11 @@ pub record IsFilledAround (shapes : List Shape) (a : Shape) (box : Rect) : Type 
   pub holds : HoldsRect box a.rect
   pub covered : IsCoveredBy a.layer shapes box
 
+-- such a box with its clearance
+pub record IsClearAround (shapes : List Shape) (a : Shape) (box : ClearBox) : Type 0 where
+  pub around : IsFilledAround shapes a box.rect
+  pub clear : IsClear shapes a.layer box.rect box.clearance
+
 -- two shapes of one layer lie in a box that the layer covers
 pub record LieInOneBox (shapes : List Shape) (a b : Shape) : Type 0 where
   pub one_layer : a.layer ≡ b.layer
@@ -52,7 +60,11 @@ pub record LieInOneBox (shapes : List Shape) (a b : Shape) : Type 0 where
   pub first : IsFilledAround shapes a box
   pub second : HoldsRect box b.rect
 
--- shapes of the layer that meet the area stand at the places; any that are left out lie in one covered box with this one
-pub record ArePartnersIn (shapes : List Shape) (layer : ℕ) (a : Shape) (area : Rect) (places : List ℕ) : Type 0 where
+-- it can't be that two shapes are nearer than the minimum and lie in no such box
+abbrev pub AreHarmless : ℤ → List Shape → Shape → Shape → Type 0
+AreHarmless min shapes a b = AreNear min a.rect b.rect → (LieInOneBox shapes a b → ⊥) → ⊥
+
+-- shapes of the layer that meet the area stand at the places; any that are left out are harmless
+pub record ArePartnersIn (min : ℤ) (shapes : List Shape) (layer : ℕ) (a : Shape) (area : Rect) (places : List ℕ) : Type 0 where
   pub only : (place : ℕ) → Contains places place → IsNearShape shapes layer area place
-  pub each : (place : ℕ) (b : Shape) → slice_get shapes place ≡ Some b → IsNearShape shapes layer area place → Contains places place ⊎ LieInOneBox shapes a b
+  pub each : (place : ℕ) (b : Shape) → slice_get shapes place ≡ Some b → IsNearShape shapes layer area place → Contains places place ⊎ AreHarmless min shapes a b

@@ -10,7 +10,7 @@ ghost use Rattle.tile_checker.specs.Breaks.{AreNear};
 ghost use Rattle.tile_checker.specs.Found.{AreOn, IsSpaceFound};
 ghost use Rattle.tech_rules.specs.declared.tech.Rule.TheVariants as kind;
 ghost use Rattle.std.specs.Int.{int_max, int_min};
-ghost use Rattle.tile_checker.specs.Firsts.{IsAt, IsPartner, HasNoPartner, ArePartners, IsFilledAround, ArePartnersIn};
+ghost use Rattle.tile_checker.specs.Firsts.{IsAt, IsPartner, HasNoPartner, ArePartners, IsClearAround, ArePartnersIn};
 ghost use Rattle.tile_checker.specs.Tiles.{IsFromIn, IsPairAt, IsPartIn};
 
 use crate::enclose::grown;
@@ -19,7 +19,7 @@ use crate::minimum::Minimum;
 use crate::owner::owns_pair;
 use crate::violation::Violation;
 use or_geom::{Memory, Point, Rect, Shape, dist2, gap_box, holds, joined};
-use shape_bins::Bins;
+use shape_bins::{Bins, ClearBox};
 
 /// A space rule with its number.
 #[derive(Clone, Copy)]
@@ -133,36 +133,41 @@ fn add_pairs(
     Ok(())
 }
 
-/// A box that the shape's layer covers and that holds the shape, if one is known.
-fn filled_around(bins: &Bins, shape: Shape) -> Option<Rect>
-    ensures { IfSome result (IsFilledAround bins.now shape) }
+/// A box that the shape's layer covers and that holds the shape, if one is known, with its clearance.
+fn filled_around(bins: &Bins, shape: Shape) -> Option<ClearBox>
+    ensures { IfSome result (IsClearAround bins.now shape) }
 {
     let corner = Point {
         x: shape.rect.x1,
         y: shape.rect.y1,
     };
     let filled = bins.filled_at(shape.layer, corner)?;
-    if holds(filled, shape.rect) {
+    if holds(filled.rect, shape.rect) {
         return Some(filled);
     }
     None
 }
 
-/// Lists the places of the partner's shapes that meet the area, but for some that lie in one covered box with the first
-/// shape: the layer covers the gap between these.
+/// Lists the places of the partner's shapes that meet the area, but for some that break no rule of this minimum with
+/// the first shape. These lie with it in one box, so that their layer covers the gap between them, or are farther away
+/// than the minimum, as all shapes outside of a box are whose clearance isn't less.
 fn list_partners(
     bins: &Bins,
     partner: u16,
+    min: Minimum,
     first: Shape,
     area: Rect,
     near: &mut Vec<usize>,
 ) -> Result<(), Memory>
-    ensures { OnOk result (ArePartnersIn bins.now partner first area near.new.items) }
+    ensures { OnOk result (ArePartnersIn min.value bins.now partner first area near.new.items) }
 {
     near.clear();
     if partner == first.layer {
         if let Some(filled) = filled_around(bins, first) {
-            return bins.add_outside(partner, area, filled, near);
+            if min.value <= filled.clearance {
+                return Ok(());
+            }
+            return bins.add_outside(partner, area, filled.rect, near);
         }
     }
     bins.add_near(partner, area, near)
@@ -188,6 +193,6 @@ pub fn add_spaces(
         return Ok(());
     };
     let area = part_in(tile, grown(first.shape.rect, rule.min));
-    list_partners(bins, partner, first.shape, area, near)?;
+    list_partners(bins, partner, rule.min, first.shape, area, near)?;
     add_pairs(bins, rule, tile, first, near, out)
 }

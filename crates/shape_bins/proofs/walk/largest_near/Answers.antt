@@ -31,9 +31,9 @@ loop-at-preserved c = record {
   within = omega (arith, c.loop-at-test.true);
   hit = elim c.if-node-eq1.branch [
     | then-node-eq1 w ↦
-      let near = c.is_wanted.ensures.0 c.if-not-is_wanted.false in
-      let leaf = subst (λ (layer : ℕ). IfSome c.loop-at.found (IsHitOf c.args.forest.shapes.now layer c.args.query) → IfSome w.largest_of_leaf-found.result (IsHitOf c.args.forest.shapes.now layer c.args.query)) near.on w.largest_of_leaf-found.ensures in
-      subst (λ (o : Option IndexedShape). IfSome o (IsHitOf c.args.forest.shapes.now c.args.layer c.args.query)) (sym w.found-is) (leaf c.loop-at.invariant.hit)
+        let near = c.is_wanted.ensures.0 c.if-not-is_wanted.false in
+        let leaf = subst (λ (layer : ℕ). IfSome c.loop-at.found (IsHitOf c.args.forest.shapes.now layer c.args.query) → IfSome w.largest_of_leaf-found.result (IsHitOf c.args.forest.shapes.now layer c.args.query)) near.on w.largest_of_leaf-found.ensures in
+        subst (λ (o : Option IndexedShape). IfSome o (IsHitOf c.args.forest.shapes.now c.args.layer c.args.query)) (sym w.found-is) (leaf c.loop-at.invariant.hit)
     | else-node-eq1 w ↦ subst (λ (o : Option IndexedShape). IfSome o (IsHitOf c.args.forest.shapes.now c.args.layer c.args.query)) (sym w.found-is) c.loop-at.invariant.hit
   ];
 }

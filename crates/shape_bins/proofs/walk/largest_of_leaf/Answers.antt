@@ -1,4 +1,4 @@
-use Rattle.std.proofs.Common.{inl, inr, ◌≡◌, Option, Some, sym, subst, arith}
+use Rattle.std.proofs.Common.{inl, inr, Option, sym, subst, arith}
 use Rattle.std.specs.Prelude.{IfSome}
 use Rattle.shape_bins.specs.declared.forest.IndexedShape.{IndexedShape}
 use Rattle.shape_bins.specs.Hits.{IsHitOf}
