@@ -1,6 +1,13 @@
+use Rattle.std.proofs.Common.{◌≤ℤ◌, arith}
+use Rattle.std.proofs.lemmas.Int.{ints}
 use Rattle.std.proofs.lemmas.Result.{on_ok_weaker}
 use Rattle.tile_checker.proofs.FilledLaws.{partners_clear, partners_near, partners_outside}
 use Rattle.tile_checker.proofs.space.list_partners.Goals as goal
+
+pub returns-then-min-filled : goal.returns-then-min-filled
+returns-then-min-filled c =
+    let enough : c.args.min.value ≤ℤ c.in-Some.filled.clearance = omega (arith, ints) in
+    partners_clear c.args.min.value c.args.bins.now c.args.partner c.args.first c.args.area c.in-Some.filled _ c.args.min.within.positive c.if-partner-first.true c.clear.ensures.items c.in-Some.ensures enough
 
 pub returns-in-Some : goal.returns-in-Some
 returns-in-Some c =
