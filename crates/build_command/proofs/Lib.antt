@@ -1,5 +1,6 @@
 mod HeldLaws
 mod StepLaws
+mod LayoutLaws
 mod WriteLaws
 mod RunLaws
 mod NameLaws

@@ -1,7 +1,9 @@
 -- What a memory is built of, over the files that a store tells.
 use Rattle.std.specs.Prelude.{◌≡◌, ℕ, List, ◌++◌, Result, Ok, Err, codes}
 use Rattle.or_host.specs.Files.{Files}
+use Rattle.gds_library.specs.declared.library.Library.{Library}
 use Rattle.gds_library.specs.FirstFault.{IsFaultOf}
+use Rattle.gds_library.specs.Grammar.{Spells}
 use Rattle.sram_netlist.specs.Numbers.{ArePlanNumbers}
 use Rattle.sram_plan.specs.Config.{IsConfig}
 use Rattle.sram_plan.specs.Configuration.{configuration}
@@ -48,6 +50,23 @@ IsKitOver files name tech gds = Then (IsFile files (name ++ codes ".sp")) (IsKit
 -- the layout after the technology
 abbrev pub IsKitWith : Files → List ℕ → Tech → Result Kit Refusal → Type 0
 IsKitWith files name tech = Then (IsLeafLayoutFile files (name ++ codes ".gds")) (IsKitOver files name tech)
+
+-- the library that bytes spell, or their first fault
+abbrev pub IsLeafLibrary : List ℕ → Result Library Refusal → Type 0
+IsLeafLibrary bytes = ValueOrFault (Spells bytes) (λ fault. IsFaultOf fault bytes) refusal_of.Gds
+
+-- a file of this name holds bytes that spell this library, or are refused
+abbrev pub IsLeafLibraryFile : Files → List ℕ → Result Library Refusal → Type 0
+IsLeafLibraryFile files name = Then (IsFile files name) IsLeafLibrary
+
+-- the kit of a technology, a library and subcircuits, or the first fault: those of whichever layout spells the library
+abbrev pub IsKitOfLibrary : Tech → Library → List ℕ → Result Kit Refusal → Type 0
+IsKitOfLibrary tech lib sp =
+    ValueOrFault (λ kit. (gds : List ℕ) → Spells gds lib → IsKitOf tech gds sp kit) (λ fault. (gds : List ℕ) → Spells gds lib → IsKitFault tech gds sp fault) refusal_of.Kit
+
+-- the subcircuits after the library
+abbrev pub IsKitOverLibrary : Files → List ℕ → Tech → Library → Result Kit Refusal → Type 0
+IsKitOverLibrary files name tech lib = Then (IsFile files (name ++ codes ".sp")) (IsKitOfLibrary tech lib)
 
 -- the kit of this name: the technology first
 abbrev pub IsKitUnder : Files → List ℕ → Result Kit Refusal → Type 0

@@ -1,16 +1,17 @@
 ghost use Rattle.std.specs.Prelude.{◌≡◌, ◌++◌, codes, false, IfOk};
+ghost use Rattle.gds_library.specs.Writable.{IsWritable};
 ghost use Rattle.sram_plan.specs.Config.{IsConfig};
 ghost use Rattle.tech_rules.specs.Facts.{IsTech};
 ghost use Rattle.command_steps.specs.File.{IsFile};
 ghost use Rattle.command_steps.specs.Outcome.{is_usage_outcome};
 ghost use Rattle.command_steps.specs.Reading.{HasRead};
-ghost use Rattle.build_command.specs.Design.{IsConfigFile, IsLeafLayoutFile, IsKitOver, IsKitWith, IsKitUnder};
+ghost use Rattle.build_command.specs.Design.{IsConfigFile, IsLeafLibraryFile, IsKitOverLibrary, IsKitWith, IsKitUnder};
 ghost use Rattle.build_command.specs.Design.{IsDesignWith, IsDesignOf, IsDesign, IsGoodDesign};
 ghost use Rattle.leaf_tables.specs.Kits.{IsKit};
 
 use command_steps::{file_text, read_file, read_technology_under, with_ending};
-use gds_library::read_gds;
-use leaf_tables::{Kit, read_kit};
+use gds_library::{Library, read_gds};
+use leaf_tables::{Kit, kit_of};
 use or_geom::Items;
 use or_host::Store;
 use reply_lines::Refusal;
@@ -55,37 +56,34 @@ fn read_under<S: Store>(
     read_file(alloc, file.as_str(), store)
 }
 
-/// The bytes of the GDSII file of this name, which spells a library.
-fn read_leaf_layout<S: Store>(
-    alloc: Global,
-    name: &str,
-    store: &mut S,
-) -> Result<Items<u8>, Refusal>
-    ensures read { HasRead (λ files. IsLeafLayoutFile files (name.now ++ codes ".gds")) result (S.state store.old)
+/// The library of the GDSII file of this name.
+fn read_leaf_layout<S: Store>(alloc: Global, name: &str, store: &mut S) -> Result<Library, Refusal>
+    ensures read { HasRead (λ files. IsLeafLibraryFile files (name.now ++ codes ".gds")) result (S.state store.old)
         (S.state store.new) }
+    ensures writable { IfOk result IsWritable }
     ensures words { is_usage_outcome result ≡ false }
 {
     let bytes = read_under(alloc, name, ".gds", store)?;
-    let _library = read_gds(alloc, bytes.as_slice())?;
-    Ok(bytes)
+    Ok(read_gds(alloc, bytes.as_slice())?)
 }
 
-/// The kit of a technology, a layout and the SPICE file of this name.
+/// The kit of a technology, the leaf cells' library and the SPICE file of this name.
 fn read_kit_over<S: Store>(
     alloc: Global,
     name: &str,
     tech: Tech,
-    gds: &[u8],
+    lib: Library,
     store: &mut S,
 ) -> Result<Kit, Refusal>
-    requires { IsTech tech }
-    ensures read { HasRead (λ files. IsKitOver files name.now tech gds.now) result (S.state store.old)
+    requires tech { IsTech tech }
+    requires writable { IsWritable lib }
+    ensures read { HasRead (λ files. IsKitOverLibrary files name.now tech lib) result (S.state store.old)
         (S.state store.new) }
     ensures good { IfOk result IsKit }
     ensures words { is_usage_outcome result ≡ false }
 {
-    let sp = read_under(alloc, name, ".sp", store)?;
-    Ok(read_kit(alloc, tech, gds, sp.as_slice())?)
+    let text = read_under(alloc, name, ".sp", store)?;
+    Ok(kit_of(alloc, tech, lib, text)?)
 }
 
 /// The kit of a technology and of the files of this name. The layout is decoded before the subcircuits are read.
@@ -100,8 +98,8 @@ fn read_kit_with<S: Store>(
     ensures good { IfOk result IsKit }
     ensures words { is_usage_outcome result ≡ false }
 {
-    let gds = read_leaf_layout(alloc, name, store)?;
-    read_kit_over(alloc, name, tech, gds.as_slice(), store)
+    let lib = read_leaf_layout(alloc, name, store)?;
+    read_kit_over(alloc, name, tech, lib, store)
 }
 
 /// Reads the kit of this name: the technology, the leaf cells' layouts and their subcircuits, each decoded before the

@@ -5,8 +5,9 @@ ghost use Rattle.leaf_tables.specs.Kits.{IsKit};
 
 use crate::short_maker::ShortMaker;
 use demo_kit::demo;
+use gds_library::read_gds;
 use kit_check::weakness;
-use leaf_tables::{Kit, read_kit};
+use leaf_tables::{Kit, kit_of};
 use macro_facts::{macros_are_whole, macros_have_rows, unused_names_are_free};
 use std::alloc::Global;
 use std::test::Fail;
@@ -20,7 +21,10 @@ fn kit(alloc: Global) -> Result<Kit, Fail>
     let Ok(tech) = read_tech(alloc, &files.tech) else {
         return Err("no technology".into());
     };
-    let Ok(kit) = read_kit(alloc, tech, &files.gds, &files.sp) else {
+    let Ok(lib) = read_gds(alloc, &files.gds) else {
+        return Err("no library".into());
+    };
+    let Ok(kit) = kit_of(alloc, tech, lib, files.sp) else {
         return Err("no kit".into());
     };
     Ok(kit)

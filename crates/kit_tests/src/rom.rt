@@ -4,7 +4,8 @@ ghost use Rattle.std.specs.Prelude.{◌≡◌, IfOk};
 ghost use Rattle.leaf_tables.specs.Kits.{IsKit};
 
 use demo_kit::demo;
-use leaf_tables::{Kit, read_kit};
+use gds_library::read_gds;
+use leaf_tables::{Kit, kit_of};
 use rom_macro::{rom_assemble, rom_leaves, rom_words};
 use sram_plan::{plan, read_config};
 use std::alloc::Global;
@@ -34,7 +35,10 @@ fn kit_with_fixed_cells(alloc: Global) -> Result<Kit, Fail>
     let Ok(tech) = read_tech(alloc, text.as_bytes()) else {
         return Err("no technology".into());
     };
-    let Ok(kit) = read_kit(alloc, tech, &files.gds, &files.sp) else {
+    let Ok(lib) = read_gds(alloc, &files.gds) else {
+        return Err("no library".into());
+    };
+    let Ok(kit) = kit_of(alloc, tech, lib, files.sp) else {
         return Err("no kit".into());
     };
     Ok(kit)

@@ -3,7 +3,9 @@
 ghost use Rattle.std.specs.Prelude.{◌≤◌};
 
 use demo_kit::demo;
-use leaf_tables::{KitFault, read_kit};
+use gds_library::read_gds;
+use leaf_tables::{KitFault, kit_of};
+use or_geom::Items;
 use role_tables::TableFault;
 use std::alloc::Global;
 use std::process::Abort;
@@ -22,7 +24,11 @@ fn answer(alloc: Global, tech: &[u8], gds: &[u8], sp: &[u8]) -> Result<String, F
     let Ok(tech) = read_tech(alloc, tech) else {
         return Err("no technology".into());
     };
-    match read_kit(alloc, tech, gds, sp) {
+    let Ok(lib) = read_gds(alloc, gds) else {
+        return Err("no library".into());
+    };
+    let text = Items::from_vec(Vec::from_slice(alloc, sp)?);
+    match kit_of(alloc, tech, lib, text) {
         Ok(_) => Ok(format!(in alloc; "a kit")?),
         Err(fault) => fault_text(alloc, &fault),
     }

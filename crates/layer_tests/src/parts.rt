@@ -7,7 +7,8 @@ ghost use Rattle.sram_plan.specs.PlanNumbers.{numbers_of};
 
 use cell_builder::Cells;
 use demo_kit::demo;
-use leaf_tables::{Kit, read_kit};
+use gds_library::read_gds;
+use leaf_tables::{Kit, kit_of};
 use netlist::Deck;
 use or_geom::Name;
 use spice_netlist::flat_rows;
@@ -44,11 +45,14 @@ fn begin(alloc: Global) -> Result<Trial, Fail>
     let Ok(tech) = read_tech(alloc, &files.tech) else {
         return Err("no technology".into());
     };
-    let Ok(kit) = read_kit(alloc, tech, &files.gds, &files.sp) else {
-        return Err("no kit".into());
-    };
     let Ok(deck) = read_spice(alloc, &files.sp) else {
         return Err("no subcircuits".into());
+    };
+    let Ok(lib) = read_gds(alloc, &files.gds) else {
+        return Err("no library".into());
+    };
+    let Ok(kit) = kit_of(alloc, tech, lib, files.sp) else {
+        return Err("no kit".into());
     };
     let mut cells = Cells::new(alloc)?;
     cells.adopt(&kit.lib)?;

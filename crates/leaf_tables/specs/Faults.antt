@@ -2,7 +2,6 @@
 use Rattle.std.specs.Prelude.{◌≡◌, ◌≢◌, ◌⊎◌, ℕ, List, Some, None, Ok}
 use Rattle.cell_hierarchy.specs.declared.fault.FlattenFault.{FlattenFault}
 use Rattle.cell_hierarchy.specs.declared.fault.FlattenFault.TheVariants as flatten_fault
-use Rattle.gds_library.specs.declared.fault.GdsFault.{GdsFault}
 use Rattle.gds_library.specs.declared.fault.GdsFault.TheVariants as gds_fault
 use Rattle.gds_library.specs.declared.library.Library.{Library}
 use Rattle.gds_library.specs.FirstFault.{IsFaultOf}
@@ -25,18 +24,6 @@ use Rattle.leaf_tables.specs.Leaves.{LeafSource, AreLeaves, IsFirstLeafFault}
 use Rattle.leaf_tables.specs.Alignment.{IsMisaligned}
 
 -- faults of what a kit is read from; want of memory is one fault, whoever meets it
-abbrev pub of_gds : GdsFault → KitFault
-of_gds gds_fault.Memory = kit_fault.Memory
-of_gds (gds_fault.Truncated at) = kit_fault.Gds (gds_fault.Truncated at)
-of_gds (gds_fault.BadRecord at code) = kit_fault.Gds (gds_fault.BadRecord at code)
-of_gds (gds_fault.NotInPlace at code) = kit_fault.Gds (gds_fault.NotInPlace at code)
-of_gds (gds_fault.BadUnits at) = kit_fault.Gds (gds_fault.BadUnits at)
-of_gds (gds_fault.NotManhattan at) = kit_fault.Gds (gds_fault.NotManhattan at)
-of_gds (gds_fault.BadTransform at) = kit_fault.Gds (gds_fault.BadTransform at)
-of_gds (gds_fault.BadPath at) = kit_fault.Gds (gds_fault.BadPath at)
-of_gds (gds_fault.TrailingBytes at) = kit_fault.Gds (gds_fault.TrailingBytes at)
-of_gds (gds_fault.Twice at) = kit_fault.Gds (gds_fault.Twice at)
-
 abbrev pub of_spice : SpiceFault → KitFault
 of_spice spice_fault.Memory = kit_fault.Memory
 of_spice (spice_fault.NotAscii at) = kit_fault.Spice (spice_fault.NotAscii at)

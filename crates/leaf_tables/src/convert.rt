@@ -1,6 +1,5 @@
 use crate::fault::KitFault;
 use cell_hierarchy::FlattenFault;
-use gds_library::GdsFault;
 use or_geom::Memory;
 use role_tables::TableFault;
 use spice_text::SpiceFault;
@@ -13,20 +12,6 @@ impl From<Memory> for KitFault {
 
     fn from(_: Memory) -> Self {
         KitFault::Memory
-    }
-}
-
-impl From<GdsFault> for KitFault {
-    ghost use Rattle.std.specs.Prelude.{◌≡◌};
-    ghost use Rattle.leaf_tables.specs.Faults.{of_gds};
-
-    ghost from_gives = { λ gds fault. fault ≡ of_gds gds };
-
-    fn from(fault: GdsFault) -> Self {
-        match fault {
-            GdsFault::Memory => KitFault::Memory,
-            other => KitFault::Gds(other),
-        }
     }
 }
 

@@ -22,5 +22,5 @@ pub use leaf_shapes::LeafPin;
 pub use lookup::role_number;
 pub use of_role::{leaf_of, wire_of};
 pub use part::{Edge, Edges, PartFault};
-pub use read::read_kit;
+pub use read::kit_of;
 pub use role_tables::{TableFault, read_table, read_tables};

@@ -8,7 +8,7 @@ use leaf_tables::{Kit, KitFault, Leaf, LeafRole, read_leaf, read_table};
 use std::alloc::Global;
 use tech_rules::Wire;
 
-/// The leaf of the cell with this fixed bit: its table is looked at first, and then the cell, as `read_kit` looks at
+/// The leaf of the cell with this fixed bit: its table is looked at first, and then the cell, as `kit_of` looks at
 /// others.
 pub fn fixed_leaf(alloc: Global, kit: &Kit, wire: &Wire, bit: bool) -> Result<Leaf, KitFault>
     requires tech { IsTech kit.now.tech }
