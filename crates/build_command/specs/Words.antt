@@ -3,8 +3,8 @@ use Rattle.std.specs.Prelude.{◌≡◌, ℕ, ◌<◌, ◌≤◌, List, [], ◌�
 use Rattle.std.specs.Fmt.{decimal}
 use Rattle.std.specs.Str.{bytes_eq}
 use Rattle.command_steps.specs.Workers.{is_workers}
-use Rattle.build_command.specs.declared.words.Asked.{Asked}
-use Rattle.build_command.specs.declared.words.Asked.TheVariants as asked
+use Rattle.build_command.specs.declared.words.BuildKind.{BuildKind}
+use Rattle.build_command.specs.declared.words.BuildKind.TheVariants as asked
 use Rattle.build_command.specs.declared.words.Making as declared
 
 -- the memory of the configuration in the file of this name; the demonstration with this number; or the read-only memory of a
@@ -45,7 +45,7 @@ abbrev pub AreNoMaking : List (List ℕ) → Type 0
 AreNoMaking words = (m : Making) → ¬ IsMakingForm words m
 
 -- what is asked for, over plain data
-abbrev pub told_request : Asked → Making
+abbrev pub told_request : BuildKind → Making
 told_request (asked.Build config) = build config.now
 told_request (asked.Demo number) = demo number
 told_request (asked.Rom files) = rom files.config.now files.content.now

@@ -16,4 +16,4 @@ pub use laws::{
     demo_files_hold_bytes, designs_are_one, rom_works_are_one, runs_end_as_work, works_are_one,
 };
 pub use run::make;
-pub use words::{Asked, Making, RomFiles};
+pub use words::{BuildKind, Making, RomFiles};

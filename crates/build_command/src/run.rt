@@ -13,7 +13,7 @@ use crate::demo_files::demo_files;
 use crate::design::read_design;
 use crate::made::{Made, make_design, make_rom};
 use crate::rom_design::read_rom;
-use crate::words::{Asked, Making, RomFiles};
+use crate::words::{BuildKind, Making, RomFiles};
 use command_steps::{finish, finish_unwritten, no_memory, refuse, write_files};
 use or_host::{MemFile, Sink, Store, SureStore};
 use reply_lines::Refusal;
@@ -217,8 +217,8 @@ pub fn make<R: Threads + Sync, G: Gate + Sync, S: Store, K: Sink>(
         (outside_at (S.state store.new) (K.state out.new)) }
 {
     match making.asked {
-        Asked::Build { config } => build_from(rt, alloc, gate, config, making.workers, store, out),
-        Asked::Demo { number } => demonstrate(rt, alloc, gate, number, making.workers, store, out),
-        Asked::Rom(files) => build_rom(rt, alloc, gate, files, making.workers, store, out),
+        BuildKind::Build { config } => build_from(rt, alloc, gate, config, making.workers, store, out),
+        BuildKind::Demo { number } => demonstrate(rt, alloc, gate, number, making.workers, store, out),
+        BuildKind::Rom(files) => build_rom(rt, alloc, gate, files, making.workers, store, out),
     }
 }

@@ -8,13 +8,13 @@ pub struct RomFiles<'a> {
 /// What is built, and how many workers may do it: 1 to 64.
 #[derive(Clone, Copy)]
 pub struct Making<'a> {
-    pub asked: Asked<'a>,
+    pub asked: BuildKind<'a>,
     pub workers: u8,
 }
 
 /// What is built.
 #[derive(Clone, Copy)]
-pub enum Asked<'a> {
+pub enum BuildKind<'a> {
     /// The memory of a configuration: `build CONFIG WORKERS`.
     Build { config: &'a str },
     /// The demonstration with a number: `demo N WORKERS`.

@@ -10,7 +10,7 @@ use Rattle.build_command.specs.Words.Making.{build, demo, rom}
 use Rattle.openram_cli.specs.declared.command.Command as declared
 use Rattle.openram_cli.specs.declared.command.Command.TheVariants as variant
 use Rattle.openram_cli.specs.declared.command.Question.{Question}
-use Rattle.openram_cli.specs.Command.{Command, check_form, nets_form, compare_form, devices_form, kit_form, or_else, command_of}
+use Rattle.openram_cli.specs.Inspection.{Inspection, check_form, nets_form, compare_form, devices_form, kit_form, or_else, inspection_of}
 use Rattle.openram_cli.specs.CommandWords.{HasWorkers, told_question, IsCommandIn}
 
 -- The words, and what is compared.
@@ -97,51 +97,51 @@ no_kit first (x ∷ (y ∷ (z ∷ more))) other = refl
 
 -- One form that the words may be, and those that they aren't.
 
-none_before : (a b : Option Command) → a ≡ None → or_else a b ≡ b
+none_before : (a b : Option Inspection) → a ≡ None → or_else a b ≡ b
 none_before None b is = refl
 none_before (Some command) b is = absurd cc
 
-none_after : (a b : Option Command) → b ≡ None → or_else a b ≡ a
+none_after : (a b : Option Inspection) → b ≡ None → or_else a b ≡ a
 none_after None b is = is
 none_after (Some command) b is = refl
 
 -- words that begin so are this form or none
 
-pub only_check : (rest : List (List ℕ)) → command_of (codes "check" ∷ rest) ≡ check_form (codes "check" ∷ rest)
+pub only_check : (rest : List (List ℕ)) → inspection_of (codes "check" ∷ rest) ≡ check_form (codes "check" ∷ rest)
 only_check rest =
     none_after (check_form (codes "check" ∷ rest)) _
     (none_before _ _ (no_nets (codes "check") rest refl) ∙ none_before _ _ (no_compare (codes "check") rest refl) ∙ none_before _ _ (no_devices (codes "check") rest refl) ∙ no_kit (codes "check") rest refl)
 
-pub only_nets : (rest : List (List ℕ)) → command_of (codes "nets" ∷ rest) ≡ nets_form (codes "nets" ∷ rest)
+pub only_nets : (rest : List (List ℕ)) → inspection_of (codes "nets" ∷ rest) ≡ nets_form (codes "nets" ∷ rest)
 only_nets rest =
     none_before _ _ (no_check (codes "nets") rest refl)
     ∙ none_after (nets_form (codes "nets" ∷ rest)) _
     (none_before _ _ (no_compare (codes "nets") rest refl) ∙ none_before _ _ (no_devices (codes "nets") rest refl) ∙ no_kit (codes "nets") rest refl)
 
-pub only_compare : (rest : List (List ℕ)) → command_of (codes "compare" ∷ rest) ≡ compare_form (codes "compare" ∷ rest)
+pub only_compare : (rest : List (List ℕ)) → inspection_of (codes "compare" ∷ rest) ≡ compare_form (codes "compare" ∷ rest)
 only_compare rest =
     none_before _ _ (no_check (codes "compare") rest refl) ∙ none_before _ _ (no_nets (codes "compare") rest refl)
     ∙ none_after (compare_form (codes "compare" ∷ rest)) _ (none_before _ _ (no_devices (codes "compare") rest refl) ∙ no_kit (codes "compare") rest refl)
 
-pub only_devices : (rest : List (List ℕ)) → command_of (codes "devices" ∷ rest) ≡ devices_form (codes "devices" ∷ rest)
+pub only_devices : (rest : List (List ℕ)) → inspection_of (codes "devices" ∷ rest) ≡ devices_form (codes "devices" ∷ rest)
 only_devices rest =
     none_before _ _ (no_check (codes "devices") rest refl) ∙ none_before _ _ (no_nets (codes "devices") rest refl) ∙ none_before _ _ (no_compare (codes "devices") rest refl)
     ∙ none_after (devices_form (codes "devices" ∷ rest)) _ (no_kit (codes "devices") rest refl)
 
-pub only_kit : (rest : List (List ℕ)) → command_of (codes "kit" ∷ rest) ≡ kit_form (codes "kit" ∷ rest)
+pub only_kit : (rest : List (List ℕ)) → inspection_of (codes "kit" ∷ rest) ≡ kit_form (codes "kit" ∷ rest)
 only_kit rest =
     none_before _ _ (no_check (codes "kit") rest refl) ∙ none_before _ _ (no_nets (codes "kit") rest refl) ∙ none_before _ _ (no_compare (codes "kit") rest refl)
     ∙ none_before _ _ (no_devices (codes "kit") rest refl)
 
 pub no_question : (first : List ℕ) (rest : List (List ℕ)) → bytes_eq first (codes "check") ≡ false → bytes_eq first (codes "nets") ≡ false → bytes_eq first (codes "compare") ≡ false
-    → bytes_eq first (codes "devices") ≡ false → bytes_eq first (codes "kit") ≡ false → command_of (first ∷ rest) ≡ None
+    → bytes_eq first (codes "devices") ≡ false → bytes_eq first (codes "kit") ≡ false → inspection_of (first ∷ rest) ≡ None
 no_question first rest check nets compare devices kit =
     none_before _ _ (no_check first rest check) ∙ none_before _ _ (no_nets first rest nets) ∙ none_before _ _ (no_compare first rest compare)
     ∙ none_before _ _ (no_devices first rest devices) ∙ no_kit first rest kit
 
 -- What the words ask, of what a form of theirs is read as.
 
-pub made : (words : List (List ℕ)) (read : Option making.Making) (asked : Option declared.Command) → command_of words ≡ None
+pub made : (words : List (List ℕ)) (read : Option making.Making) (asked : Option declared.Command) → inspection_of words ≡ None
     → IfSome read (λ built. IsMakingForm words (told_making built)) → IfNone read (AreNoMaking words) → IfSome read HasMakingWorkers
     → MatchOption read (asked ≡ None) (λ built. IsSomeAnd asked (λ command. command ≡ variant.Make built)) → IsCommandIn words asked
 made words None asked no_form some none workers is = subst (IsCommandIn words) (sym is) (record { no_making = none; no_form = no_form })
@@ -150,7 +150,7 @@ made words (Some built) (Some command) no_form some none workers is =
     subst (λ (c : declared.Command). IsCommandIn words (Some c)) (sym is) (record { form = some; workers = workers })
 
 pub answered : (words : List (List ℕ)) (read : Option Question) (asked : Option declared.Command) → AreNoMaking words
-    → option_map told_question read ≡ command_of words → IfSome read HasWorkers
+    → option_map told_question read ≡ inspection_of words → IfSome read HasWorkers
     → MatchOption read (asked ≡ None) (λ question. IsSomeAnd asked (λ command. command ≡ variant.Answer question)) → IsCommandIn words asked
 answered words None asked no_making form workers is = subst (IsCommandIn words) (sym is) (record { no_making = no_making; no_form = sym form })
 answered words (Some question) None no_making form workers is = absurd is

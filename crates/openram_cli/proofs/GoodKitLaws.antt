@@ -22,7 +22,7 @@ use Rattle.good_kits.specs.Builds.{IsKitPassed, MayStillCome}
 use Rattle.good_kits.proofs.BuildLaws.{good_kits_spare_runs}
 use Rattle.openram_cli.specs.declared.inputs.Inputs.{Inputs}
 use Rattle.openram_cli.specs.Answer.{IsCommandWork, IsReplyTo, IsUsage, reply_of}
-use Rattle.openram_cli.specs.Command.Command.{kit}
+use Rattle.openram_cli.specs.Inspection.Inspection.{kit}
 use Rattle.openram_cli.specs.Run.{IsProgramRun}
 use Rattle.openram_cli.specs.GoodKits.{IsFoundGood, EndsWithinGoodKit}
 

@@ -57,8 +57,8 @@ use Rattle.openram_cli.specs.declared.inputs.Inputs.{Inputs}
 use Rattle.openram_cli.specs.declared.inputs.Inputs.TheVariants as inputs
 use Rattle.openram_cli.specs.declared.inputs.Layout.{Layout}
 use Rattle.openram_cli.specs.declared.inputs.LeafCells.{LeafCells}
-use Rattle.openram_cli.specs.Command.{Command, LayoutWords, command_of}
-use Rattle.openram_cli.specs.Command.Command.{check, nets, compare, devices, kit}
+use Rattle.openram_cli.specs.Inspection.{Inspection, LayoutWords, inspection_of}
+use Rattle.openram_cli.specs.Inspection.Inspection.{check, nets, compare, devices, kit}
 use Rattle.build_command.specs.Design.{IsKitUnder}
 use Rattle.build_command.specs.OneDesign.{HoldBytes}
 use Rattle.build_command.proofs.OneDesignLaws.{on_kit_under}
@@ -200,7 +200,7 @@ module _ (l : AreLaws) where
       (λ tech made. on_then (IsLibraryFile files (name ++ codes ".gds")) (AreCellsOver files name tech) (on_library_file files (name ++ codes ".gds") hold)
       (λ lib spelled. on_then (IsDeckFile files (name ++ codes ".sp")) (λ d. WithoutRefusal (last tech lib d)) (on_deck_file files (name ++ codes ".sp")) (λ d read. on_gives (last tech lib d) (λ x y p q. p ∙ sym q))))
 
-  on_inputs : (files : Files) (c : Command) → HoldBytes files → IsOnce (AreInputs files c)
+  on_inputs : (files : Files) (c : Inspection) → HoldBytes files → IsOnce (AreInputs files c)
   on_inputs files (check words) hold =
       on_then (IsLayout files words) (λ layout. WithoutRefusal (λ (read : Inputs). read ≡ inputs.Check layout)) (on_layout files words hold) (λ layout made. on_gives (λ (read : Inputs). read ≡ inputs.Check layout) (λ x y p q. p ∙ sym q))
   on_inputs files (nets words) hold =
@@ -239,7 +239,7 @@ module _ (l : AreLaws) where
       on_then (AreFlat layout) (λ lists. Then (AreLeafRows layout d) (λ rows. WithoutRefusal (last lists rows))) (on_flat layout w)
       (λ lists flat. on_then (AreLeafRows layout d) (λ rows. WithoutRefusal (last lists rows)) (on_rows layout d) (λ rows are. on_gives (last lists rows) (compared l.nets l.differences l.alike layout.tech lists rows)))
 
-  on_reply : (files : Files) (c : Command) (read : Inputs) → HoldBytes files → AreInputs files c (Ok read) → IsOnce (IsReplyTo read)
+  on_reply : (files : Files) (c : Inspection) (read : Inputs) → HoldBytes files → AreInputs files c (Ok read) → IsOnce (IsReplyTo read)
   on_reply files (check words) read hold made = subst (λ (x : Inputs). IsOnce (IsReplyTo x)) (sym made.2) (on_check made.0 (layout_writable files words made.0 hold made.1))
   on_reply files (nets words) read hold made = subst (λ (x : Inputs). IsOnce (IsReplyTo x)) (sym made.2) (on_nets made.0 (layout_writable files words made.0 hold made.1))
   on_reply files (compare words netlist) read hold made =
@@ -250,10 +250,10 @@ module _ (l : AreLaws) where
       (on_devices_answered l.devices l.device_faults l.no_device_faults (leaf_files cells.tech cells.lib cells.deck) (cells_writable files name cells hold made.1))
   on_reply files (kit name) read hold made = subst (λ (x : Inputs). IsOnce (IsReplyTo x)) (sym made.2) (on_kit_answered made.0)
 
-  on_command : (files : Files) (c : Command) → HoldBytes files → IsOnce (IsCommandWork files c)
+  on_command : (files : Files) (c : Inspection) → HoldBytes files → IsOnce (IsCommandWork files c)
   on_command files c hold = on_then (AreInputs files c) IsReplyTo (on_inputs files c hold) (λ read made. on_reply files c read hold made)
 
-  on_work : (files : Files) → HoldBytes files → (o : Option Command) → IsOnce (λ (result : Result Reply Refusal). MatchOption o (IsUsage result) (λ c. IsCommandWork files c result))
+  on_work : (files : Files) → HoldBytes files → (o : Option Inspection) → IsOnce (λ (result : Result Reply Refusal). MatchOption o (IsUsage result) (λ c. IsCommandWork files c result))
   on_work files hold None (Ok a) b s t p q = absurd p
   on_work files hold None (Err e) (Ok b) s t p q = absurd q
   on_work files hold None (Err e) (Err f) s t p q = ap (λ (r : Refusal). Err r) (p ∙ sym q)
@@ -265,4 +265,4 @@ settled (Err e) reply is low = subst (λ (r : Reply). r.status < 4) is low
 
 pub one_answer : (words : List (List ℕ)) (files : Files) → HaveOneAnswer words files
 one_answer words files none hold a b p q =
-    p.is ∙ (ap reply_of (on_work all_laws files hold (command_of words) p.result q.result (settled p.result a p.is p.settled) (settled q.result b q.is q.settled) p.work q.work) ∙ sym q.is)
+    p.is ∙ (ap reply_of (on_work all_laws files hold (inspection_of words) p.result q.result (settled p.result a p.is p.settled) (settled q.result b q.is q.settled) p.work q.work) ∙ sym q.is)

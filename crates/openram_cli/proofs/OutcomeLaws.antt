@@ -45,8 +45,8 @@ use Rattle.openram_cli.specs.declared.inputs.Inputs.TheVariants as inputs
 use Rattle.openram_cli.specs.declared.inputs.Layout.{Layout}
 use Rattle.openram_cli.specs.declared.inputs.LeafCells.{LeafCells}
 use Rattle.openram_cli.specs.Answer.{IsAnswer, IsCommandWork, IsReplyTo, IsUsage}
-use Rattle.openram_cli.specs.Command.{Command, LayoutWords, command_of}
-use Rattle.openram_cli.specs.Command.Command.{check, nets, compare, devices, kit}
+use Rattle.openram_cli.specs.Inspection.{Inspection, LayoutWords, inspection_of}
+use Rattle.openram_cli.specs.Inspection.Inspection.{check, nets, compare, devices, kit}
 use Rattle.openram_cli.specs.Inputs.{AreCellsOver, AreCellsWith, AreCompared, AreInputs, AreLeafCells, HasDevices, IsDeck, IsDeckFile, IsDeviceTechnology}
 use Rattle.openram_cli.specs.Inputs.{IsLayout, IsLayoutWith, IsLibrary, IsLibraryFile, IsSoundLayout}
 use Rattle.openram_cli.specs.Outcomes.{InputsHaveOutcomes, IsNoKit, AnswersAreThere}
@@ -132,7 +132,7 @@ module _ (files : Files) (hold : HoldBytes files) where
   answered_cells name =
       answered_then (IsDeviceTechnology files name) (AreCellsWith files name) (answered_device_technology name) (λ tech made. answered_cells_with name tech)
 
-  answered_inputs : (c : Command) → HasOutcome (AreInputs files c)
+  answered_inputs : (c : Inspection) → HasOutcome (AreInputs files c)
   answered_inputs (check words) =
       let read_as : Layout → Inputs → Type 0 = λ layout read. read ≡ inputs.Check layout in
       answered_then (IsLayout files words) (λ layout. WithoutRefusal (read_as layout)) (answered_layout words)
@@ -172,7 +172,7 @@ module _ (files : Files) (hold : HoldBytes files) where
       subst (λ (c : LeafCells). IsWritable c.lib) (sym with.2.2)
       (writable bytes with.0 (hold (name ++ codes ".gds") bytes with.1.1.holds) with.1.2)
 
-  answered_work : ReportsAreThere → LibrariesAreWritable → (c : Command) → IsNoKit c → HasOutcome (IsCommandWork files c)
+  answered_work : ReportsAreThere → LibrariesAreWritable → (c : Inspection) → IsNoKit c → HasOutcome (IsCommandWork files c)
   answered_work reports writable (check words) one =
       answered_then (AreInputs files (check words)) IsReplyTo (answered_inputs (check words))
       (λ read made. subst (λ (r : Inputs). HasOutcome (IsReplyTo r)) (sym made.2) (checks_have_outcomes reports made.0 (sound_layout writable words made.0 made.1)))
@@ -207,7 +207,7 @@ device_low None = lit< tt
 device_low (Some d) = lit< tt
 
 -- the reply to any command but `kit` has a status below 4
-reply_low : (c : Command) → IsNoKit c → (files : Files) (reply : Reply) → IsCommandWork files c (Ok reply) → reply.status < 4
+reply_low : (c : Inspection) → IsNoKit c → (files : Files) (reply : Reply) → IsCommandWork files c (Ok reply) → reply.status < 4
 reply_low (check words) one files reply work = by work.0 work.1.2 work.2
   where
     by : (read : Inputs) → read ≡ inputs.Check work.1.0 → IsReplyTo read (Ok reply) → reply.status < 4
@@ -238,15 +238,15 @@ reply_low (devices name) one files reply work = by work.0 work.1.2 work.2
 reply_low (kit name) one files reply work = absurd one
 
 pub answers_are_there : ReportsAreThere → LibrariesAreWritable → AnswersAreThere
-answers_are_there reports writable words files hold asked = by (command_of words) refl
+answers_are_there reports writable words files hold asked = by (inspection_of words) refl
   where
-    of_command : (c : Command) → command_of words ≡ Some c → (result : Result Reply Refusal) → IsDecided result → IsCommandWork files c result
+    of_command : (c : Inspection) → inspection_of words ≡ Some c → (result : Result Reply Refusal) → IsDecided result → IsCommandWork files c result
         → (reply : Reply) × IsAnswer words files reply
     of_command c e (Ok reply) decided work = (
       reply,
       record {
         result = Ok reply;
-        work = subst (λ (o : Option Command). MatchOption o (IsUsage (Ok reply)) (λ d. IsCommandWork files d (Ok reply))) (sym e) work;
+        work = subst (λ (o : Option Inspection). MatchOption o (IsUsage (Ok reply)) (λ d. IsCommandWork files d (Ok reply))) (sym e) work;
         is = refl;
         settled = reply_low c (asked c e) files reply work;
       },
@@ -255,18 +255,18 @@ answers_are_there reports writable words files hold asked = by (command_of words
       refusal_reply refusal,
       record {
         result = Err refusal;
-        work = subst (λ (o : Option Command). MatchOption o (IsUsage (Err refusal)) (λ d. IsCommandWork files d (Err refusal))) (sym e) work;
+        work = subst (λ (o : Option Inspection). MatchOption o (IsUsage (Err refusal)) (λ d. IsCommandWork files d (Err refusal))) (sym e) work;
         is = refl;
         settled = decided;
       },
     )
 
-    by : (command : Option Command) → command_of words ≡ command → (reply : Reply) × IsAnswer words files reply
+    by : (command : Option Inspection) → inspection_of words ≡ command → (reply : Reply) × IsAnswer words files reply
     by None e = (
       refusal_reply refusal_of.Usage,
       record {
         result = Err refusal_of.Usage;
-        work = subst (λ (o : Option Command). MatchOption o (IsUsage (Err refusal_of.Usage)) (λ d. IsCommandWork files d (Err refusal_of.Usage))) (sym e) refl;
+        work = subst (λ (o : Option Inspection). MatchOption o (IsUsage (Err refusal_of.Usage)) (λ d. IsCommandWork files d (Err refusal_of.Usage))) (sym e) refl;
         is = refl;
         settled = lit< tt;
       },

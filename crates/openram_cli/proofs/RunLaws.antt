@@ -13,7 +13,7 @@ use Rattle.reply_lines.specs.Refusals.{refusal_words}
 use Rattle.reply_lines.specs.Reply.{refusal_reply}
 use Rattle.reply_lines.specs.Statuses.{is_memory, is_read_failure, is_usage, refusal_status}
 use Rattle.openram_cli.specs.Answer.{IsWork, IsAnswer, IsRead, IsUsage, IsCommandWork}
-use Rattle.openram_cli.specs.Command.{Command, command_of}
+use Rattle.openram_cli.specs.Inspection.{Inspection, inspection_of}
 use Rattle.command_steps.specs.Finished.{AreSomeLines, IsCut, IsStopped, IsMemorySaid, IsFinished, IsOutOfMemory, IsFaultLinePrinted, IsRefusalPrinted, memory_line, unread_line}
 use Rattle.command_steps.specs.Outcome.{UnlessMemory}
 use Rattle.command_steps.specs.Outside.{Outside, IfTold}
@@ -107,12 +107,12 @@ unread_end words files name ended before now read rose named (inr (inr silent)) 
 -- what is known of a reply to words, wherever the files are told
 pub record IsFitting (words : List (List ℕ)) (reply : Reply) : Type 0 where
   pub low : reply.status < 4
-  pub usage : (reply.status ≡ 2) ↔ (command_of words ≡ None)
+  pub usage : (reply.status ≡ 2) ↔ (inspection_of words ≡ None)
   pub line : reply.status ≡ 2 → lines_text reply.lines ≡ usage_line
 
 -- the run that prints it
 finished_run : (words : List (List ℕ)) (reply : Reply) (ended : ℕ) (before now : Outside) → IsFitting words reply → IfTold before.store.files (λ files. IsAnswer words files reply)
-    → (command_of words ≡ None → (files : Files) → IsAnswer words files reply) → now.store.files ≡ before.store.files → now.store.faults ≡ before.store.faults → IsFinished reply ended before.sink now.sink → IsAnswerRun words ended before now
+    → (inspection_of words ≡ None → (files : Files) → IsAnswer words files reply) → now.store.files ≡ before.store.files → now.store.faults ≡ before.store.faults → IsFinished reply ended before.sink now.sink → IsAnswerRun words ended before now
 finished_run words reply ended before now fits told free same kept (inl whole) =
     let low = fits.low in
     record {
@@ -185,7 +185,7 @@ memory_run words ended before now same kept (inr said) = record {
 }
 
 -- the run where a read failed; words that are no form read nothing
-unread_run : (words : List (List ℕ)) (name : List ℕ) (ended : ℕ) (before now : Outside) → (command_of words ≡ None → ⊥) → IfTold before.store.files (λ files. IsRead words files name)
+unread_run : (words : List (List ℕ)) (name : List ℕ) (ended : ℕ) (before now : Outside) → (inspection_of words ≡ None → ⊥) → IfTold before.store.files (λ files. IsRead words files name)
     → now.store.files ≡ before.store.files → Rose before.store.faults now.store.faults → IsNameTold now.store.failed name → IsFaultLinePrinted (unread_line name) ended before.sink now.sink → IsAnswerRun words ended before now
 unread_run words name ended before now form told same rose named (inl whole) = record {
   range = omega arith;
@@ -228,7 +228,7 @@ unread_run words name ended before now form told same rose named (inr (inr silen
 }
 
 -- words are a form where they aren't refused as none
-formed : (o : Option Command) → false ≡ is_none o → o ≡ None → ⊥
+formed : (o : Option Inspection) → false ≡ is_none o → o ≡ None → ⊥
 formed None e none = absurd cc
 formed (Some c) e none = absurd cc
 
@@ -237,10 +237,10 @@ usage_is Usage e = refl
 usage_is other e = absurd cc
 
 -- the words that are no form are refused, whatever the files are
-usage_free : (words : List (List ℕ)) (files : Files) (refusal : Refusal) → is_usage refusal ≡ is_none (command_of words) → command_of words ≡ None → IsWork words files (Err refusal)
+usage_free : (words : List (List ℕ)) (files : Files) (refusal : Refusal) → is_usage refusal ≡ is_none (inspection_of words) → inspection_of words ≡ None → IsWork words files (Err refusal)
 usage_free words files refusal e none =
-    let is : refusal ≡ Usage = usage_is refusal (e ∙ subst (λ (o : Option Command). is_none o ≡ true) (sym none) refl) in
-    subst (λ (o : Option Command). MatchOption o (IsUsage (Err refusal)) (λ c. IsCommandWork files c (Err refusal))) (sym none) is
+    let is : refusal ≡ Usage = usage_is refusal (e ∙ subst (λ (o : Option Inspection). is_none o ≡ true) (sym none) refl) in
+    subst (λ (o : Option Inspection). MatchOption o (IsUsage (Err refusal)) (λ c. IsCommandWork files c (Err refusal))) (sym none) is
 
 -- a refusal's status
 low_status : (a b c : Bool) → a ≡ false → b ≡ false → (if a then 5 else (if b then 4 else (if c then 2 else 3))) < 4
@@ -249,7 +249,7 @@ low_status false true c e f = absurd cc
 low_status false false true e f = omega arith
 low_status false false false e f = omega arith
 
-usage_status : (a b c : Bool) (o : Option Command) → a ≡ false → b ≡ false → c ≡ is_none o → (◌≡◌ {A = ℕ} (if a then 5 else (if b then 4 else (if c then 2 else 3))) 2) ↔ (o ≡ None)
+usage_status : (a b c : Bool) (o : Option Inspection) → a ≡ false → b ≡ false → c ≡ is_none o → (◌≡◌ {A = ℕ} (if a then 5 else (if b then 4 else (if c then 2 else 3))) 2) ↔ (o ≡ None)
 usage_status true b c o e f g = absurd cc
 usage_status false true c o e f g = absurd cc
 usage_status false false true None e f g = (λ two. refl, λ none. refl)
@@ -269,24 +269,24 @@ usage_text refusal two =
     ap (λ (r : Refusal). lines_text (refusal_reply r).lines) is ∙ append-nil usage_line
 
 -- the run of an answer
-pub answer_run : (words : List (List ℕ)) (reply : Reply) (ended : ℕ) (before now : Outside) → HasRead (IsWork words) (Ok reply) before.store now.store → reply.status < 2 → false ≡ is_none (command_of words)
+pub answer_run : (words : List (List ℕ)) (reply : Reply) (ended : ℕ) (before now : Outside) → HasRead (IsWork words) (Ok reply) before.store now.store → reply.status < 2 → false ≡ is_none (inspection_of words)
     → IsFinished reply ended before.sink now.sink → IsAnswerRun words ended before now
 answer_run words reply ended before now read small form finished =
     let low : reply.status < 4 = omega arith in
     let is : (files : Files) → IsWork words files (Ok reply) → IsAnswer words files reply = λ files work. record { result = Ok reply; work = work; is = refl; settled = low } in
-    let fits : IsFitting words reply = record { low = low; usage = (λ two. absurd (omega arith), λ none. absurd (formed (command_of words) form none)); line = λ two. absurd (omega arith) } in
+    let fits : IsFitting words reply = record { low = low; usage = (λ two. absurd (omega arith), λ none. absurd (formed (inspection_of words) form none)); line = λ two. absurd (omega arith) } in
     finished_run words reply ended before now fits (told_map before.store.files (λ files. IsWork words files (Ok reply)) (λ files. IsAnswer words files reply) is read.told)
-    (λ none files. absurd (formed (command_of words) form none)) read.same (read.cause.kept refl) finished
+    (λ none files. absurd (formed (inspection_of words) form none)) read.same (read.cause.kept refl) finished
 
 -- the run of a refusal that is an answer
-refused_run : (words : List (List ℕ)) (refusal : Refusal) (ended : ℕ) (before now : Outside) → HasRead (IsWork words) (Err refusal) before.store now.store → is_usage refusal ≡ is_none (command_of words)
+refused_run : (words : List (List ℕ)) (refusal : Refusal) (ended : ℕ) (before now : Outside) → HasRead (IsWork words) (Err refusal) before.store now.store → is_usage refusal ≡ is_none (inspection_of words)
     → is_memory refusal ≡ false → is_read_failure refusal ≡ false → IsFinished (refusal_reply refusal) ended before.sink now.sink → IsAnswerRun words ended before now
 refused_run words refusal ended before now read usage lasts readable finished =
     let low : refusal_status refusal < 4 = low_status (is_memory refusal) (is_read_failure refusal) (is_usage refusal) lasts readable in
     let is : (files : Files) → IsWork words files (Err refusal) → IsAnswer words files (refusal_reply refusal) = λ files work. record { result = Err refusal; work = work; is = refl; settled = low } in
     let fits : IsFitting words (refusal_reply refusal) = record {
       low = low;
-      usage = usage_status (is_memory refusal) (is_read_failure refusal) (is_usage refusal) (command_of words) lasts readable usage;
+      usage = usage_status (is_memory refusal) (is_read_failure refusal) (is_usage refusal) (inspection_of words) lasts readable usage;
       line = usage_text refusal;
     } in
     finished_run words (refusal_reply refusal) ended before now fits
@@ -294,10 +294,10 @@ refused_run words refusal ended before now read usage lasts readable finished =
     (λ none files. is files (usage_free words files refusal usage none)) read.same (read.cause.kept readable) finished
 
 -- the run of a failed read
-read_failed_run : (words : List (List ℕ)) (refusal : Refusal) (ended : ℕ) (before now : Outside) → HasRead (IsWork words) (Err refusal) before.store now.store → is_usage refusal ≡ is_none (command_of words)
+read_failed_run : (words : List (List ℕ)) (refusal : Refusal) (ended : ℕ) (before now : Outside) → HasRead (IsWork words) (Err refusal) before.store now.store → is_usage refusal ≡ is_none (inspection_of words)
     → is_read_failure refusal ≡ true → IsFaultLinePrinted (reply_line (refusal_words refusal)) ended before.sink now.sink → IsAnswerRun words ended before now
 read_failed_run words (ReadFailed name) ended before now read usage failed printed =
-    unread_run words name ended before now (formed (command_of words) usage)
+    unread_run words name ended before now (formed (inspection_of words) usage)
     (told_map before.store.files (λ files. UnlessMemory (IsWork words files) (Err (ReadFailed name))) (λ files. IsRead words files name) (λ files work. work refl) read.told) read.same (read.cause.rose refl) read.named printed
 read_failed_run words other ended before now read usage failed printed = absurd cc
 
@@ -305,7 +305,7 @@ readable : (refusal : Refusal) → is_memory refusal ≡ true → is_read_failur
 readable (ReadFailed name) e = absurd cc
 readable other e = refl
 
-pub refusal_run : (words : List (List ℕ)) (refusal : Refusal) (ended : ℕ) (before now : Outside) → HasRead (IsWork words) (Err refusal) before.store now.store → is_usage refusal ≡ is_none (command_of words)
+pub refusal_run : (words : List (List ℕ)) (refusal : Refusal) (ended : ℕ) (before now : Outside) → HasRead (IsWork words) (Err refusal) before.store now.store → is_usage refusal ≡ is_none (inspection_of words)
     → IsRefusalPrinted refusal ended before.sink now.sink → IsAnswerRun words ended before now
 refusal_run words refusal ended before now read usage (inl out) = memory_run words ended before now read.same (read.cause.kept (readable refusal out.0)) out.1
 refusal_run words refusal ended before now read usage (inr (inl unread)) = read_failed_run words refusal ended before now read usage unread.0 unread.1

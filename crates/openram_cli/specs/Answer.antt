@@ -30,7 +30,7 @@ use Rattle.reply_lines.specs.Reply.{refusal_reply, report_reply}
 use Rattle.openram_cli.specs.declared.inputs.Inputs.{Inputs}
 use Rattle.openram_cli.specs.declared.inputs.Inputs.TheVariants as inputs
 use Rattle.openram_cli.specs.declared.inputs.Layout.{Layout}
-use Rattle.openram_cli.specs.Command.{Command, command_of}
+use Rattle.openram_cli.specs.Inspection.{Inspection, inspection_of}
 use Rattle.openram_cli.specs.Inputs.{AreInputs}
 use Rattle.command_steps.specs.Outcome.{WithoutRefusal, ValueOrFault, Then}
 
@@ -114,12 +114,12 @@ IsUsage (Ok reply) = ⊥
 IsUsage (Err refusal) = refusal ≡ refusal_of.Usage
 
 -- the order of work: the inputs are read, and then answered
-abbrev pub IsCommandWork : Files → Command → Result Reply Refusal → Type 0
+abbrev pub IsCommandWork : Files → Inspection → Result Reply Refusal → Type 0
 IsCommandWork files c = Then (AreInputs files c) IsReplyTo
 
 -- what the work on words ends with. The read of any file on the way may fail; nothing else is left open.
 abbrev pub IsWork : List (List ℕ) → Files → Result Reply Refusal → Type 0
-IsWork words files result = MatchOption (command_of words) (IsUsage result) (λ c. IsCommandWork files c result)
+IsWork words files result = MatchOption (inspection_of words) (IsUsage result) (λ c. IsCommandWork files c result)
 
 -- the reply, or that of the refusal
 abbrev pub reply_of : Result Reply Refusal → Reply

@@ -16,8 +16,8 @@ use Rattle.openram_cli.specs.declared.inputs.Inputs.{Inputs}
 use Rattle.openram_cli.specs.declared.inputs.Inputs.TheVariants as inputs
 use Rattle.openram_cli.specs.declared.inputs.Layout.{Layout}
 use Rattle.openram_cli.specs.declared.inputs.LeafCells.{LeafCells}
-use Rattle.openram_cli.specs.Command.{Command, LayoutWords}
-use Rattle.openram_cli.specs.Command.Command.{check, nets, compare, devices, kit}
+use Rattle.openram_cli.specs.Inspection.{Inspection, LayoutWords}
+use Rattle.openram_cli.specs.Inspection.Inspection.{check, nets, compare, devices, kit}
 use Rattle.build_command.specs.Design.{IsKitUnder}
 use Rattle.command_steps.specs.File.{IsFile, IsTechnologyFile}
 use Rattle.command_steps.specs.Outcome.{WithoutRefusal, ValueOrFault, Then}
@@ -73,7 +73,7 @@ abbrev pub AreLeafCells : Files → List ℕ → Result LeafCells Refusal → Ty
 AreLeafCells files name = Then (IsDeviceTechnology files name) (AreCellsWith files name)
 
 -- what the files of a command hold; a comparison reads the netlist last
-abbrev pub AreInputs : Files → Command → Result Inputs Refusal → Type 0
+abbrev pub AreInputs : Files → Inspection → Result Inputs Refusal → Type 0
 AreInputs files (check words) = Then (IsLayout files words) (λ layout. WithoutRefusal (λ read. read ≡ inputs.Check layout))
 AreInputs files (nets words) = Then (IsLayout files words) (λ layout. WithoutRefusal (λ read. read ≡ inputs.Nets layout))
 AreInputs files (compare words netlist) = Then (IsLayout files words) (AreCompared files netlist)

@@ -1,4 +1,4 @@
-pub mod Command
+pub mod Inspection
 pub mod CommandWords
 pub mod Inputs
 pub mod Answer

@@ -7,13 +7,13 @@ use Rattle.build_command.specs.OneDesign.{HoldBytes}
 use Rattle.design_answers.specs.DesignAnswers.{HasOutcome}
 use Rattle.openram_cli.specs.declared.inputs.Layout.{Layout}
 use Rattle.openram_cli.specs.Answer.{IsAnswer, IsCheckAnswer, IsNetsAnswer, IsCompareAnswer}
-use Rattle.openram_cli.specs.Command.{Command, command_of}
-use Rattle.openram_cli.specs.Command.Command.{kit}
+use Rattle.openram_cli.specs.Inspection.{Inspection, inspection_of}
+use Rattle.openram_cli.specs.Inspection.Inspection.{kit}
 use Rattle.openram_cli.specs.Inputs.{AreInputs, IsSoundLayout}
 
 -- what the files of each command hold is read, or refused, over files of bytes
 abbrev pub InputsHaveOutcomes : Type 0
-InputsHaveOutcomes = (files : Files) (c : Command) → HoldBytes files → HasOutcome (AreInputs files c)
+InputsHaveOutcomes = (files : Files) (c : Inspection) → HoldBytes files → HasOutcome (AreInputs files c)
 
 -- the work of `check`, `nets` and `compare` on each layout that is read has an outcome
 abbrev pub ChecksHaveOutcomes : Type 0
@@ -26,11 +26,11 @@ abbrev pub ComparisonsHaveOutcomes : Type 0
 ComparisonsHaveOutcomes = (layout : Layout) (deck : Deck) → IsSoundLayout layout → HasOutcome (IsCompareAnswer layout deck)
 
 -- any command but `kit`
-abbrev pub IsNoKit : Command → Type 0
+abbrev pub IsNoKit : Inspection → Type 0
 IsNoKit (kit name) = ⊥
 IsNoKit c = Unit {0}
 
 -- over files of bytes, words that are such a command, or none, have an answer
 abbrev pub AnswersAreThere : Type 0
 AnswersAreThere = (words : List (List ℕ)) (files : Files) → HoldBytes files
-    → ((c : Command) → command_of words ≡ Some c → IsNoKit c) → (reply : Reply) × IsAnswer words files reply
+    → ((c : Inspection) → inspection_of words ≡ Some c → IsNoKit c) → (reply : Reply) × IsAnswer words files reply

@@ -9,7 +9,7 @@ use Rattle.reply_lines.specs.Refusals.{headed}
 use Rattle.build_command.specs.Run.{IsMakingRun}
 use Rattle.build_command.specs.Words.{Making, IsMakingForm, AreNoMaking}
 use Rattle.openram_cli.specs.Answer.{IsAnswer, IsRead}
-use Rattle.openram_cli.specs.Command.{command_of}
+use Rattle.openram_cli.specs.Inspection.{inspection_of}
 use Rattle.command_steps.specs.Finished.{memory_line, IsMemorySaid, IsFaultPrinted, unread_line}
 use Rattle.command_steps.specs.Outside.{Outside, IfTold}
 use Rattle.command_steps.specs.Printed.{IsWholeText, IsPrefixOf, AreFirstLines, IsFollowedBy}
@@ -78,11 +78,11 @@ pub record IsAnswerRun (words : List (List ℕ)) (status : ℕ) (before now : Ou
   -- where the store tells its files, status and text are those of the answer over them
   pub told : IfTold before.store.files (λ files. IsRunEnd words files status before now)
   -- words that are no form need no files for it
-  pub no_form : command_of words ≡ None → (files : Files) → IsRunEnd words files status before now
+  pub no_form : inspection_of words ≡ None → (files : Files) → IsRunEnd words files status before now
   -- below 4 no fault rose
   pub clean : status < 4 → (now.store.faults ≡ before.store.faults) × (now.sink.faults ≡ before.sink.faults)
   -- 2 comes exactly of words that are no form, and says so
-  pub usage : status < 4 → ((status ≡ 2) ↔ (command_of words ≡ None))
+  pub usage : status < 4 → ((status ≡ 2) ↔ (inspection_of words ≡ None))
   pub usage_text : status ≡ 2 → Grows (IsWholeText usage_line) before.sink.text now.sink.text
   -- 4 comes only where a fault rose
   pub fault : status ≡ 4 → Rose before.store.faults now.store.faults ⊎ Rose before.sink.faults now.sink.faults

@@ -3,8 +3,8 @@ ghost use Rattle.std.specs.Fmt.{decimal};
 ghost use Rattle.std.specs.List.{list_all};
 ghost use Rattle.std.specs.Option.{option_map};
 ghost use Rattle.build_command.specs.Words.{AreNoMaking, HasMakingWorkers, IsMakingForm, told_making};
-ghost use Rattle.openram_cli.specs.Command.{check_form, nets_form, compare_form, devices_form, kit_form};
-ghost use Rattle.openram_cli.specs.CommandWords.{HasWorkers, IsCommandIn, told_asked, told_question};
+ghost use Rattle.openram_cli.specs.Inspection.{check_form, nets_form, compare_form, devices_form, kit_form};
+ghost use Rattle.openram_cli.specs.CommandWords.{HasWorkers, IsCommandIn, told_inspection, told_question};
 ghost use Rattle.sram_plan.specs.Config.{is_file_text, is_printable_byte};
 
 use build_command::{Making, RomFiles};
@@ -32,13 +32,13 @@ pub enum Command<'a> {
 /// What is asked of files, and how many workers may do it: 1 to 64.
 #[derive(Clone, Copy)]
 pub struct Question<'a> {
-    pub asked: Asked<'a>,
+    pub asked: Inspection<'a>,
     pub workers: u8,
 }
 
 /// What is asked of files.
 #[derive(Clone, Copy)]
-pub enum Asked<'a> {
+pub enum Inspection<'a> {
     /// The report of the rules: `check TECH GDS TOP WORKERS`.
     Check(LayoutWords<'a>),
     /// The labels with their nets: `nets TECH GDS TOP`.
@@ -66,7 +66,7 @@ fn build_in(rest: &[String]) -> Option<Making<'_>>
     };
     let workers = workers_in(workers)?;
     let config = config.as_str();
-    let asked = build_command::Asked::Build { config };
+    let asked = build_command::BuildKind::Build { config };
     Some(Making { asked, workers })
 }
 
@@ -82,7 +82,7 @@ fn demo_in(rest: &[String]) -> Option<Making<'_>>
     };
     let workers = workers_in(workers)?;
     let number = demo_number(number.as_str())?;
-    let asked = build_command::Asked::Demo { number };
+    let asked = build_command::BuildKind::Demo { number };
     Some(Making { asked, workers })
 }
 
@@ -116,13 +116,13 @@ fn rom_in(rest: &[String]) -> Option<Making<'_>>
         config: config.as_str(),
         content: content.as_str(),
     };
-    let asked = build_command::Asked::Rom(files);
+    let asked = build_command::BuildKind::Rom(files);
     Some(Making { asked, workers })
 }
 
 /// A question that one worker answers.
-fn alone(asked: Asked<'_>) -> Question<'_>
-    ensures asked { told_question result ≡ told_asked asked.entry }
+fn alone(asked: Inspection<'_>) -> Question<'_>
+    ensures asked { told_question result ≡ told_inspection asked.entry }
     ensures workers { HasWorkers result }
 {
     Question { asked, workers: 1 }
@@ -137,7 +137,7 @@ fn check_in(rest: &[String]) -> Option<Question<'_>>
         return None;
     };
     let workers = workers_in(workers)?;
-    let asked = Asked::Check(LayoutWords {
+    let asked = Inspection::Check(LayoutWords {
         tech: tech.as_str(),
         gds: gds.as_str(),
         top: top.as_str(),
@@ -153,7 +153,7 @@ fn nets_in(rest: &[String]) -> Option<Question<'_>>
     let [tech, gds, top] = rest else {
         return None;
     };
-    Some(alone(Asked::Nets(LayoutWords {
+    Some(alone(Inspection::Nets(LayoutWords {
         tech: tech.as_str(),
         gds: gds.as_str(),
         top: top.as_str(),
@@ -174,7 +174,7 @@ fn compare_in(rest: &[String]) -> Option<Question<'_>>
         top: top.as_str(),
     };
     let netlist = netlist.as_str();
-    Some(alone(Asked::Compare { layout, netlist }))
+    Some(alone(Inspection::Compare { layout, netlist }))
 }
 
 /// Whether all bytes are printable ASCII.
@@ -201,7 +201,7 @@ fn devices_in(rest: &[String]) -> Option<Question<'_>>
     ensures workers { IfSome result HasWorkers }
 {
     match rest {
-        [tech] if is_tech_name(tech) => Some(alone(Asked::Devices(tech.as_str()))),
+        [tech] if is_tech_name(tech) => Some(alone(Inspection::Devices(tech.as_str()))),
         _ => None,
     }
 }
@@ -214,7 +214,7 @@ fn kit_in(rest: &[String]) -> Option<Question<'_>>
     match rest {
         [tech, workers] if is_tech_name(tech) => {
             let workers = workers_in(workers)?;
-            let asked = Asked::Kit(tech.as_str());
+            let asked = Inspection::Kit(tech.as_str());
             Some(Question { asked, workers })
         }
         _ => None,

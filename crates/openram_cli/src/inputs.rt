@@ -1,13 +1,13 @@
 ghost use Rattle.std.specs.Prelude.{◌≡◌, ◌++◌, codes, false, IfOk};
 ghost use Rattle.gds_library.specs.Writable.{IsWritable};
 ghost use Rattle.tech_rules.specs.Facts.{IsTech};
-ghost use Rattle.openram_cli.specs.CommandWords.{told_asked, told_layout};
+ghost use Rattle.openram_cli.specs.CommandWords.{told_inspection, told_layout};
 ghost use Rattle.openram_cli.specs.Inputs.{IsLibraryFile, IsDeckFile, IsLayout, HasDevices, IsDeviceTechnology};
 ghost use Rattle.openram_cli.specs.Inputs.{AreLeafCells, AreInputs, AreSound};
 ghost use Rattle.command_steps.specs.Outcome.{UnlessMemory, is_read_failed, is_usage_outcome};
 ghost use Rattle.command_steps.specs.Reading.{HasRead};
 
-use crate::command::{Asked, LayoutWords};
+use crate::command::{Inspection, LayoutWords};
 use build_command::read_kit_under;
 use command_steps::{read_file, read_technology, read_technology_under, with_ending};
 use gds_library::{Library, read_gds};
@@ -149,23 +149,23 @@ fn read_leaf_cells<S: Store>(alloc: Global, name: &str, store: &mut S) -> Result
 /// else reads the store.
 pub fn read_inputs<S: Store>(
     alloc: Global,
-    asked: Asked<'_>,
+    asked: Inspection<'_>,
     store: &mut S,
 ) -> Result<Inputs, Refusal>
-    ensures read { HasRead (λ files. AreInputs files (told_asked asked.entry)) result (S.state store.old)
+    ensures read { HasRead (λ files. AreInputs files (told_inspection asked.entry)) result (S.state store.old)
         (S.state store.new) }
     ensures sound { IfOk result AreSound }
     ensures words { is_usage_outcome result ≡ false }
 {
     match asked {
-        Asked::Check(words) => Ok(Inputs::Check(read_layout(alloc, words, store)?)),
-        Asked::Nets(words) => Ok(Inputs::Nets(read_layout(alloc, words, store)?)),
-        Asked::Compare { layout, netlist } => {
+        Inspection::Check(words) => Ok(Inputs::Check(read_layout(alloc, words, store)?)),
+        Inspection::Nets(words) => Ok(Inputs::Nets(read_layout(alloc, words, store)?)),
+        Inspection::Compare { layout, netlist } => {
             let layout = read_layout(alloc, layout, store)?;
             let deck = read_deck(alloc, netlist, store)?;
             Ok(Inputs::Compare { layout, deck })
         }
-        Asked::Devices(name) => Ok(Inputs::Devices(read_leaf_cells(alloc, name, store)?)),
-        Asked::Kit(name) => Ok(Inputs::Kit(read_kit_under(alloc, name, store)?)),
+        Inspection::Devices(name) => Ok(Inputs::Devices(read_leaf_cells(alloc, name, store)?)),
+        Inspection::Kit(name) => Ok(Inputs::Kit(read_kit_under(alloc, name, store)?)),
     }
 }

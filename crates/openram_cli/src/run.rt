@@ -1,7 +1,7 @@
 ghost use Rattle.std.specs.Prelude.{◌≡◌, ◌<◌, IfOk, IfSome, map, string_bytes};
 ghost use Rattle.std.specs.Option.{is_none, option_map};
 ghost use Rattle.openram_cli.specs.Answer.{IsWork};
-ghost use Rattle.openram_cli.specs.Command.{command_of};
+ghost use Rattle.openram_cli.specs.Inspection.{inspection_of};
 ghost use Rattle.openram_cli.specs.CommandWords.{HasWorkers, told_question};
 ghost use Rattle.openram_cli.specs.OneAnswer.{EndsAsAnswer, EndAsAsked};
 ghost use Rattle.command_steps.specs.Outcome.{is_usage_outcome};
@@ -30,11 +30,11 @@ fn reply_to<R: Threads + Sync, G: Gate + Sync, S: Store>(
     asked: Option<Question<'_>>,
     store: &mut S,
 ) -> Result<Reply, Refusal>
-    requires asked { option_map told_question asked ≡ command_of (map string_bytes _words.now) }
+    requires asked { option_map told_question asked ≡ inspection_of (map string_bytes _words.now) }
     requires workers { IfSome asked HasWorkers }
     ensures read { HasRead (IsWork (map string_bytes _words.now)) result (S.state store.old) (S.state store.new) }
     ensures small { IfOk result (λ reply. reply.status < 2) }
-    ensures usage { is_usage_outcome result ≡ is_none (command_of (map string_bytes _words.now)) }
+    ensures usage { is_usage_outcome result ≡ is_none (inspection_of (map string_bytes _words.now)) }
 {
     let Some(question) = asked else {
         return Err(Refusal::Usage);
@@ -53,7 +53,7 @@ fn answer_words<R: Threads + Sync, G: Gate + Sync, S: Store, K: Sink>(
     store: &mut S,
     out: &mut K,
 ) -> u8
-    requires asked { option_map told_question asked ≡ command_of (map string_bytes words.now) }
+    requires asked { option_map told_question asked ≡ inspection_of (map string_bytes words.now) }
     requires workers { IfSome asked HasWorkers }
     ensures run { IsAnswerRun (map string_bytes words.now) result (outside_at (S.state store.old) (K.state out.old))
         (outside_at (S.state store.new) (K.state out.new)) }

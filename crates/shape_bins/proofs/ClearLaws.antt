@@ -9,14 +9,14 @@ use Rattle.or_geom.specs.declared.shape.Shape.{Shape}
 use Rattle.or_geom.specs.Covered.{HasCell}
 use Rattle.shape_bins.specs.declared.clear.ClearBox.{ClearBox}
 use Rattle.shape_bins.specs.declared.query.Query.TheVariants.{Holds, MeetsOutside}
-use Rattle.shape_bins.specs.Clear.{IsClear, IsGrownBelow, AreClear, AreClearTo, IsClearBox}
+use Rattle.shape_bins.specs.Clear.{HasClearance, IsGrownBelow, AreClear, AreClearTo, IsClearBox}
 use Rattle.shape_bins.specs.Filled.{AreFilledBoxes}
 use Rattle.shape_bins.specs.Hits.{IsHit, NoHitFrom}
 use Rattle.shape_bins.proofs.CoverLaws.{hit_read}
 use Rattle.shape_bins.proofs.FilledLaws.{cell_filled}
 
 -- where no shape outside of the box meets the grown box, none comes nearer
-pub clear_none : (shapes : List Shape) (layer : ℕ) (box area : Rect) (clearance : ℤ) → IsGrownBelow clearance box area → NoHitFrom shapes layer (MeetsOutside area box) 0 → IsClear shapes layer box clearance
+pub clear_none : (shapes : List Shape) (layer : ℕ) (box area : Rect) (clearance : ℤ) → IsGrownBelow clearance box area → NoHitFrom shapes layer (MeetsOutside area box) 0 → HasClearance shapes layer box clearance
 clear_none shapes layer box area clearance grown none _ place s there on near outside =
     none place (omega arith) (record { shape = s; there = there; on = on; fits = record { meets = grown s.rect near; outside = outside } })
 
@@ -27,7 +27,7 @@ got_cases [] x (suc k) y is = absurd cc
 got_cases (z ∷ xs) x zero y is = inl is
 got_cases (z ∷ xs) x (suc k) y is = elim (got_cases xs x k y is) [ inl h ↦ inl h | inr l ↦ inr (ap suc l.0, l.1) ]
 
-pub clear_more : (shapes boxes : List Shape) (count : ℕ) (box : Shape) (clearance : ℤ) (old new : List ℤ) → slice_get boxes count ≡ Some box → IsClear shapes box.layer box.rect clearance → new ≡ old ++ clearance ∷ [] → AreClearTo shapes boxes count old
+pub clear_more : (shapes boxes : List Shape) (count : ℕ) (box : Shape) (clearance : ℤ) (old new : List ℤ) → slice_get boxes count ≡ Some box → HasClearance shapes box.layer box.rect clearance → new ≡ old ++ clearance ∷ [] → AreClearTo shapes boxes count old
     → AreClearTo shapes boxes (count + 1) new
 clear_more shapes boxes count box clearance old new there clear is all = record {
   sized = ap (λ (l : List ℤ). length l) is ∙ length-append old (clearance ∷ []) ∙ ap (λ (k : ℕ). k + 1) all.sized;
@@ -36,7 +36,7 @@ clear_more shapes boxes count box clearance old new there clear is all = record 
     | inr last ↦
         let here : place ≡ count = last.0 ∙ all.sized in
         let same : box ≡ other = same_Some box other (sym there ∙ subst (λ (k : ℕ). slice_get boxes k ≡ Some other) here at) in
-        subst (λ (s : Shape). IsClear shapes s.layer s.rect reach) same (subst (λ (z : ℤ). IsClear shapes box.layer box.rect z) (sym last.1) clear)
+        subst (λ (s : Shape). HasClearance shapes s.layer s.rect reach) same (subst (λ (z : ℤ). HasClearance shapes box.layer box.rect z) (sym last.1) clear)
   ];
 }
 
@@ -63,5 +63,5 @@ clear_at shapes boxes clearances layer cell place other none box filled clear hi
         holds = subst (λ (r : Rect). HasCell r cell.x cell.y) (sym rect) f.holds;
         covered = λ x y h. cell_filled shapes boxes layer x y filled (f.covered x y (subst (λ (r : Rect). HasCell r x y) rect h));
       };
-      clear = subst (λ (k : ℕ). IsClear shapes k box.rect box.clearance) hit.on (subst (λ (r : Rect). IsClear shapes hit.shape.layer r box.clearance) (sym same) (clear.each place hit.shape box.clearance hit.there got));
+      clear = subst (λ (k : ℕ). HasClearance shapes k box.rect box.clearance) hit.on (subst (λ (r : Rect). HasClearance shapes hit.shape.layer r box.clearance) (sym same) (clear.each place hit.shape box.clearance hit.there got));
     }

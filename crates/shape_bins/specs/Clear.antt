@@ -17,8 +17,8 @@ pub record AreNearer (reach : ℤ) (a b : Rect) : Type 0 where
   pub high : b.y1 <ℤ (a.y2 +ℤ reach)
 
 -- no shape of the layer that the box doesn't hold comes nearer to it, where the clearance is positive
-abbrev pub IsClear : List Shape → ℕ → Rect → ℤ → Type 0
-IsClear shapes layer box clearance = pos 0 <ℤ clearance → (place : ℕ) (s : Shape) → slice_get shapes place ≡ Some s → s.layer ≡ layer → AreNearer clearance s.rect box → (HoldsRect box s.rect → ⊥) → ⊥
+abbrev pub HasClearance : List Shape → ℕ → Rect → ℤ → Type 0
+HasClearance shapes layer box clearance = pos 0 <ℤ clearance → (place : ℕ) (s : Shape) → slice_get shapes place ≡ Some s → s.layer ≡ layer → AreNearer clearance s.rect box → (HoldsRect box s.rect → ⊥) → ⊥
 
 -- what comes nearer to the rectangle than the clearance meets the grown one
 abbrev pub IsGrownBelow : ℤ → Rect → Rect → Type 0
@@ -27,7 +27,7 @@ IsGrownBelow clearance rect grown = (r : Rect) → AreNearer clearance r rect �
 -- the clearances of the first boxes
 pub record AreClearTo (shapes boxes : List Shape) (count : ℕ) (clearances : List ℤ) : Type 0 where
   pub sized : length clearances ≡ count
-  pub each : (place : ℕ) (box : Shape) (clearance : ℤ) → slice_get boxes place ≡ Some box → slice_get clearances place ≡ Some clearance → IsClear shapes box.layer box.rect clearance
+  pub each : (place : ℕ) (box : Shape) (clearance : ℤ) → slice_get boxes place ≡ Some box → slice_get clearances place ≡ Some clearance → HasClearance shapes box.layer box.rect clearance
 
 -- of all boxes
 abbrev pub AreClear : List Shape → List Shape → List ℤ → Type 0
@@ -36,4 +36,4 @@ AreClear shapes boxes = AreClearTo shapes boxes (length boxes)
 -- a box that the layer covers and that holds the cell, with its clearance
 pub record IsClearBox (shapes : List Shape) (layer : ℕ) (cell : Point) (box : ClearBox) : Type 0 where
   pub found : IsFound (rects_on layer shapes) cell box.rect
-  pub clear : IsClear shapes layer box.rect box.clearance
+  pub clear : HasClearance shapes layer box.rect box.clearance

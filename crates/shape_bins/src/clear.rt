@@ -1,5 +1,5 @@
 ghost use Rattle.std.specs.Prelude.{◌≡◌, ◌+ℤ◌, ◌-ℤ◌, IfOk, IfSome};
-ghost use Rattle.shape_bins.specs.Clear.{IsClear, AreClear, IsGrownBelow};
+ghost use Rattle.shape_bins.specs.Clear.{HasClearance, AreClear, IsGrownBelow};
 ghost use Rattle.shape_bins.specs.Forest.{IsForest};
 
 use crate::forest::Forest;
@@ -78,7 +78,7 @@ fn grown_below(rect: Rect, clearance: i64) -> Option<Rect>
 /// The clearance of a box.
 fn clearance_of(forest: Forest<'_>, filled: Shape) -> i64
     requires { IsForest forest }
-    ensures { IsClear forest.entry.shapes.now filled.layer filled.rect result }
+    ensures { HasClearance forest.entry.shapes.now filled.layer filled.rect result }
 {
     let mut clearance = smaller_side(filled.rect).saturating_mul(MOST_SIDES);
     for _ in 0..MOST_TRIES {

@@ -4,7 +4,7 @@ use Rattle.or_geom.specs.declared.shape.Rect.{Rect}
 use Rattle.or_geom.specs.declared.shape.Shape.{Shape}
 use Rattle.tech_rules.specs.declared.tech.Rule.{Rule}
 use Rattle.shape_bins.specs.declared.clear.ClearBox.{ClearBox}
-use Rattle.shape_bins.specs.Clear.{IsClear}
+use Rattle.shape_bins.specs.Clear.{HasClearance}
 use Rattle.shape_bins.specs.Hits.{IsNearShape}
 use Rattle.shape_bins.specs.Layers.{IsCoveredBy}
 use Rattle.or_geom.specs.Containing.{HoldsRect}
@@ -51,7 +51,7 @@ pub record IsFilledAround (shapes : List Shape) (a : Shape) (box : Rect) : Type 
 -- such a box with its clearance
 pub record IsClearAround (shapes : List Shape) (a : Shape) (box : ClearBox) : Type 0 where
   pub around : IsFilledAround shapes a box.rect
-  pub clear : IsClear shapes a.layer box.rect box.clearance
+  pub clear : HasClearance shapes a.layer box.rect box.clearance
 
 -- two shapes of one layer lie in a box that the layer covers
 pub record LieInOneBox (shapes : List Shape) (a b : Shape) : Type 0 where
