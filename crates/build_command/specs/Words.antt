@@ -44,15 +44,15 @@ IsMakingForm words (rom config content) = rom_form words ≡ Some (record { conf
 abbrev pub AreNoMaking : List (List ℕ) → Type 0
 AreNoMaking words = (m : Making) → ¬ IsMakingForm words m
 
--- what is asked for, over plain data
-abbrev pub told_request : BuildKind → Making
-told_request (asked.Build config) = build config.now
-told_request (asked.Demo number) = demo number
-told_request (asked.Rom files) = rom files.config.now files.content.now
+-- what is built, over plain data
+abbrev pub told_kind : BuildKind → Making
+told_kind (asked.Build config) = build config.now
+told_kind (asked.Demo number) = demo number
+told_kind (asked.Rom files) = rom files.config.now files.content.now
 
 -- how many workers may do it is no part of what is asked
 abbrev pub told_making : declared.Making → Making
-told_making making = told_request making.asked
+told_making making = told_kind making.asked
 
 -- 1 to 64 workers
 abbrev pub HasMakingWorkers : declared.Making → Type 0

@@ -1,4 +1,4 @@
--- The forms of the command line.
+-- The forms of the words that ask a question of files.
 use Rattle.std.specs.Prelude.{ℕ, List, [], ◌∷◌, ◌&&◌, Option, Some, None, if◌then◌else◌, codes}
 use Rattle.std.specs.Str.{bytes_eq}
 use Rattle.command_steps.specs.Workers.{is_workers}

@@ -145,8 +145,8 @@ fn read_leaf_cells<S: Store>(alloc: Global, name: &str, store: &mut S) -> Result
     Ok(LeafCells { tech, lib, deck })
 }
 
-/// Reads the files that the words name, in the order of its words, and decodes each before the next is read. Nothing
-/// else reads the store.
+/// Reads the files that a question names, in the order in which it names them, and decodes each before the next is
+/// read. Nothing else reads the store.
 pub fn read_inputs<S: Store>(
     alloc: Global,
     asked: Inspection<'_>,
