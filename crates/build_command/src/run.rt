@@ -217,8 +217,24 @@ pub fn make<R: Threads + Sync, G: Gate + Sync, S: Store, K: Sink>(
         (outside_at (S.state store.new) (K.state out.new)) }
 {
     match making.asked {
-        BuildKind::Build { config } => build_from(rt, alloc, gate, config, making.workers, store, out),
-        BuildKind::Demo { number } => demonstrate(rt, alloc, gate, number, making.workers, store, out),
+        BuildKind::Build { config } => build_from(
+            rt,
+            alloc,
+            gate,
+            config,
+            making.workers,
+            store,
+            out,
+        ),
+        BuildKind::Demo { number } => demonstrate(
+            rt,
+            alloc,
+            gate,
+            number,
+            making.workers,
+            store,
+            out,
+        ),
         BuildKind::Rom(files) => build_rom(rt, alloc, gate, files, making.workers, store, out),
     }
 }
