@@ -19,7 +19,7 @@ use Rattle.leaf_tables.specs.declared.kit.Leaf.{Leaf}
 use Rattle.leaf_tables.specs.Alignment.{role_number, leaf_in}
 use Rattle.leaf_tables.specs.Kits.{IsKit}
 use Rattle.leaf_tables.proofs.RoleLaws.{role_there, four_metals, in_kit}
-use Rattle.floorplan.specs.LayoutOfKit.{pin_shape, pin_on, shape_on, layer_of_metal}
+use Rattle.floorplan.specs.LayoutOfKit.{pin_shape, pin_on, pin_rect, layer_of_metal}
 use Rattle.floorplan.specs.Demanded.{metal_number}
 use Rattle.asked_pins.specs.Demanded.{IsDemandedPort, HasPortShape}
 
@@ -47,10 +47,10 @@ shape_is : (kit : Kit) (role : Role) (port metal layer : ℕ) (name : List ℕ) 
     → leaf_in kit.leaves role ≡ Some leaf
     → pin_on leaf.pins name layer ≡ Some pin → pin_shape kit role port metal ≡ Some pin.rect
 shape_is kit role port metal layer name wire leaf pin named wired at there first =
-    ap (option_and_then (λ (n : List ℕ). option_and_then (shape_on (leaf_in kit.leaves role) n) (layer_of_metal kit.tech.wire metal))) named
-    ∙ ap (λ (w : Option Wire). option_and_then (shape_on (leaf_in kit.leaves role) name) (layer_of_metal w metal)) wired
-    ∙ ap (option_and_then (shape_on (leaf_in kit.leaves role) name)) at
-    ∙ ap (λ (l : Option Leaf). shape_on l name layer) there
+    ap (option_and_then (λ (n : List ℕ). option_and_then (pin_rect (leaf_in kit.leaves role) n) (layer_of_metal kit.tech.wire metal))) named
+    ∙ ap (λ (w : Option Wire). option_and_then (pin_rect (leaf_in kit.leaves role) name) (layer_of_metal w metal)) wired
+    ∙ ap (option_and_then (pin_rect (leaf_in kit.leaves role) name)) at
+    ∙ ap (λ (l : Option Leaf). pin_rect l name layer) there
     ∙ ap (option_map (λ (p : LeafPin). p.rect)) first
 
 passes : (name : List ℕ) (layer : ℕ) (pin : LeafPin) → pin.pin ≡ name → pin.layer ≡ layer

@@ -21,7 +21,7 @@ use Rattle.leaf_tables.specs.declared.part.Edges.{Edges}
 use Rattle.macro_layout.specs.Places.{Floorplan, bit_height, bit_width, columns_x}
 use Rattle.macro_layout.specs.Floorplan.{line_count, rail_count, upper_y}
 use Rattle.floorplan.specs.LayoutOfKit.{layout_kit}
-use Rattle.part_edges.specs.declared.side.Side.TheVariants.{Upper}
+use Rattle.part_edges.specs.declared.side.PartSide.TheVariants.{Upper}
 use Rattle.part_edges.specs.PartPins.{PartPin, edge_of, edges_at, meets, ends_at, begins_at, AreInOrder, AreEdgesOf}
 use Rattle.part_edges.proofs.PinLaws.{equal_numbers, other_numbers}
 use Rattle.bitcell_array.specs.ArrayPart.{array_pins}

@@ -10,7 +10,7 @@ use Rattle.leaf_tables.specs.declared.part.Edge.{Edge}
 use Rattle.macro_layout.specs.Places.{Floorplan, columns_x}
 use Rattle.macro_layout.specs.Floorplan.{line_count}
 use Rattle.floorplan.specs.LayoutOfKit.{layout_kit}
-use Rattle.part_edges.specs.declared.side.Side.TheVariants.{Upper}
+use Rattle.part_edges.specs.declared.side.PartSide.TheVariants.{Upper}
 use Rattle.part_edges.specs.PartPins.{edges_at, AreInOrder}
 use Rattle.bank_layout.specs.BankPart.{pre_pins}
 use Rattle.bank_layout.specs.BankEdges.{rail_edge, output_edge, edge_moved, AddsClockEdge, AreTopEdges}

@@ -22,7 +22,7 @@ use Rattle.leaf_tables.specs.Kits.{IsKit, source_of}
 use Rattle.leaf_tables.specs.Leaves.{LeafSource, IsLeaf}
 use Rattle.leaf_tables.proofs.RoleLaws.{metal_listed, in_kit}
 use Rattle.sram_netlist.proofs.ChoiceLaws.{nat_same}
-use Rattle.floorplan.specs.LayoutOfKit.{layout_kit, pin_on, shape_on, layer_of_metal, shape_or_square}
+use Rattle.floorplan.specs.LayoutOfKit.{layout_kit, pin_on, pin_rect, layer_of_metal, shape_or_square}
 use Rattle.floorplan.proofs.DemandLaws.{wire_there}
 use Rattle.bank_layout.specs.BankTaps.{IsInCell, IsLeafPin}
 
@@ -118,9 +118,9 @@ pub kit_pin : (kit : Kit) (wire : Wire) (role : Role) (port number place : ℕ) 
 kit_pin kit wire role port number place name metal pin is wired named on first p =
     let layer = metal_layer wire metal in
     let found : pin_on p.leaf.pins name layer ≡ Some pin = found_at wire (role_demands role) p.leaf.pins place name metal pin (named_in_kit kit wire role p.leaf is wired p.there) first p.at in
-    let shaped : shape_on (leaf_in kit.leaves role) name layer ≡ Some pin.rect =
-    ap (λ (l : Option Leaf). shape_on l name layer) p.there ∙ ap (option_map (λ (q : LeafPin). q.rect)) found in
+    let shaped : pin_rect (leaf_in kit.leaves role) name layer ≡ Some pin.rect =
+    ap (λ (l : Option Leaf). pin_rect l name layer) p.there ∙ ap (option_map (λ (q : LeafPin). q.rect)) found in
     let layered : layer_of_metal kit.tech.wire number ≡ Some layer = ap (λ (w : Option Wire). layer_of_metal w number) wired ∙ on in
     ap shape_or_square
-    (ap (λ (n : Option (List ℕ)). option_and_then (λ (text : List ℕ). option_and_then (shape_on (leaf_in kit.leaves role) text) (layer_of_metal kit.tech.wire number)) n) named
-    ∙ (ap (option_and_then (shape_on (leaf_in kit.leaves role) name)) layered ∙ shaped))
+    (ap (λ (n : Option (List ℕ)). option_and_then (λ (text : List ℕ). option_and_then (pin_rect (leaf_in kit.leaves role) text) (layer_of_metal kit.tech.wire number)) n) named
+    ∙ (ap (option_and_then (pin_rect (leaf_in kit.leaves role) name)) layered ∙ shaped))

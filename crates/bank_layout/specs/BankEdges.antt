@@ -14,7 +14,7 @@ use Rattle.leaf_tables.specs.declared.part.Edges.{Edges}
 use Rattle.macro_layout.specs.Places.{Floorplan, columns_x, bit_width}
 use Rattle.macro_layout.specs.Floorplan.{line_count, rail_count, rail_x, upper_y}
 use Rattle.floorplan.specs.LayoutOfKit.{layout_kit}
-use Rattle.part_edges.specs.declared.side.Side.TheVariants.{Upper}
+use Rattle.part_edges.specs.declared.side.PartSide.TheVariants.{Upper}
 use Rattle.part_edges.specs.PartPins.{edge_at, edges_at, AreInOrder}
 use Rattle.bank_layout.specs.BankTaps.{IsLeafPin}
 use Rattle.bank_layout.specs.BankPart.{pre_pins}

@@ -19,7 +19,7 @@ use Rattle.good_places.proofs.NumberLaws.{times_low}
 use Rattle.good_wires.specs.Drawn.{IsDrawnMemory, IsDrawnWire}
 use Rattle.good_wires.specs.Kept.{AllDrawInside}
 use Rattle.good_wires.proofs.LevelLaws.{sides}
-use Rattle.supply_bars.specs.Heights.{Part, LogicRow, Height, WriteHigh, ColumnHigh, part_of, low, bar_begin, HasJoiner, trunk_by, is_power, IsBarAlong, IsJoinerAlong}
+use Rattle.supply_bars.specs.Heights.{Storey, LogicRow, Height, WriteHigh, ColumnHigh, part_of, low, bar_begin, HasJoiner, trunk_by, is_power, IsBarAlong, IsJoinerAlong}
 use Rattle.supply_bars.proofs.PartLaws.{rise_of, tall_of, LiesInPart, in_part, parts, trunks, banks_end, joiner_is, joiner_begins}
 use Rattle.supply_bars.proofs.SideLaws.{IsAlikeLeft, IsAlikeRight}
 use Rattle.supply_bars.proofs.PairedLaws.{ArePaired, zone_back, begins_at, no_joiner}
@@ -126,7 +126,7 @@ module _ (Flat : List ℕ → Shape → Type 0) (plan : Organization) (kit : Lay
           | inr above ↦ absurd (back (low f pair.part) (low f (part_of h)) z.here.low (tall_of plan kit (part_of h)) pair.low_here z.at_low above (tall_some (part_of h)))
         ]
       ] where
-        tall_some : (p : Part) → pos 0 ≤ℤ tall_of plan kit p
+        tall_some : (p : Storey) → pos 0 ≤ℤ tall_of plan kit p
         tall_some p = omega (arith, ints)
 
         go : (p q l t : ℤ) → l ≡ p → l ≡ q → ((p +ℤ t) +ℤ wire.space) ≤ℤ q → pos 0 ≤ℤ t → ⊥
@@ -139,10 +139,10 @@ module _ (Flat : List ℕ → Shape → Type 0) (plan : Organization) (kit : Lay
       here_low = z.at_low
 
       here_high : z.here.high ≡ low f (part_of h) +ℤ tall_of plan kit (part_of h)
-      here_high = subst (λ (p : Part). z.here.high ≡ low f p +ℤ tall_of plan kit p) zone_part pair.high_here
+      here_high = subst (λ (p : Storey). z.here.high ≡ low f p +ℤ tall_of plan kit p) zone_part pair.high_here
 
       up_is : z.alike.down ≡ low g (part_of h) -ℤ low f (part_of h)
-      up_is = go z.alike.down (low f (part_of h)) (low g (part_of h)) z.here.low z.there.low here_low (subst (λ (p : Part). z.there.low ≡ low g p) zone_part pair.low_there) pair.moved.low where
+      up_is = go z.alike.down (low f (part_of h)) (low g (part_of h)) z.here.low z.there.low here_low (subst (λ (p : Storey). z.there.low ≡ low g p) zone_part pair.low_there) pair.moved.low where
         go : (d l k a c : ℤ) → a ≡ l → c ≡ k → c ≡ a +ℤ d → d ≡ k -ℤ l
         go d l k a c p r s = omega (arith, ints, p, r, s)
 
@@ -218,19 +218,19 @@ module _ (Flat : List ℕ → Shape → Type 0) (plan : Organization) (kit : Lay
     joiner_part = in_part plan kit wire tracks f m h (inr is_joiner.has)
 
     bar_low : bar.rect.y1 ≡ low f (part_of h) +ℤ rise_of plan kit wire q
-    bar_low = subst (λ (p : Part). bar.rect.y1 ≡ low f p +ℤ rise_of plan kit wire q) (sym part) is_bar.at.low
+    bar_low = subst (λ (p : Storey). bar.rect.y1 ≡ low f p +ℤ rise_of plan kit wire q) (sym part) is_bar.at.low
 
     bar_high : bar.rect.y2 ≡ (low f (part_of h) +ℤ rise_of plan kit wire q) +ℤ wire.width
-    bar_high = subst (λ (p : Part). bar.rect.y2 ≡ (low f p +ℤ rise_of plan kit wire q) +ℤ wire.width) (sym part) is_bar.at.high
+    bar_high = subst (λ (p : Storey). bar.rect.y2 ≡ (low f p +ℤ rise_of plan kit wire q) +ℤ wire.width) (sym part) is_bar.at.high
 
     bar_to : (rise_of plan kit wire q +ℤ wire.width) ≤ℤ tall_of plan kit (part_of h)
-    bar_to = subst (λ (p : Part). (rise_of plan kit wire q +ℤ wire.width) ≤ℤ tall_of plan kit p) (sym part) bar_part.to
+    bar_to = subst (λ (p : Storey). (rise_of plan kit wire q +ℤ wire.width) ≤ℤ tall_of plan kit p) (sym part) bar_part.to
 
     up_joiner : IsUp up joiner2.rect joiner.rect
     up_joiner = up_height plan other kit wire f g same h joiner joiner2 is_joiner.at is_joiner2.at
 
     up_bar : IsUp up bar2.rect bar.rect
-    up_bar = subst (λ (p : Part). IsUp (low f p -ℤ low g p) bar2.rect bar.rect) (sym part) (up_height plan other kit wire f g same q bar bar2 is_bar.at is_bar2.at)
+    up_bar = subst (λ (p : Storey). IsUp (low f p -ℤ low g p) bar2.rect bar.rect) (sym part) (up_height plan other kit wire f g same q bar bar2 is_bar.at is_bar2.at)
 
     -- a height above what begins the gap there and below what ends it
     over_low : (a c y v : ℤ) → a ≡ c +ℤ up → a ≤ℤ y → v ≡ y -ℤ up → c ≤ℤ v

@@ -26,7 +26,7 @@ use Rattle.good_places.proofs.LaidLaws.{in_zone}
 use Rattle.good_wires.specs.Drawn.{IsDrawnMemory, IsDrawnWire}
 use Rattle.good_wires.specs.Kept.{AllDrawInside}
 use Rattle.good_wires.proofs.ClearLaws.{ZoneKind, IsBankZone, zone_kind}
-use Rattle.supply_bars.specs.Heights.{Part, Height, part_of, low, bar_begin, trunk_by, is_power, IsBarAlong, IsJoinerAlong}
+use Rattle.supply_bars.specs.Heights.{Storey, Height, part_of, low, bar_begin, trunk_by, is_power, IsBarAlong, IsJoinerAlong}
 use Rattle.supply_bars.proofs.HeightLaws.{on_metal, a_bar}
 use Rattle.supply_bars.proofs.PartLaws.{rise_of, tall_of, same_rise, same_tall, same_bars, in_part, parts, begins, trunks, banks_end, bar_wide, inner_begins}
 use Rattle.bar_spaces.proofs.OverLaws.{Fills, SpansUnit, AreStacked}
@@ -107,7 +107,7 @@ module _ (Flat : List ℕ → Shape → Type 0) (plan other : Organization) (kit
       go b t x s e p = omega (arith, ints, clamps, e, p)
 
     up_bar : (q : Height) → part_of h ≡ part_of q → (s t : Shape) → IsBarAlong plan kit wire f q s → IsBarAlong other kit wire g q t → IsUp up t.rect s.rect
-    up_bar q at s t p r = subst (λ (part : Part). IsUp (low f part -ℤ low g part) t.rect s.rect) (sym at) (up_height plan other kit wire f g same q s t p.at r.at)
+    up_bar q at s t p r = subst (λ (part : Storey). IsUp (low f part -ℤ low g part) t.rect s.rect) (sym at) (up_height plan other kit wire f g same q s t p.at r.at)
 
     pub bars_stacked : AreStacked a.rect b.rect c.rect d.rect
     bars_stacked = record {
@@ -130,10 +130,10 @@ module _ (Flat : List ℕ → Shape → Type 0) (plan other : Organization) (kit
           record { left = omega (arith, ints, left, p, v); right = omega (arith, ints, right, u, w) }
 
     d_low : d.rect.y1 ≡ low g (part_of h) +ℤ rise_of other kit wire k
-    d_low = subst (λ (p : Part). d.rect.y1 ≡ low g p +ℤ rise_of other kit wire k) (sym part) bar_d.at.low
+    d_low = subst (λ (p : Storey). d.rect.y1 ≡ low g p +ℤ rise_of other kit wire k) (sym part) bar_d.at.low
 
     k_to : (rise_of other kit wire k +ℤ wire.width) ≤ℤ tall_of other kit (part_of h)
-    k_to = subst (λ (p : Part). (rise_of other kit wire k +ℤ wire.width) ≤ℤ tall_of other kit p) (sym part) (in_part other kit wire many g n k (inl bar_d.has)).to
+    k_to = subst (λ (p : Storey). (rise_of other kit wire k +ℤ wire.width) ≤ℤ tall_of other kit p) (sym part) (in_part other kit wire many g n k (inl bar_d.has)).to
 
     -- a bar at a height between the two is of their part
     part_is : (v : ℤ) (q : Height) (t : Shape) → IsBarAlong other kit wire g q t → c.rect.y2 ≤ℤ v → v <ℤ d.rect.y1 → t.rect.y1 ≤ℤ v → v <ℤ t.rect.y2 → part_of h ≡ part_of q
@@ -174,10 +174,10 @@ module _ (Flat : List ℕ → Shape → Type 0) (plan other : Organization) (kit
         rise_is = sym (same_rise plan other kit wire q same)
 
         q_low : part_of h ≡ part_of q → t.rect.y1 ≡ low g (part_of h) +ℤ rise_of other kit wire q
-        q_low at = subst (λ (p : Part). t.rect.y1 ≡ low g p +ℤ rise_of other kit wire q) (sym at) bar.at.low
+        q_low at = subst (λ (p : Storey). t.rect.y1 ≡ low g p +ℤ rise_of other kit wire q) (sym at) bar.at.low
 
         q_high : part_of h ≡ part_of q → t.rect.y2 ≡ (low g (part_of h) +ℤ rise_of other kit wire q) +ℤ wire.width
-        q_high at = subst (λ (p : Part). t.rect.y2 ≡ (low g p +ℤ rise_of other kit wire q) +ℤ wire.width) (sym at) bar.at.high
+        q_high at = subst (λ (p : Storey). t.rect.y2 ≡ (low g p +ℤ rise_of other kit wire q) +ℤ wire.width) (sym at) bar.at.high
 
         rises : part_of h ≡ part_of q → pos 0 <ℤ rise_of plan kit wire q
         rises at =
@@ -189,7 +189,7 @@ module _ (Flat : List ℕ → Shape → Type 0) (plan other : Organization) (kit
 
         falls : part_of h ≡ part_of q → (rise_of plan kit wire q +ℤ wire.width) <ℤ tall_of plan kit (part_of q)
         falls at =
-            subst (λ (p : Part). (rise_of plan kit wire q +ℤ wire.width) <ℤ tall_of plan kit p) at
+            subst (λ (p : Storey). (rise_of plan kit wire q +ℤ wire.width) <ℤ tall_of plan kit p) at
             (go (low g (part_of h)) (rise_of other kit wire k) (rise_of other kit wire q) (rise_of plan kit wire q) (tall_of other kit (part_of h)) (tall_of plan kit (part_of h)) d.rect.y1 t.rect.y1 d_low (q_low at) k_to rise_is (same_tall plan other kit (part_of h) same) under cell.low)
           where
             go : (p r s z tl tm y1 t1 : ℤ) → y1 ≡ p +ℤ r → t1 ≡ p +ℤ s → (r +ℤ wire.width) ≤ℤ tl → z ≡ s → tl ≡ tm → v <ℤ y1 → t1 ≤ℤ v → (z +ℤ wire.width) <ℤ tm

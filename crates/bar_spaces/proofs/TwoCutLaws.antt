@@ -23,7 +23,7 @@ use Rattle.leaf_shapes.specs.Outline.{IsWireLayer}
 use Rattle.good_wires.specs.Spaced.{AreSpaced}
 use Rattle.good_wires.specs.Drawn.{IsDrawnMemory, IsDrawnWire}
 use Rattle.good_wires.specs.Kept.{AllDrawInside}
-use Rattle.supply_bars.specs.Heights.{Part, Height, part_of, low, trunk_by, is_power, IsCutAlong}
+use Rattle.supply_bars.specs.Heights.{Storey, Height, part_of, low, trunk_by, is_power, IsCutAlong}
 use Rattle.supply_bars.proofs.HeightLaws.{on_cut, a_cut}
 use Rattle.supply_bars.proofs.PartLaws.{rise_of, tall_of, same_rise, same_bars, in_part, parts, trunks}
 use Rattle.supply_bars.proofs.BarLaws.{IsUp}
@@ -109,7 +109,7 @@ module _ (Flat : List ℕ → Shape → Type 0) (plan other : Organization) (kit
       high = go_high s.rect.y2 t.rect.y2 (low f (part_of q)) (low g (part_of q)) (rise_of plan kit wire q) (rise_of other kit wire q) p.via.high r.via.high (same_rise plan other kit wire q same) ∙ ap (λ (z : ℤ). t.rect.y2 +ℤ z) (sym up_at);
     } where
       up_at : up ≡ low f (part_of q) -ℤ low g (part_of q)
-      up_at = ap (λ (p : Part). low f p -ℤ low g p) at
+      up_at = ap (λ (p : Storey). low f p -ℤ low g p) at
 
       go_low : (s t l k r z : ℤ) → s ≡ (l +ℤ r) +ℤ margin wire → t ≡ (k +ℤ z) +ℤ margin wire → z ≡ r → s ≡ t +ℤ (l -ℤ k)
       go_low s t l k r z p q e = omega (arith, ints, p, q, e)
@@ -148,7 +148,7 @@ module _ (Flat : List ℕ → Shape → Type 0) (plan other : Organization) (kit
           let j1 = (cut_lies other kit wire many g n h c cut_c).from in
           let tall_c = c.rect.tall in
           let tall_d = d.rect.tall in
-          let j2 : d.rect.y2 ≤ℤ (low g (part_of h) +ℤ tall_of other kit (part_of h)) = subst (λ (p : Part). d.rect.y2 ≤ℤ (low g p +ℤ tall_of other kit p)) (sym part) (cut_lies other kit wire many g n k d cut_d).to in
+          let j2 : d.rect.y2 ≤ℤ (low g (part_of h) +ℤ tall_of other kit (part_of h)) = subst (λ (p : Storey). d.rect.y2 ≤ℤ (low g p +ℤ tall_of other kit p)) (sym part) (cut_lies other kit wire many g n k d cut_d).to in
           elim apart [
             | inl below ↦ absurd (omega (arith, ints, i1, j2, below, under, low_t, tall_d, some))
             | inr above ↦ absurd (omega (arith, ints, i2, j1, above, over, high_t, tall_c, some))

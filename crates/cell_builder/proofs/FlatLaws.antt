@@ -15,7 +15,7 @@ use Rattle.rectilinear.specs.Slabs.{IsSlabList}
 use Rattle.tech_rules.specs.declared.tech.Layer.{Layer}
 use Rattle.element_drawing.specs.PlainLabel.{PlainLabel}
 use Rattle.element_drawing.specs.Drawing.{IsDrawing}
-use Rattle.element_drawing.specs.OwnShapes.{layer_of, on_layer, AreOn, AreShapesOf, AreOwnShapes}
+use Rattle.element_drawing.specs.OwnShapes.{element_layer, on_layer, AreOn, AreShapesOf, AreOwnShapes}
 use Rattle.element_drawing.specs.OwnLabels.{own_labels, with_label, text_place_of}
 use Rattle.cell_chains.specs.Instances.{Item, HasItem}
 use Rattle.cell_chains.specs.Chains.{elements_of, IsItemFrom}
@@ -58,7 +58,7 @@ own_on (Some k) r = on_layer k r ∷ []
 
 abbrev own_wires : List Layer → List Shape → List Shape
 own_wires layers [] = []
-own_wires layers (w ∷ ws) = own_on (layer_of layers (wire_element layers w)) w.rect ++ own_wires layers ws
+own_wires layers (w ∷ ws) = own_on (element_layer layers (wire_element layers w)) w.rect ++ own_wires layers ws
 
 ring_drawing : (o : Option Layer) (r : Rect) → IsDrawing (boundary_on o (ring r)) (r ∷ [])
 ring_drawing None r = ring_slabs r
@@ -71,11 +71,11 @@ are_on (Some k) D r d = (r ∷ [], d, refl)
 wires_draw : (layers : List Layer) (ws : List Shape) (es : List Element) (rest : List Shape) → AreOwnShapes layers es rest → AreOwnShapes layers (map (wire_element layers) ws ++ es) (own_wires layers ws ++ rest)
 wires_draw layers [] es rest h = h
 wires_draw layers (w ∷ ws) es rest h = (
-  own_on (layer_of layers (wire_element layers w)) w.rect,
+  own_on (element_layer layers (wire_element layers w)) w.rect,
   own_wires layers ws ++ rest,
-  are_on (layer_of layers (wire_element layers w)) (IsDrawing (wire_element layers w)) w.rect (ring_drawing (slice_get layers w.layer) w.rect),
+  are_on (element_layer layers (wire_element layers w)) (IsDrawing (wire_element layers w)) w.rect (ring_drawing (slice_get layers w.layer) w.rect),
   wires_draw layers ws es rest h,
-  append_assoc (own_on (layer_of layers (wire_element layers w)) w.rect) (own_wires layers ws) rest,
+  append_assoc (own_on (element_layer layers (wire_element layers w)) w.rect) (own_wires layers ws) rest,
 )
 
 instances_draw : (layers : List Layer) (is : List PlacedInstance) (es : List Element) (rest : List Shape) → AreOwnShapes layers es rest → AreOwnShapes layers (map instance_element is ++ es) rest
@@ -98,12 +98,12 @@ cell_draws layers cell = instances_draw layers cell.instances _ _ (wires_draw la
 own_has : (p : Option ℕ) (r : Rect) (s : Shape) → p ≡ Some s.layer → s.rect ≡ r → Contains (own_on p r) s
 own_has p r s e f = subst (λ (q : Option ℕ). Contains (own_on q r) s) (sym e) (contains_here (on_layer s.layer r) [] s (λ i. record { layer = s.layer; rect = f i }))
 
-wire_among : (layers : List Layer) (ws : List Shape) (s w : Shape) → Contains ws w → layer_of layers (wire_element layers w) ≡ Some s.layer → s.rect ≡ w.rect → Contains (own_wires layers ws) s
+wire_among : (layers : List Layer) (ws : List Shape) (s w : Shape) → Contains ws w → element_layer layers (wire_element layers w) ≡ Some s.layer → s.rect ≡ w.rect → Contains (own_wires layers ws) s
 wire_among layers [] s w c e f = absurd (contains_none w c)
 wire_among layers (v ∷ vs) s w c e f = elim (contains_cases v vs w c) [
-  | inl is ↦ Contains-append_left (own_on (layer_of layers (wire_element layers v)) v.rect) (own_wires layers vs) s
-      (own_has (layer_of layers (wire_element layers v)) v.rect s (ap (λ (u : Shape). layer_of layers (wire_element layers u)) (sym is) ∙ e) (f ∙ ap (λ (u : Shape). u.rect) is))
-  | inr later ↦ Contains-append_right (own_on (layer_of layers (wire_element layers v)) v.rect) (own_wires layers vs) s (wire_among layers vs s w later e f)
+  | inl is ↦ Contains-append_left (own_on (element_layer layers (wire_element layers v)) v.rect) (own_wires layers vs) s
+      (own_has (element_layer layers (wire_element layers v)) v.rect s (ap (λ (u : Shape). element_layer layers (wire_element layers u)) (sym is) ∙ e) (f ∙ ap (λ (u : Shape). u.rect) is))
+  | inr later ↦ Contains-append_right (own_on (element_layer layers (wire_element layers v)) v.rect) (own_wires layers vs) s (wire_among layers vs s w later e f)
 ]
 
 pub wire_is_own : (layers : List Layer) (cell : DrawnCell) (s : Shape) → IsOwnWire layers cell.wires s → IsOwnShape layers (cell_elements layers cell) s
@@ -111,7 +111,7 @@ wire_is_own layers cell s w = record {
   shapes = own_wires layers cell.wires ++ [];
   drawn = cell_draws layers cell;
   among = Contains-append_left (own_wires layers cell.wires) [] s
-      (wire_among layers cell.wires s w.wire w.among (ap (λ (o : Option Layer). layer_of layers (boundary_on o (ring w.wire.rect))) w.on ∙ w.first) w.rect);
+      (wire_among layers cell.wires s w.wire w.among (ap (λ (o : Option Layer). element_layer layers (boundary_on o (ring w.wire.rect))) w.on ∙ w.first) w.rect);
 }
 
 -- what is drawn is a wire

@@ -8,10 +8,10 @@ use Rattle.or_geom.specs.declared.shape.Point.{Point}
 use Rattle.or_geom.specs.declared.shape.Rect.{Rect}
 use Rattle.or_geom.specs.declared.shape.Shape.{Shape}
 use Rattle.or_geom.proofs.PlaceLaws.{same_point}
-use Rattle.rectilinear.specs.declared.ring.Side.{Side}
+use Rattle.rectilinear.specs.declared.ring.RingSide.{RingSide}
 use Rattle.rectilinear.specs.Ring.{side, sides_of}
 use Rattle.rectilinear.specs.Corners.{corners_of, is_zero, is_up, is_down, is_right, is_left, is_run, steps, turns_after, turns}
-use Rattle.rectilinear.specs.Simple.{IsBetween, IsSimple, MeetAtMostThere}
+use Rattle.rectilinear.specs.Simple.{LiesBetween, IsSimple, MeetAtMostThere}
 use Rattle.gds_library.specs.declared.library.Structure.{Structure}
 use Rattle.gds_library.specs.Writable.{IsText, IsWritableRing, IsWritableElement, IsWritableCell}
 use Rattle.tech_rules.specs.declared.tech.Layer.{Layer}
@@ -25,20 +25,20 @@ use Rattle.cell_builder.proofs.FlatLaws.{all_permuted}
 
 -- a ring of four corners
 
-only : (a z : ℤ) → IsBetween a z a → z ≡ a
+only : (a z : ℤ) → LiesBetween a z a → z ≡ a
 only a z (inl b) = let low = b.0 in let high = b.1 in omega (arith, ints, low, high)
 only a z (inr b) = let low = b.0 in let high = b.1 in omega (arith, ints, low, high)
 
-abbrev bottom : Rect → Side
+abbrev bottom : Rect → RingSide
 bottom r = side (record { x = r.x1; y = r.y1 }) (record { x = r.x2; y = r.y1 })
 
-abbrev right : Rect → Side
+abbrev right : Rect → RingSide
 right r = side (record { x = r.x2; y = r.y1 }) (record { x = r.x2; y = r.y2 })
 
-abbrev top : Rect → Side
+abbrev top : Rect → RingSide
 top r = side (record { x = r.x2; y = r.y2 }) (record { x = r.x1; y = r.y2 })
 
-abbrev left : Rect → Side
+abbrev left : Rect → RingSide
 left r = side (record { x = r.x1; y = r.y2 }) (record { x = r.x1; y = r.y1 })
 
 bottom_right : (r : Rect) → MeetAtMostThere (bottom r) (right r)
@@ -77,28 +77,28 @@ none true c = refl
 none false true = refl
 none false false = refl
 
-level_upright : (s t : Side) → int_eq s.a.x s.b.x ≡ false → int_eq t.a.y t.b.y ≡ false → is_run s t ≡ false
+level_upright : (s t : RingSide) → int_eq s.a.x s.b.x ≡ false → int_eq t.a.y t.b.y ≡ false → is_run s t ≡ false
 level_upright s t e f =
     (λ i. cond (e i && int_lt s.a.y s.b.y) (is_up t) (cond (e i && int_lt s.b.y s.a.y) (is_down t) (cond (is_right s) (f i && int_lt t.a.x t.b.x) (cond (is_left s) (f i && int_lt t.b.x t.a.x) false)))) ∙ none (is_right s) (is_left s)
 
-upright_level : (s t : Side) → int_eq s.a.y s.b.y ≡ false → int_eq t.a.x t.b.x ≡ false → is_run s t ≡ false
+upright_level : (s t : RingSide) → int_eq s.a.y s.b.y ≡ false → int_eq t.a.x t.b.x ≡ false → is_run s t ≡ false
 upright_level s t e f =
     (λ i. cond (is_up s) (f i && int_lt t.a.y t.b.y) (cond (is_down s) (f i && int_lt t.b.y t.a.y) (cond (e i && int_lt s.a.x s.b.x) (is_right t) (cond (e i && int_lt s.b.x s.a.x) (is_left t) false)))) ∙ none (is_up s) (is_down s)
 
-zero_x : (s : Side) → int_eq s.a.x s.b.x ≡ false → is_zero s ≡ false
+zero_x : (s : RingSide) → int_eq s.a.x s.b.x ≡ false → is_zero s ≡ false
 zero_x s e = λ i. e i && int_eq s.a.y s.b.y
 
 and_false : (b : Bool) → b && false ≡ false
 and_false true = refl
 and_false false = refl
 
-zero_y : (s : Side) → int_eq s.a.y s.b.y ≡ false → is_zero s ≡ false
+zero_y : (s : RingSide) → int_eq s.a.y s.b.y ≡ false → is_zero s ≡ false
 zero_y s e = (λ i. int_eq s.a.x s.b.x && e i) ∙ and_false (int_eq s.a.x s.b.x)
 
-step_one : (s : Side) (ss : List Side) → is_zero s ≡ false → steps (s ∷ ss) ≡ s ∷ steps ss
+step_one : (s : RingSide) (ss : List RingSide) → is_zero s ≡ false → steps (s ∷ ss) ≡ s ∷ steps ss
 step_one s ss e = ap (λ (b : Bool). cond b (steps ss) (s ∷ steps ss)) e
 
-turn_one : (s t : Side) (ts : List Side) → is_run s t ≡ false → turns_after s (t ∷ ts) ≡ t.a ∷ turns_after t ts
+turn_one : (s t : RingSide) (ts : List RingSide) → is_run s t ≡ false → turns_after s (t ∷ ts) ≡ t.a ∷ turns_after t ts
 turn_one s t ts e = ap (λ (b : Bool). cond b (turns_after t ts) (t.a ∷ turns_after t ts)) e
 
 less_unequal : (a b : ℤ) → a <ℤ b → int_eq a b ≡ false
@@ -110,9 +110,9 @@ more_unequal a b lt = grind (arith, ints, lt)
 ring_steps : (r : Rect) → steps (sides_of (ring r)) ≡ sides_of (ring r)
 ring_steps r =
     step_one (bottom r) (right r ∷ top r ∷ left r ∷ []) (zero_x (bottom r) (less_unequal r.x1 r.x2 r.wide))
-    ∙ ap (λ (ss : List Side). bottom r ∷ ss) (step_one (right r) (top r ∷ left r ∷ []) (zero_y (right r) (less_unequal r.y1 r.y2 r.tall))
-    ∙ ap (λ (ss : List Side). right r ∷ ss) (step_one (top r) (left r ∷ []) (zero_x (top r) (more_unequal r.x1 r.x2 r.wide))
-    ∙ ap (λ (ss : List Side). top r ∷ ss) (step_one (left r) [] (zero_y (left r) (more_unequal r.y1 r.y2 r.tall)))))
+    ∙ ap (λ (ss : List RingSide). bottom r ∷ ss) (step_one (right r) (top r ∷ left r ∷ []) (zero_y (right r) (less_unequal r.y1 r.y2 r.tall))
+    ∙ ap (λ (ss : List RingSide). right r ∷ ss) (step_one (top r) (left r ∷ []) (zero_x (top r) (more_unequal r.x1 r.x2 r.wide))
+    ∙ ap (λ (ss : List RingSide). top r ∷ ss) (step_one (left r) [] (zero_y (left r) (more_unequal r.y1 r.y2 r.tall)))))
 
 ring_turns : (r : Rect) → corners_of (ring r) ≡ ring r
 ring_turns r =

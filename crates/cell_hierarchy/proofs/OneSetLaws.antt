@@ -9,7 +9,7 @@ use Rattle.gds_library.specs.declared.library.Element.{Element}
 use Rattle.gds_library.specs.declared.library.Element.TheVariants.{Boundary, Path, Sref, Aref, Text}
 use Rattle.gds_library.specs.Writable.{IsWritableBody}
 use Rattle.element_drawing.specs.Drawing.{IsDrawing}
-use Rattle.element_drawing.specs.OwnShapes.{layer_of, on_layer, AreOn}
+use Rattle.element_drawing.specs.OwnShapes.{element_layer, on_layer, AreOn}
 use Rattle.cell_hierarchy.specs.OneSet.{AreOneSet}
 use Rattle.cell_hierarchy.proofs.PathLaws.{one_path}
 
@@ -35,7 +35,7 @@ pub one_set : AreOneSet
 one_set layers [] a b w p q s c = subst (λ (ts : List Shape). Contains ts s) (p ∙ sym q) c
 one_set layers (e ∷ es) a b w p q s c =
     let kept : Contains (q.0 ++ q.1) s = elim (Contains-append_cases p.0 p.1 s (subst (λ (ts : List Shape). Contains ts s) p.4 c)) [
-      | inl first ↦ Contains-append_left q.0 q.1 s (one_on (layer_of layers e) (IsDrawing e) p.0 q.0 (λ rs ss. one_drawing e rs ss w.0.body) p.2 q.2 s first)
+      | inl first ↦ Contains-append_left q.0 q.1 s (one_on (element_layer layers e) (IsDrawing e) p.0 q.0 (λ rs ss. one_drawing e rs ss w.0.body) p.2 q.2 s first)
       | inr rest ↦ Contains-append_right q.0 q.1 s (one_set layers es p.1 q.1 w.1 p.3 q.3 s rest)
     ] in
     subst (λ (ts : List Shape). Contains ts s) (sym q.4) kept

@@ -18,7 +18,7 @@ use Rattle.cell_hierarchy.specs.Things.Thing.{AShape, ALabel, APoint}
 use Rattle.cell_hierarchy.specs.Placed.{path_join, IsLabelAt, LabelGives, PointGives, IsThingAt, IsOfDrawing}
 use Rattle.cell_hierarchy.specs.Plain.{plain_label}
 use Rattle.cell_hierarchy.specs.declared.flat.Label.{Label}
-use Rattle.cell_hierarchy.specs.declared.drawing.Drawing.{Drawing}
+use Rattle.cell_hierarchy.specs.declared.drawing.OwnDrawing.{OwnDrawing}
 use Rattle.cell_hierarchy.specs.declared.gathered.Gathered.{Gathered}
 use Rattle.cell_hierarchy.specs.declared.placement.Placement.{Placement}
 
@@ -77,12 +77,12 @@ adds_each : {X : Type 0} (old new : List X) (P : X → Type 0) (x : X) → Adds 
 adds_each old new P x a h = subst (λ (l : List _). Contains l x) (sym a.is) (Contains-append_right old a.added x (a.each x h))
 
 -- the three lists grew
-pub record AddsOwn (own : Drawing) (at : Placement) (old new : Gathered) : Type 0 where
+pub record AddsOwn (own : OwnDrawing) (at : Placement) (old new : Gathered) : Type 0 where
   pub shapes : Adds old.shapes.items new.shapes.items (SomeGives (IsMoved at.place) own.shapes.items)
   pub labels : Adds (map plain_label old.labels.items) (map plain_label new.labels.items) (SomeGives (LabelGives at.path.now at.place) own.labels.items)
   pub points : Adds old.points.items new.points.items (SomeGives (PointGives at.place) own.points.items)
 
-own_only : (own : Drawing) (at : Placement) (old new : Gathered) (x : Thing) → AddsOwn own at old new → HasThing new x → HasThing old x ⊎ IsOfDrawing own at x
+own_only : (own : OwnDrawing) (at : Placement) (old new : Gathered) (x : Thing) → AddsOwn own at old new → HasThing new x → HasThing old x ⊎ IsOfDrawing own at x
 own_only own at old new (AShape s) a h = elim (adds_cases old.shapes.items new.shapes.items (SomeGives (IsMoved at.place) own.shapes.items) s a.shapes h) [
   | inl o ↦ inl o
   | inr g ↦ let w = giver (IsMoved at.place) own.shapes.items s g in inr (record { inner = AShape w.0; own = w.1; stands = w.2 })
@@ -96,12 +96,12 @@ own_only own at old new (APoint p) a h = elim (adds_cases old.points.items new.p
   | inr g ↦ let w = giver (PointGives at.place) own.points.items p g in inr (record { inner = APoint w.0; own = w.1; stands = w.2 })
 ]
 
-own_stays : (own : Drawing) (at : Placement) (old new : Gathered) (x : Thing) → AddsOwn own at old new → HasThing old x → HasThing new x
+own_stays : (own : OwnDrawing) (at : Placement) (old new : Gathered) (x : Thing) → AddsOwn own at old new → HasThing old x → HasThing new x
 own_stays own at old new (AShape s) a h = adds_stays old.shapes.items new.shapes.items _ s a.shapes h
 own_stays own at old new (ALabel l) a h = adds_stays (map plain_label old.labels.items) (map plain_label new.labels.items) _ l a.labels h
 own_stays own at old new (APoint p) a h = adds_stays old.points.items new.points.items _ p a.points h
 
-own_each : (own : Drawing) (at : Placement) (old new : Gathered) (inner x : Thing) → AddsOwn own at old new → DrawsThing own inner → IsThingAt at.path.now at.place inner x → HasThing new x
+own_each : (own : OwnDrawing) (at : Placement) (old new : Gathered) (inner x : Thing) → AddsOwn own at old new → DrawsThing own inner → IsThingAt at.path.now at.place inner x → HasThing new x
 own_each own at old new (AShape b) (AShape s) a h m = adds_each old.shapes.items new.shapes.items _ s a.shapes (gives_some (IsMoved at.place) own.shapes.items s b h m)
 own_each own at old new (AShape b) (ALabel l) a h m = absurd m
 own_each own at old new (AShape b) (APoint p) a h m = absurd m
@@ -115,7 +115,7 @@ own_each own at old new (APoint b) (AShape s) a h m = absurd m
 own_each own at old new (APoint b) (ALabel l) a h m = absurd m
 own_each own at old new (APoint b) (APoint p) a h m = adds_each old.points.items new.points.items _ p a.points (gives_some (PointGives at.place) own.points.items p b h m)
 
-pub own_grows : (own : Drawing) (at : Placement) (old new : Gathered) → AddsOwn own at old new → GatheredGrows old new (IsOfDrawing own at)
+pub own_grows : (own : OwnDrawing) (at : Placement) (old new : Gathered) → AddsOwn own at old new → GatheredGrows old new (IsOfDrawing own at)
 own_grows own at old new a = record {
   only = λ x h. own_only own at old new x a h;
   stays = λ x h. own_stays own at old new x a h;

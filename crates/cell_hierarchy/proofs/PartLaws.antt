@@ -31,7 +31,7 @@ use Rattle.cell_hierarchy.specs.Things.{Thing, IsOwnThing, DrawsThing, IsFlatThi
 use Rattle.cell_hierarchy.specs.Things.Thing.{AShape, ALabel, APoint}
 use Rattle.cell_hierarchy.specs.Drawings.{kept_labels, IsDrawingOf, IsBlank, IsSomeAt, LeadsToSome, IsLiveOf, IsCellPart, IsPartOf, AreCellParts, AreAllCells}
 use Rattle.cell_hierarchy.specs.declared.flat.Label.{Label}
-use Rattle.cell_hierarchy.specs.declared.drawing.Drawing.{Drawing}
+use Rattle.cell_hierarchy.specs.declared.drawing.OwnDrawing.{OwnDrawing}
 use Rattle.cell_hierarchy.specs.declared.parts.CellPart.{CellPart}
 use Rattle.cell_hierarchy.proofs.NearLaws.{near_point, further}
 use Rattle.cell_hierarchy.proofs.OneSetLaws.{one_set}
@@ -93,7 +93,7 @@ kept_all P true ls all = all
 kept_all P false ls all = tt
 
 -- a drawing that was made of the elements' shapes and labels
-pub made_drawing : (layers : List Layer) (kept : Bool) (es : List Element) (drawing : Drawing) (texts : List ElementLabel) → AreOwnShapes layers es drawing.shapes.items → AllByRecursion (IsShapeWithin (2 ^ 32)) drawing.shapes.items
+pub made_drawing : (layers : List Layer) (kept : Bool) (es : List Element) (drawing : OwnDrawing) (texts : List ElementLabel) → AreOwnShapes layers es drawing.shapes.items → AllByRecursion (IsShapeWithin (2 ^ 32)) drawing.shapes.items
     → map pathless texts ≡ own_labels layers es → AllByRecursion (IsLabelWithin (2 ^ 32)) (map pathless texts) → map plain_label drawing.labels.items ≡ kept_labels kept (map pathless texts)
     → drawing.points.items ≡ map (λ (text : ElementLabel). text.at) texts → IsDrawingOf layers kept es drawing
 made_drawing layers kept es drawing texts shapes shapes_near are near labels points =
@@ -118,21 +118,21 @@ kept_contains : (kept : Bool) (labels : List PlainLabel) (l : PlainLabel) → Co
 kept_contains true labels l = (λ h. (refl, h), λ h. h.1)
 kept_contains false labels l = (λ h. absurd (contains_none l h), λ h. absurd (let e : false ≡ true = h.0 in cc))
 
-own_there : (layers : List Layer) (kept : Bool) (es : List Element) (drawing : Drawing) (x : Thing) → IsDrawingOf layers kept es drawing → DrawsThing drawing x → IsOwnThing layers kept es x
+own_there : (layers : List Layer) (kept : Bool) (es : List Element) (drawing : OwnDrawing) (x : Thing) → IsDrawingOf layers kept es drawing → DrawsThing drawing x → IsOwnThing layers kept es x
 own_there layers kept es drawing (AShape s) d h = record { shapes = drawing.shapes.items; drawn = d.shapes; among = h }
 own_there layers kept es drawing (ALabel l) d h = (kept_contains kept (own_labels layers es) l).0 (subst (λ (ls : List PlainLabel). Contains ls l) d.labels h)
 own_there layers kept es drawing (APoint p) d h =
     let i = image_from (λ (label : PlainLabel). label.at) (own_labels layers es) p (subst (λ (ps : List Point). Contains ps p) d.points h) in
     record { text = i.item; among = i.stands; is = i.is }
 
-own_back : (layers : List Layer) (kept : Bool) (es : List Element) (drawing : Drawing) (x : Thing) → AllByRecursion IsWritableElement es → IsDrawingOf layers kept es drawing → IsOwnThing layers kept es x → DrawsThing drawing x
+own_back : (layers : List Layer) (kept : Bool) (es : List Element) (drawing : OwnDrawing) (x : Thing) → AllByRecursion IsWritableElement es → IsDrawingOf layers kept es drawing → IsOwnThing layers kept es x → DrawsThing drawing x
 own_back layers kept es drawing (AShape s) w d h = one_set layers es h.shapes drawing.shapes.items w h.drawn d.shapes s h.among
 own_back layers kept es drawing (ALabel l) w d h = subst (λ (ls : List PlainLabel). Contains ls l) (sym d.labels) ((kept_contains kept (own_labels layers es) l).1 h)
 own_back layers kept es drawing (APoint p) w d h =
     subst (λ (ps : List Point). Contains ps p) (sym d.points)
     (subst (λ (q : Point). Contains (map (λ (label : PlainLabel). label.at) (own_labels layers es)) q) h.is (contains_map (λ (label : PlainLabel). label.at) (own_labels layers es) h.text h.among))
 
-pub own_is : (layers : List Layer) (kept : Bool) (es : List Element) (drawing : Drawing) → AllByRecursion IsWritableElement es → IsDrawingOf layers kept es drawing → (x : Thing) → DrawsThing drawing x ↔ IsOwnThing layers kept es x
+pub own_is : (layers : List Layer) (kept : Bool) (es : List Element) (drawing : OwnDrawing) → AllByRecursion IsWritableElement es → IsDrawingOf layers kept es drawing → (x : Thing) → DrawsThing drawing x ↔ IsOwnThing layers kept es x
 own_is layers kept es drawing w d x = (own_there layers kept es drawing x d, own_back layers kept es drawing x w d)
 
 -- a blank cell has nothing flat

@@ -9,7 +9,7 @@ use Rattle.gds_library.specs.declared.library.Element.TheVariants.{Boundary, Pat
 use Rattle.gds_library.specs.Writable.{IsWritableBody, IsWritableElement}
 use Rattle.tech_rules.specs.declared.tech.Layer.{Layer}
 use Rattle.element_drawing.specs.Drawing.{IsDrawing}
-use Rattle.element_drawing.specs.OwnShapes.{layer_of, on_layer, AreOn, AreOwnShapes}
+use Rattle.element_drawing.specs.OwnShapes.{element_layer, on_layer, AreOn, AreOwnShapes}
 use Rattle.cell_chains.specs.Chains.{elements_of}
 use Rattle.cell_chains.proofs.ChainLaws.{writable_elements}
 use Rattle.cell_hierarchy.specs.Counts.{Total, IsOwnTotal, IsBelow, IsTotalWithin, sum, times}
@@ -32,7 +32,7 @@ one_number_on (Some layer) IsDrawn a b one p q = ap length p.2 ∙ (length-map p
 one_number_of_shapes : (layers : List Layer) (es : List Element) (a b : List Shape) → AllByRecursion IsWritableElement es → AreOwnShapes layers es a → AreOwnShapes layers es b → length a ≡ length b
 one_number_of_shapes layers [] a b w p q = ap length (p ∙ sym q)
 one_number_of_shapes layers (e ∷ es) a b w p q =
-    let first : length p.0 ≡ length q.0 = one_number_on (layer_of layers e) (IsDrawing e) p.0 q.0 (λ rs ss. one_number e rs ss w.0.body) p.2 q.2 in
+    let first : length p.0 ≡ length q.0 = one_number_on (element_layer layers e) (IsDrawing e) p.0 q.0 (λ rs ss. one_number e rs ss w.0.body) p.2 q.2 in
     let rest : length p.1 ≡ length q.1 = one_number_of_shapes layers es p.1 q.1 w.1 p.3 q.3 in
     let sum_a = ap length p.4 ∙ length-append p.0 p.1 in
     let sum_b = ap length q.4 ∙ length-append q.0 q.1 in

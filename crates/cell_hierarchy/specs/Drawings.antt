@@ -16,11 +16,11 @@ use Rattle.cell_chains.specs.Hierarchy.{IsCell}
 use Rattle.cell_hierarchy.specs.Plain.{plain_label}
 use Rattle.cell_hierarchy.specs.Things.{Thing, IsFlatThing}
 use Rattle.cell_hierarchy.specs.declared.flat.Label.{Label}
-use Rattle.cell_hierarchy.specs.declared.drawing.Drawing.{Drawing}
+use Rattle.cell_hierarchy.specs.declared.drawing.OwnDrawing.{OwnDrawing}
 use Rattle.cell_hierarchy.specs.declared.parts.CellPart.{CellPart}
 
 -- all that it has is within 2^40, and its labels have no paths
-pub record IsOwnDrawing (own : Drawing) : Type 0 where
+pub record IsOwnDrawing (own : OwnDrawing) : Type 0 where
   pub shapes : AreReachable own.shapes.items
   pub labels : AllByRecursion (λ (label : Label). IsNearPoint label.at) own.labels.items
   pub bare : AllByRecursion (λ (label : Label). label.path.now ≡ []) own.labels.items
@@ -32,7 +32,7 @@ kept_labels true labels = labels
 kept_labels false labels = []
 
 -- what the elements draw themselves
-pub record IsDrawingOf (layers : List Layer) (kept : Bool) (elements : List Element) (drawing : Drawing) : Type 0 where
+pub record IsDrawingOf (layers : List Layer) (kept : Bool) (elements : List Element) (drawing : OwnDrawing) : Type 0 where
   pub shapes : AreOwnShapes layers elements drawing.shapes.items
   pub labels : map plain_label drawing.labels.items ≡ kept_labels kept (own_labels layers elements)
   pub points : drawing.points.items ≡ map (λ (label : PlainLabel). label.at) (own_labels layers elements)

@@ -13,7 +13,7 @@ use Rattle.cell_hierarchy.specs.Things.{Thing, MovesThing, IsFlatThing, DrawsThi
 use Rattle.cell_hierarchy.specs.Things.Thing.{AShape, ALabel, APoint}
 use Rattle.cell_hierarchy.specs.Plain.{plain_label}
 use Rattle.cell_hierarchy.specs.declared.flat.Label.{Label}
-use Rattle.cell_hierarchy.specs.declared.drawing.Drawing.{Drawing}
+use Rattle.cell_hierarchy.specs.declared.drawing.OwnDrawing.{OwnDrawing}
 use Rattle.cell_hierarchy.specs.declared.placement.Placement.{Placement}
 
 -- the one path and below it the other, with a `/` between them where neither is empty
@@ -49,7 +49,7 @@ abbrev pub PointGives : Place → Point → Point → Type 0
 PointGives place own made = made ≡ placed place own
 
 -- x is what one of the drawing's things is in the top
-pub record IsOfDrawing (drawing : Drawing) (at : Placement) (x : Thing) : Type 0 where
+pub record IsOfDrawing (drawing : OwnDrawing) (at : Placement) (x : Thing) : Type 0 where
   pub inner : Thing
   pub own : DrawsThing drawing inner
   pub stands : IsThingAt at.path.now at.place inner x

@@ -13,7 +13,7 @@ use Rattle.cell_chains.specs.Chains.{elements_of, IsItemOf}
 use Rattle.cell_hierarchy.specs.FlatSet.{IsOwnShape, IsMoved, IsLabelMoved}
 use Rattle.cell_hierarchy.specs.Plain.{plain_label}
 use Rattle.cell_hierarchy.specs.declared.flat.Label.{Label}
-use Rattle.cell_hierarchy.specs.declared.drawing.Drawing.{Drawing}
+use Rattle.cell_hierarchy.specs.declared.drawing.OwnDrawing.{OwnDrawing}
 use Rattle.cell_hierarchy.specs.declared.gathered.Gathered.{Gathered}
 
 pub data Thing : Type 0 where
@@ -62,7 +62,7 @@ IsListedThing shapes labels points (ALabel l) = Contains (map plain_label labels
 IsListedThing shapes labels points (APoint p) = Contains points p
 
 -- it is drawn
-abbrev pub DrawsThing : Drawing → Thing → Type 0
+abbrev pub DrawsThing : OwnDrawing → Thing → Type 0
 DrawsThing drawing x = IsListedThing drawing.shapes.items drawing.labels.items drawing.points.items x
 
 -- it was gathered

@@ -11,7 +11,7 @@ ghost use Rattle.cell_hierarchy.specs.Plain.{plain_label};
 ghost use Rattle.cell_hierarchy.specs.Drawings.{IsOwnDrawing};
 ghost use Rattle.cell_hierarchy.specs.Things.{GatheredGrows};
 
-use crate::drawing::Drawing;
+use crate::drawing::OwnDrawing;
 use crate::flat::Label;
 use crate::gathered::Gathered;
 use crate::placement::Placement;
@@ -91,7 +91,7 @@ fn add_points(place: Place, points: &[Point], out: &mut Vec<Point>) -> Result<()
 /// Adds what a cell draws itself, where it stands.
 pub fn add_own<'b>(
     at: &Placement<'b>,
-    own: &Drawing<'b>,
+    own: &OwnDrawing<'b>,
     out: &mut Gathered<'b>,
 ) -> Result<(), Memory>
     requires offset { IsNearPoint at.now.place.at }

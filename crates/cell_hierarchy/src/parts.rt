@@ -9,7 +9,7 @@ ghost use Rattle.cell_hierarchy.specs.Drawings.{AreCellParts, IsBlank};
 ghost use Rattle.cell_hierarchy.specs.Plain.{plain_label};
 
 use crate::arena::text_in;
-use crate::drawing::Drawing;
+use crate::drawing::OwnDrawing;
 use crate::flat::Label;
 use bumpalo::Bump;
 use cell_chains::Cell;
@@ -23,7 +23,7 @@ use tech_rules::Layer;
 /// something.
 #[derive(Drop)]
 pub struct CellPart<'b> {
-    pub own: Drawing<'b>,
+    pub own: OwnDrawing<'b>,
     pub live: Vec<usize>,
 }
 
@@ -66,7 +66,7 @@ fn drawing_of<'b>(
     layers: &[Layer],
     elements: &[Element],
     keeps_labels: bool,
-) -> Result<Drawing<'b>, Memory>
+) -> Result<OwnDrawing<'b>, Memory>
     requires few { length layers.now ≤ 64 }
     requires writable { AllByRecursion IsWritableElement elements.now }
     ensures { IfOk result (IsDrawingOf layers.now keeps_labels elements.now) }
@@ -79,7 +79,7 @@ fn drawing_of<'b>(
         Vec::new(alloc)
     };
     let points = points_of(alloc, &texts)?;
-    Ok(Drawing {
+    Ok(OwnDrawing {
         shapes,
         labels,
         points,

@@ -26,7 +26,7 @@ use Rattle.kit_routes.proofs.FaultLaws.{too_wide, not_wide}
 use Rattle.kit_routes.proofs.ModelLaws.{rows_listed}
 use Rattle.good_places.specs.Windows.{with_bits, IsWindowOf}
 use Rattle.good_windows.proofs.ListedLaws.{IsSize, all_at_once, one_by_one, with_size}
-use Rattle.good_windows.specs.Listed.{IsListed}
+use Rattle.good_windows.specs.Listed.{IsPlanOfWindow}
 use Rattle.clean_windows.specs.Sound.{HasSoundWindow, IsWrittenOfRows, GoodKitsHaveCleanWindows}
 
 -- an answer in order is a macro, where cells aren't too wide
@@ -68,7 +68,7 @@ module _ (kit : Kit) (plan : Plan) (is : IsKit kit) (good : IsGoodKit IsAssemble
   -- the memory with so many bits, which are listed
   pub sized : (word write masks : ℕ) → IsSize word write masks → HasSoundWindow kit (with_bits (organization plan) word write masks)
   sized word write masks size =
-      let l : IsListed (with_bits (organization plan) word write masks) = with_size (organization plan) plan.rows rows (ap used_groups planned.groups) planned.numbers.plan.choices planned.numbers.plan.banks word write masks size in
+      let l : IsPlanOfWindow (with_bits (organization plan) word write masks) = with_size (organization plan) plan.rows rows (ap used_groups planned.groups) planned.numbers.plan.choices planned.numbers.plan.banks word write masks size in
       subst (HasSoundWindow kit) l.is (listed_is_sound kit l.window is good l.listed (subst (λ (o : Organization). AreWideSlices o (layout_kit kit)) (sym l.is) (still_wide word write masks)))
 
   pub clean_window : (other : Organization) → IsWindowOf (organization plan) other → HasSoundWindow kit other

@@ -14,7 +14,7 @@ use Rattle.tech_rules.specs.declared.tech.Device.{Device}
 use Rattle.drawn_devices.specs.Cells.{LiesOn, ShareSide, IsNextAcross, IsNextUpward}
 use Rattle.drawn_devices.specs.Channels.{IsChannelCell, ChannelOf}
 use Rattle.drawn_devices.specs.Diffusion.{IsActive, IsDiffusion}
-use Rattle.drawn_devices.specs.Sides.{IsBetween}
+use Rattle.drawn_devices.specs.Sides.{IsCellBetween}
 use Rattle.drawn_devices.proofs.CellLaws.{Has}
 use Rattle.drawn_devices.proofs.LayerLaws.{lies_by, decide_active}
 use Rattle.flat_answers.proofs.DecisionLaws.{Decided, decide_as, decide_below, decide_both, decide_either, decide_not}
@@ -32,21 +32,21 @@ decide_point p q = decide_as ((p.x ≡ q.x) × (p.y ≡ q.y)) (p ≡ q) (λ h. s
     (decide_both (p.x ≡ q.x) (p.y ≡ q.y) (decide_int p.x q.x) (decide_int p.y q.y))
 
 -- the numbers of a range
-pub listed_between : (low high : ℤ) → Listed (IsBetween low high)
+pub listed_between : (low high : ℤ) → Listed (IsCellBetween low high)
 listed_between low high = by_lt_z low high
-    (λ lt. listed_as (λ (z : ℤ). (k : ℕ) × (k < unsigned_abs (high -ℤ low)) × (z ≡ low +ℤ pos k)) (IsBetween low high)
+    (λ lt. listed_as (λ (z : ℤ). (k : ℕ) × (k < unsigned_abs (high -ℤ low)) × (z ≡ low +ℤ pos k)) (IsCellBetween low high)
     (λ z h. let inside = h.1 in let is = h.2 in record { from = omega (arith, ints, lt, inside, is); below = omega (arith, ints, lt, inside, is) })
     (λ z b. let from = b.from in let below = b.below in (unsigned_abs (z -ℤ low), omega (arith, ints, lt, from, below), omega (arith, ints, lt, from, below)))
     (listed_over (λ (k : ℕ). k < unsigned_abs (high -ℤ low)) (λ (k : ℕ) (z : ℤ). z ≡ low +ℤ pos k) (listed_below (unsigned_abs (high -ℤ low))) (λ k. listed_one (low +ℤ pos k))))
-    (λ ge. listed_none (IsBetween low high) (λ z b. let from = b.from in let below = b.below in omega (arith, ints, ge, from, below)))
+    (λ ge. listed_none (IsCellBetween low high) (λ z b. let from = b.from in let below = b.below in omega (arith, ints, ge, from, below)))
 
 -- the cells of a box
 pub listed_box : (r : Rect) → Listed (Has r)
-listed_box r = listed_as (λ (p : Point). (x : ℤ) × IsBetween r.x1 r.x2 x × ((y : ℤ) × IsBetween r.y1 r.y2 y × (p ≡ record { x = x; y = y }))) (Has r)
+listed_box r = listed_as (λ (p : Point). (x : ℤ) × IsCellBetween r.x1 r.x2 x × ((y : ℤ) × IsCellBetween r.y1 r.y2 y × (p ≡ record { x = x; y = y }))) (Has r)
     (λ p h. subst (Has r) (sym h.2.2) (record { left = h.1.from; right = h.1.below; low = h.2.1.from; high = h.2.1.below }))
     (λ p h. (p.x, record { from = h.left; below = h.right }, (p.y, record { from = h.low; below = h.high }, refl)))
-    (listed_over (IsBetween r.x1 r.x2) (λ (x : ℤ) (p : Point). (y : ℤ) × IsBetween r.y1 r.y2 y × (p ≡ record { x = x; y = y })) (listed_between r.x1 r.x2)
-    (λ x. listed_over (IsBetween r.y1 r.y2) (λ (y : ℤ) (p : Point). p ≡ record { x = x; y = y }) (listed_between r.y1 r.y2) (λ y. listed_one (record { x = x; y = y }))))
+    (listed_over (IsCellBetween r.x1 r.x2) (λ (x : ℤ) (p : Point). (y : ℤ) × IsCellBetween r.y1 r.y2 y × (p ≡ record { x = x; y = y })) (listed_between r.x1 r.x2)
+    (λ x. listed_over (IsCellBetween r.y1 r.y2) (λ (y : ℤ) (p : Point). p ≡ record { x = x; y = y }) (listed_between r.y1 r.y2) (λ y. listed_one (record { x = x; y = y }))))
 
 pub decide_has : (r : Rect) (p : Point) → Decided (Has r p)
 decide_has r p =

@@ -20,7 +20,7 @@ use Rattle.element_drawing.specs.PlainLabel.{PlainLabel}
 use Rattle.cell_hierarchy.specs.FlatLists.{point_order}
 use Rattle.net_extractor.specs.Binding.{Binds}
 use Rattle.net_extractor.specs.Difference.{in_lower_case}
-use Rattle.drawn_devices.specs.declared.drawn.Channel.{Channel}
+use Rattle.drawn_devices.specs.declared.drawn.DeviceChannel.{DeviceChannel}
 use Rattle.drawn_devices.specs.declared.drawn.Flow.{Flow}
 use Rattle.drawn_devices.specs.declared.drawn.NetName.{NetName}
 use Rattle.drawn_devices.specs.declared.drawn.Side.{Side}
@@ -28,7 +28,7 @@ use Rattle.drawn_devices.specs.declared.drawn.Terminals.{Terminals}
 use Rattle.drawn_devices.specs.Cells.{ShareSide}
 use Rattle.drawn_devices.specs.Channels.{IsChannelCell, ChannelOf, IsLeastCell}
 use Rattle.drawn_devices.specs.Diffusion.{IsActive, IsDiffusion}
-use Rattle.drawn_devices.specs.Drawn.{AreNetNumbers, IsNumberAlong, TerminalsAre, IsDrawnChannel, IsNetName}
+use Rattle.drawn_devices.specs.Drawn.{AreNetNumbers, IsNumberAlong, TerminalsAre, IsListedChannel, IsNetName}
 use Rattle.drawn_devices.specs.Names.{label_anchor}
 use Rattle.drawn_devices.specs.Nets.{Member, Drawn, Diffused, IsMember, MembersTouch}
 use Rattle.drawn_devices.specs.Sides.{IsOpen, first_side, second_side}
@@ -78,7 +78,7 @@ chosen {X} {Y} key cmp R (x ∷ xs) rise choose =
 abbrev key_order : ℕ × Point → ℕ × Point → Ordering
 key_order a b = ordering_then (nat_cmp a.0 b.0) (point_order a.1 b.1)
 
-abbrev key_of : Channel → ℕ × Point
+abbrev key_of : DeviceChannel → ℕ × Point
 key_of c = (c.device, c.least)
 
 keys_in_order : IsOrder key_order
@@ -171,7 +171,7 @@ module _ (tech : Tech) (shapes : List Shape) where
               },
             )
 
-    channel_there : (key : ℕ × Point) → IsKey key → (channel : Channel) × (key_of channel ≡ key) × IsDrawnChannel tech shapes number channel
+    channel_there : (key : ℕ × Point) → IsKey key → (channel : DeviceChannel) × (key_of channel ≡ key) × IsListedChannel tech shapes number channel
     channel_there key h =
         let device = h.2.0 in
         let least = h.2.2.1 in
@@ -223,7 +223,7 @@ drawn_devices_are_there tech shapes labels =
     let n = net_numbers tech shapes in
     let names = listed_names tech shapes n.0 n.1 labels in
     let keys = listed_ordered key_order (IsKey tech shapes) keys_in_order (listed_keys tech shapes) in
-    let channels = chosen key_of key_order (IsDrawnChannel tech shapes n.0) keys.0 keys.1 (λ key h. channel_there tech shapes n.0 n.1 key ((keys.2 key).0 h)) in (
+    let channels = chosen key_of key_order (IsListedChannel tech shapes n.0) keys.0 keys.1 (λ key h. channel_there tech shapes n.0 n.1 key ((keys.2 key).0 h)) in (
       record { names = names.0; channels = channels.things },
       record {
         number = n.0;

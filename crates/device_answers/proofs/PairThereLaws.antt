@@ -13,7 +13,7 @@ use Rattle.or_geom.proofs.ListLaws.{contains_first, contains_later}
 use Rattle.tech_rules.specs.declared.tech.Device.{Device}
 use Rattle.spice_text.specs.Words.{lower}
 use Rattle.net_extractor.proofs.PlaceLaws.{at_contained}
-use Rattle.drawn_devices.specs.declared.drawn.Channel.{Channel}
+use Rattle.drawn_devices.specs.declared.drawn.DeviceChannel.{DeviceChannel}
 use Rattle.drawn_devices.specs.declared.drawn.NetName.{NetName}
 use Rattle.drawn_devices.specs.declared.drawn.Terminals.{Terminals}
 use Rattle.device_entries.specs.declared.entry.DeviceEntry.{DeviceEntry}
@@ -37,13 +37,13 @@ use Rattle.device_answers.proofs.CellListLaws.{listed_items}
 use Rattle.device_answers.proofs.LinkDecisionLaws.{decide_contained}
 
 -- the first channel that has P, by its least corner
-first_channel : (P : Channel → Type 0) → ((channel : Channel) → Decided (P channel)) → (channels : List Channel) → ((channel : Channel) × IsFirstChannel P channels channel.least.x channel.least.y) ⊎ HasNoneOf P channels
+first_channel : (P : DeviceChannel → Type 0) → ((channel : DeviceChannel) → Decided (P channel)) → (channels : List DeviceChannel) → ((channel : DeviceChannel) × IsFirstChannel P channels channel.least.x channel.least.y) ⊎ HasNoneOf P channels
 first_channel P decide channels = elim (first_or_none P decide channels) [
   | inl f ↦ inl (f.1, record { place = f.0; channel = f.1; there = f.2.here; has = f.2.has; least = refl; before = f.2.before })
   | inr none ↦ inr (λ channel h. none h.0 channel (at_contained channels channel h))
 ]
 
-decide_not_sound : (channel : Channel) → Decided (IsNotSound channel)
+decide_not_sound : (channel : DeviceChannel) → Decided (IsNotSound channel)
 decide_not_sound channel = by channel.terminals
   where
     by : (o : Option Terminals) → Decided (o ≡ None)
@@ -114,7 +114,7 @@ module _ (names : List NetName) where
       (decide_both (HasSomeName names t.gate) (HasSomeName names t.first × HasSomeName names t.second) (decide_named_net t.gate)
       (decide_both (HasSomeName names t.first) (HasSomeName names t.second) (decide_named_net t.first) (decide_named_net t.second)))
 
-  decide_nameless : (channel : Channel) → Decided (IsNameless names channel)
+  decide_nameless : (channel : DeviceChannel) → Decided (IsNameless names channel)
   decide_nameless channel = by channel.terminals refl
     where
       by : (o : Option Terminals) → channel.terminals ≡ o → Decided (IsNameless names channel)
@@ -125,7 +125,7 @@ module _ (names : List NetName) where
       ]
 
   -- a sound channel whose terminals have names is a transistor
-  entry_there : (devices : List Device) (channel : Channel) → channel.device < length devices → (IsNotSound channel → ⊥) → (IsNameless names channel → ⊥) → (entry : DeviceEntry) × IsEntryOf devices names channel entry
+  entry_there : (devices : List Device) (channel : DeviceChannel) → channel.device < length devices → (IsNotSound channel → ⊥) → (IsNameless names channel → ⊥) → (entry : DeviceEntry) × IsEntryOf devices names channel entry
   entry_there devices channel inside sound named = by channel.terminals refl
     where
       entry_by : (device : Device) → slice_get devices channel.device ≡ Some device → (t : Terminals) → channel.terminals ≡ Some t → AreNamed names t → (entry : DeviceEntry) × IsEntryOf devices names channel entry
@@ -147,7 +147,7 @@ module _ (names : List NetName) where
         | inr fails ↦ absurd (named (record { terminals = t; sound = e; none = fails }))
       ]
 
-  entries_there : (devices : List Device) (channels : List Channel) → ((channel : Channel) → Contains channels channel → (entry : DeviceEntry) × IsEntryOf devices names channel entry) → (entries : List DeviceEntry) × AreEntries devices names channels entries
+  entries_there : (devices : List Device) (channels : List DeviceChannel) → ((channel : DeviceChannel) → Contains channels channel → (entry : DeviceEntry) × IsEntryOf devices names channel entry) → (entries : List DeviceEntry) × AreEntries devices names channels entries
   entries_there devices [] each = ([], record { as_many = refl; each = λ place channel entry e f. absurd cc })
   entries_there devices (c ∷ cs) each =
       let one = each c (contains_first c cs) in
@@ -155,10 +155,10 @@ module _ (names : List NetName) where
       (one.0 ∷ rest.0, record { as_many = ap suc rest.1.as_many; each = both one.0 rest.0 one.1 rest.1.each })
     where
       both : (first : DeviceEntry) (entries : List DeviceEntry) → IsEntryOf devices names c first
-          → ((place : ℕ) (channel : Channel) (entry : DeviceEntry) → slice_get cs place ≡ Some channel → slice_get entries place ≡ Some entry → IsEntryOf devices names channel entry)
-          → (place : ℕ) (channel : Channel) (entry : DeviceEntry) → slice_get (c ∷ cs) place ≡ Some channel → slice_get (first ∷ entries) place ≡ Some entry → IsEntryOf devices names channel entry
+          → ((place : ℕ) (channel : DeviceChannel) (entry : DeviceEntry) → slice_get cs place ≡ Some channel → slice_get entries place ≡ Some entry → IsEntryOf devices names channel entry)
+          → (place : ℕ) (channel : DeviceChannel) (entry : DeviceEntry) → slice_get (c ∷ cs) place ≡ Some channel → slice_get (first ∷ entries) place ≡ Some entry → IsEntryOf devices names channel entry
       both first entries is others zero channel entry e f =
-          subst (λ (x : Channel). IsEntryOf devices names x entry) (same_Some c channel e) (subst (IsEntryOf devices names c) (same_Some first entry f) is)
+          subst (λ (x : DeviceChannel). IsEntryOf devices names x entry) (same_Some c channel e) (subst (IsEntryOf devices names c) (same_Some first entry f) is)
       both first entries is others (suc place) channel entry e f = others place channel entry e f
 
 pairs_in_order : IsOrder pair_order

@@ -6,7 +6,7 @@ use Rattle.std.proofs.lemmas.Option.{same_Some, slice_get_within, slice_get-get_
 use Rattle.or_geom.specs.declared.memory.Memory.{Memory}
 use Rattle.or_geom.proofs.ListLaws.{contained_at}
 use Rattle.tech_rules.specs.declared.tech.Device.{Device}
-use Rattle.drawn_devices.specs.declared.drawn.Channel.{Channel}
+use Rattle.drawn_devices.specs.declared.drawn.DeviceChannel.{DeviceChannel}
 use Rattle.drawn_devices.specs.declared.drawn.NetName.{NetName}
 use Rattle.drawn_devices.specs.declared.drawn.Terminals.{Terminals}
 use Rattle.device_entries.specs.declared.entry.DeviceEntry.{DeviceEntry}
@@ -31,7 +31,7 @@ taken_at [] (suc k) p lt = refl
 taken_at (x ∷ xs) (suc k) zero lt = refl
 taken_at (x ∷ xs) (suc k) (suc p) lt = taken_at xs k p (omega arith)
 
-pub entry_named : (devices : List Device) (names : List NetName) (channel : Channel) (entry : DeviceEntry) → IsEntryOf devices names channel entry → IsNameless names channel → ⊥
+pub entry_named : (devices : List Device) (names : List NetName) (channel : DeviceChannel) (entry : DeviceEntry) → IsEntryOf devices names channel entry → IsNameless names channel → ⊥
 entry_named devices names channel entry of nameless =
     let same : of.terminals ≡ nameless.terminals = same_Some of.terminals nameless.terminals (sym of.sound ∙ nameless.sound) in
     nameless.none (subst (AreNamed names) same (record {
@@ -41,7 +41,7 @@ entry_named devices names channel entry of nameless =
     }))
 
 -- the entry of a channel
-pub record EntryAt (devices : List Device) (names : List NetName) (entries : List DeviceEntry) (place : ℕ) (channel : Channel) : Type 0 where
+pub record EntryAt (devices : List Device) (names : List NetName) (entries : List DeviceEntry) (place : ℕ) (channel : DeviceChannel) : Type 0 where
   pub entry : DeviceEntry
   pub there : slice_get entries place ≡ Some entry
   pub of : IsEntryOf devices names channel entry
@@ -49,20 +49,20 @@ pub record EntryAt (devices : List Device) (names : List NetName) (entries : Lis
 no_entry : DeviceEntry
 no_entry = record { model = []; gate = []; low = []; high = [] }
 
-pub each_has : (devices : List Device) (names : List NetName) (channels : List Channel) (entries : List DeviceEntry) (place : ℕ) (channel : Channel) → AreEntries devices names channels entries → slice_get channels place ≡ Some channel → EntryAt devices names entries place channel
+pub each_has : (devices : List Device) (names : List NetName) (channels : List DeviceChannel) (entries : List DeviceEntry) (place : ℕ) (channel : DeviceChannel) → AreEntries devices names channels entries → slice_get channels place ≡ Some channel → EntryAt devices names entries place channel
 each_has devices names channels entries place channel are there =
     let inside = slice_get_within channels place channel there in
     let many = are.as_many in
     let here = slice_get-get_or entries place no_entry (omega (arith, inside, many)) in
     record { entry = get_or entries place no_entry; there = here; of = are.each place channel (get_or entries place no_entry) there here }
 
-pub entries_more : (devices : List Device) (names : List NetName) (channels : List Channel) (entries : List DeviceEntry) (k : ℕ) (channel : Channel) (entry : DeviceEntry) → slice_get channels k ≡ Some channel
+pub entries_more : (devices : List Device) (names : List NetName) (channels : List DeviceChannel) (entries : List DeviceEntry) (k : ℕ) (channel : DeviceChannel) (entry : DeviceEntry) → slice_get channels k ≡ Some channel
     → AreEntries devices names (take k channels) entries → IsEntryOf devices names channel entry → AreEntries devices names (take (k + 1) channels) (entries ++ entry ∷ [])
 entries_more devices names channels entries k channel entry here so_far of =
     let inside = slice_get_within channels k channel here in
-    let longer : take (k + 1) channels ≡ take k channels ++ channel ∷ [] = take_more channels k channel inside ∙ ap (λ (c : Channel). take k channels ++ c ∷ []) (get_or_from_slice_get channels k channel channel here) in
+    let longer : take (k + 1) channels ≡ take k channels ++ channel ∷ [] = take_more channels k channel inside ∙ ap (λ (c : DeviceChannel). take k channels ++ c ∷ []) (get_or_from_slice_get channels k channel channel here) in
     let many = so_far.as_many in
-    subst (λ (l : List Channel). AreEntries devices names l (entries ++ entry ∷ [])) (sym longer) (record {
+    subst (λ (l : List DeviceChannel). AreEntries devices names l (entries ++ entry ∷ [])) (sym longer) (record {
       as_many = length-append entries (entry ∷ []) ∙ ap (λ (n : ℕ). n + 1) many ∙ sym (length-append (take k channels) (channel ∷ []));
       each = λ place c e c_there e_there. elim (snoc_at (take k channels) channel place c c_there) [
         | inl c_before ↦ elim (snoc_at entries entry place e e_there) [
@@ -71,16 +71,16 @@ entries_more devices names channels entries k channel entry here so_far of =
         ]
         | inr c_last ↦ elim (snoc_at entries entry place e e_there) [
           | inl e_before ↦ let lt = e_before.0 in let at = c_last.0 in absurd (omega (arith, lt, at, many))
-          | inr e_last ↦ subst (λ (x : Channel). IsEntryOf devices names x e) (sym c_last.1) (subst (IsEntryOf devices names channel) (sym e_last.1) of)
+          | inr e_last ↦ subst (λ (x : DeviceChannel). IsEntryOf devices names x e) (sym c_last.1) (subst (IsEntryOf devices names channel) (sym e_last.1) of)
         ]
       ];
     })
 
 -- no channel yet
-pub no_entries : (devices : List Device) (names : List NetName) (channels : List Channel) → AreEntries devices names (take 0 channels) []
+pub no_entries : (devices : List Device) (names : List NetName) (channels : List DeviceChannel) → AreEntries devices names (take 0 channels) []
 no_entries devices names channels = record { as_many = refl; each = λ place c e there _. absurd cc }
 
-pub first_nameless : (devices : List Device) (names : List NetName) (channels : List Channel) (entries : List DeviceEntry) (k : ℕ) (channel : Channel) → slice_get channels k ≡ Some channel
+pub first_nameless : (devices : List Device) (names : List NetName) (channels : List DeviceChannel) (entries : List DeviceEntry) (k : ℕ) (channel : DeviceChannel) → slice_get channels k ≡ Some channel
     → AreEntries devices names (take k channels) entries → IsNameless names channel → IsFirstChannel (IsNameless names) channels channel.least.x channel.least.y
 first_nameless devices names channels entries k channel here so_far nameless = record {
   place = k;
@@ -97,7 +97,7 @@ first_nameless devices names channels entries k channel here so_far nameless = r
 pub place_of : {X : Type 0} (xs : List X) (x : X) → (there : Contains xs x) → slice_get xs there.0 ≡ Some x
 place_of xs x there = slice_get-get_or xs there.0 x there.1 ∙ ap Some there.2
 
-pub none_nameless : (devices : List Device) (names : List NetName) (channels : List Channel) (entries : List DeviceEntry) → AreEntries devices names channels entries → HasNoneOf (IsNameless names) channels
+pub none_nameless : (devices : List Device) (names : List NetName) (channels : List DeviceChannel) (entries : List DeviceEntry) → AreEntries devices names channels entries → HasNoneOf (IsNameless names) channels
 none_nameless devices names channels entries are = λ channel there.
     let e = each_has devices names channels entries there.0 channel are (place_of channels channel there) in
     entry_named devices names channel e.entry e.of
@@ -113,7 +113,7 @@ named_moved names others terminals same named = record {
   second = (named.second.0, (same _).0 named.second.1);
 }
 
-nameless_moved : (names others : List NetName) (channel : Channel) → AreSameNames names others → IsNameless others channel → IsNameless names channel
+nameless_moved : (names others : List NetName) (channel : DeviceChannel) → AreSameNames names others → IsNameless others channel → IsNameless names channel
 nameless_moved names others channel same nameless = record {
   terminals = nameless.terminals;
   sound = nameless.sound;
@@ -123,7 +123,7 @@ nameless_moved names others channel same nameless = record {
 back : (names others : List NetName) → AreSameNames names others → AreSameNames others names
 back names others same = λ name. ((same name).1, (same name).0)
 
-entry_moved : (devices : List Device) (names others : List NetName) (channel : Channel) (entry : DeviceEntry) → AreSameNames names others → IsEntryOf devices others channel entry → IsEntryOf devices names channel entry
+entry_moved : (devices : List Device) (names others : List NetName) (channel : DeviceChannel) (entry : DeviceEntry) → AreSameNames names others → IsEntryOf devices others channel entry → IsEntryOf devices names channel entry
 entry_moved devices names others channel entry same of = record {
   device = of.device;
   there = of.there;
@@ -140,7 +140,7 @@ entry_moved devices names others channel entry same of = record {
   };
 }
 
-pub read_moved : (devices : List Device) (names others : List NetName) (channels : List Channel) (read : ChannelEntries) → AreSameNames names others → AreReadAs devices others channels read → AreReadAs devices names channels read
+pub read_moved : (devices : List Device) (names others : List NetName) (channels : List DeviceChannel) (read : ChannelEntries) → AreSameNames names others → AreReadAs devices others channels read → AreReadAs devices names channels read
 read_moved devices names others channels (All entries) same are = (
   λ channel there nameless. are.0 channel there (nameless_moved others names channel (back names others same) nameless),
   record { as_many = are.1.as_many; each = λ place c e a b. entry_moved devices names others c e same (are.1.each place c e a b) },
@@ -155,9 +155,9 @@ read_moved devices names others channels (Nameless least) same first = record {
 }
 
 -- the channel at a place of the list
-pub contained_channel : (channels : List Channel) (k : ℕ) (d : Channel) → k < length channels → Contains channels (get_or channels k d)
+pub contained_channel : (channels : List DeviceChannel) (k : ℕ) (d : DeviceChannel) → k < length channels → Contains channels (get_or channels k d)
 contained_channel channels k d inside = contained_at channels k (get_or channels k d) (slice_get-get_or channels k d inside)
 
-pub ok_moved : (devices : List Device) (names others : List NetName) (channels : List Channel) (result : Result ChannelEntries Memory) → AreSameNames names others → IfOk result (AreReadAs devices others channels) → IfOk result (AreReadAs devices names channels)
+pub ok_moved : (devices : List Device) (names others : List NetName) (channels : List DeviceChannel) (result : Result ChannelEntries Memory) → AreSameNames names others → IfOk result (AreReadAs devices others channels) → IfOk result (AreReadAs devices names channels)
 ok_moved devices names others channels (Ok read) same are = read_moved devices names others channels read same are
 ok_moved devices names others channels (Err e) same are = tt

@@ -8,7 +8,7 @@ use Rattle.or_geom.specs.Least.{IsLeast}
 use Rattle.or_geom.proofs.ListLaws.{contained_at, one_at}
 use Rattle.element_drawing.specs.PlainLabel.{PlainLabel}
 use Rattle.tech_rules.specs.declared.tech.Tech.{Tech}
-use Rattle.drawn_devices.specs.declared.drawn.Channel.{Channel}
+use Rattle.drawn_devices.specs.declared.drawn.DeviceChannel.{DeviceChannel}
 use Rattle.drawn_devices.specs.declared.drawn.DrawnDevices.{DrawnDevices}
 use Rattle.drawn_devices.specs.Drawn.{AreDrawnDevices}
 use Rattle.device_entries.specs.declared.entry.DeviceEntry.{DeviceEntry}
@@ -23,23 +23,23 @@ use Rattle.device_lvs.proofs.TerminalLaws.{split_moved, share_moved}
 use Rattle.device_lvs.proofs.OneWayLaws.{ChannelMoved, ChannelThere, channel_there}
 
 -- a channel to look up at
-no_channel : Channel
+no_channel : DeviceChannel
 no_channel = record { device = 0; least = record { x = pos 0; y = pos 0 }; terminals = None }
 
 module _ (tech : Tech) (shapes : List Shape) (labels : List PlainLabel) (role : List ℕ) (listed : List DeviceEntry) (d e : DrawnDevices) (a : AreDrawnDevices tech shapes labels d) (b : AreDrawnDevices tech shapes labels e) where
   -- the channel at a place, by the other reading
-  to : (place : ℕ) (c : Channel) → slice_get d.channels place ≡ Some c → ChannelThere tech shapes labels d e place c
+  to : (place : ℕ) (c : DeviceChannel) → slice_get d.channels place ≡ Some c → ChannelThere tech shapes labels d e place c
   to = channel_there tech shapes labels d e a b
 
-  from : (place : ℕ) (c : Channel) → slice_get e.channels place ≡ Some c → ChannelThere tech shapes labels e d place c
+  from : (place : ℕ) (c : DeviceChannel) → slice_get e.channels place ≡ Some c → ChannelThere tech shapes labels e d place c
   from = channel_there tech shapes labels e d b a
 
-  none_moved : (P Q : Channel → Type 0) → ((c f : Channel) → ChannelMoved tech shapes labels e d c f → Q c → P f) → HasNoneOf P d.channels → HasNoneOf Q e.channels
+  none_moved : (P Q : DeviceChannel → Type 0) → ((c f : DeviceChannel) → ChannelMoved tech shapes labels e d c f → Q c → P f) → HasNoneOf P d.channels → HasNoneOf Q e.channels
   none_moved P Q back none = λ c there has.
       let f = from there.0 c (place_of e.channels c there) in
       none f.channel (contained_at d.channels there.0 f.channel f.there) (back c f.channel f.moved has)
 
-  first_moved : (P Q : Channel → Type 0) (x y : ℤ) → ((c f : Channel) → ChannelMoved tech shapes labels d e c f → P c → Q f) → ((c f : Channel) → ChannelMoved tech shapes labels e d c f → Q c → P f) → IsFirstChannel P d.channels x y → IsFirstChannel Q e.channels x y
+  first_moved : (P Q : DeviceChannel → Type 0) (x y : ℤ) → ((c f : DeviceChannel) → ChannelMoved tech shapes labels d e c f → P c → Q f) → ((c f : DeviceChannel) → ChannelMoved tech shapes labels e d c f → Q c → P f) → IsFirstChannel P d.channels x y → IsFirstChannel Q e.channels x y
   first_moved P Q x y there back first =
       let f = to first.place first.channel first.there in
       record {
@@ -91,7 +91,7 @@ module _ (tech : Tech) (shapes : List Shape) (labels : List PlainLabel) (role : 
         each = λ place c entry at one.
             let f = from place c at in
             let g = to place f.channel f.there in
-            subst (λ (x : Channel). IsEntryOf tech.devices e.names x entry) (one_at e.channels place g.channel c g.there at) (g.moved.entry entry (are.each place f.channel entry f.there one));
+            subst (λ (x : DeviceChannel). IsEntryOf tech.devices e.names x entry) (one_at e.channels place g.channel c g.there at) (g.moved.entry entry (are.each place f.channel entry f.there one));
       }
 
   abbrev pub one : CellPair

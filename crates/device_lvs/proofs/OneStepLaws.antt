@@ -16,7 +16,7 @@ use Rattle.or_geom.proofs.LeastLaws.{neither_after, least_is_one}
 use Rattle.or_geom.proofs.ListLaws.{contained_at, one_at}
 use Rattle.tech_rules.specs.declared.tech.Device.{Device}
 use Rattle.spice_text.specs.Words.{lower}
-use Rattle.drawn_devices.specs.declared.drawn.Channel.{Channel}
+use Rattle.drawn_devices.specs.declared.drawn.DeviceChannel.{DeviceChannel}
 use Rattle.drawn_devices.specs.declared.drawn.NetName.{NetName}
 use Rattle.drawn_devices.specs.declared.drawn.Terminals.{Terminals}
 use Rattle.device_entries.specs.declared.entry.DeviceEntry.{DeviceEntry}
@@ -48,7 +48,7 @@ stop_at_one A P B one never more x y (inr a) (inl b) = absurd (never y b a.0)
 stop_at_one A P B one never more x y (inr a) (inr b) = more a.0 x y a.1 b.1
 
 -- the first that has P is one
-first_is_one : (P : Channel → Type 0) (channels : List Channel) (x y z w : ℤ) → IsFirstChannel P channels x y → IsFirstChannel P channels z w → (x ≡ z) × (y ≡ w)
+first_is_one : (P : DeviceChannel → Type 0) (channels : List DeviceChannel) (x y z w : ℤ) → IsFirstChannel P channels x y → IsFirstChannel P channels z w → (x ≡ z) × (y ≡ w)
 first_is_one P channels x y z w p q =
     let same : p.place ≡ q.place = elim (cases_lt p.place q.place) [
       | inl lt ↦ absurd (q.before p.place p.channel lt p.there p.has)
@@ -58,10 +58,10 @@ first_is_one P channels x y z w p q =
       ]
     ] in
     let one : p.channel ≡ q.channel = one_at channels q.place p.channel q.channel (subst (λ (k : ℕ). slice_get channels k ≡ Some p.channel) same p.there) q.there in
-    let least : record { x = x; y = y } ≡ record { x = z; y = w } = sym p.least ∙ ap (λ (c : Channel). c.least) one ∙ q.least in
+    let least : record { x = x; y = y } ≡ record { x = z; y = w } = sym p.least ∙ ap (λ (c : DeviceChannel). c.least) one ∙ q.least in
     (ap (λ (r : Point). r.x) least, ap (λ (r : Point). r.y) least)
 
-first_or_none : (P : Channel → Type 0) (channels : List Channel) (x y : ℤ) → IsFirstChannel P channels x y → HasNoneOf P channels → ⊥
+first_or_none : (P : DeviceChannel → Type 0) (channels : List DeviceChannel) (x y : ℤ) → IsFirstChannel P channels x y → HasNoneOf P channels → ⊥
 first_or_none P channels x y first none = none first.channel (contained_at channels first.place first.channel first.there) first.has
 
 both_equal : (o p : Ordering) → ordering_then o p ≡ Equal → (o ≡ Equal) × (p ≡ Equal)
@@ -88,7 +88,7 @@ name_is_one names net a b apart x y = by (name_order a b) refl where
       let less : name_order b a ≡ Less = nat_list_cmp_total.antisymm b a ∙ ap ordering_reverse is in
       absurd (apart b a (record { net = net; has = y; other_has = x; rise = less }))
 
-entry_is_one : (devices : List Device) (names : List NetName) (channel : Channel) (e f : DeviceEntry) → AreNotJoined names → IsEntryOf devices names channel e → IsEntryOf devices names channel f → e ≡ f
+entry_is_one : (devices : List Device) (names : List NetName) (channel : DeviceChannel) (e f : DeviceEntry) → AreNotJoined names → IsEntryOf devices names channel e → IsEntryOf devices names channel f → e ≡ f
 entry_is_one devices names channel e f apart x y =
     let device : x.device ≡ y.device = same_Some x.device y.device (sym x.there ∙ y.there) in
     let t : x.terminals ≡ y.terminals = same_Some x.terminals y.terminals (sym x.sound ∙ y.sound) in
@@ -102,10 +102,10 @@ entry_is_one devices names channel e f apart x y =
 no_entry : DeviceEntry
 no_entry = record { model = []; gate = []; low = []; high = [] }
 
-no_channel : Channel
+no_channel : DeviceChannel
 no_channel = record { device = 0; least = record { x = pos 0; y = pos 0 }; terminals = None }
 
-entries_are_one : (devices : List Device) (names : List NetName) (channels : List Channel) (es fs : List DeviceEntry) → AreNotJoined names → AreEntries devices names channels es → AreEntries devices names channels fs → es ≡ fs
+entries_are_one : (devices : List Device) (names : List NetName) (channels : List DeviceChannel) (es fs : List DeviceEntry) → AreNotJoined names → AreEntries devices names channels es → AreEntries devices names channels fs → es ≡ fs
 entries_are_one devices names channels es fs apart x y =
     let long = x.as_many in
     let long_too = y.as_many in

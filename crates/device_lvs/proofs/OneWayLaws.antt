@@ -16,11 +16,11 @@ use Rattle.element_drawing.specs.PlainLabel.{PlainLabel}
 use Rattle.tech_rules.specs.declared.tech.Device.{Device}
 use Rattle.tech_rules.specs.declared.tech.Tech.{Tech}
 use Rattle.cell_hierarchy.specs.FlatLists.{point_order}
-use Rattle.drawn_devices.specs.declared.drawn.Channel.{Channel}
+use Rattle.drawn_devices.specs.declared.drawn.DeviceChannel.{DeviceChannel}
 use Rattle.drawn_devices.specs.declared.drawn.DrawnDevices.{DrawnDevices}
 use Rattle.drawn_devices.specs.declared.drawn.Terminals.{Terminals}
 use Rattle.drawn_devices.specs.Channels.{IsChannelCell}
-use Rattle.drawn_devices.specs.Drawn.{TerminalsAre, IsDrawnChannel, AreDrawnDevices}
+use Rattle.drawn_devices.specs.Drawn.{TerminalsAre, IsListedChannel, AreDrawnDevices}
 use Rattle.device_entries.specs.declared.entry.DeviceEntry.{DeviceEntry}
 use Rattle.device_lvs.specs.ChannelEntries.{IsNotSound, IsNameless, IsEntryOf}
 use Rattle.device_lvs.proofs.EntryLaws.{place_of}
@@ -41,7 +41,7 @@ record ChannelKey : Type 0 where
   device : ℕ
   least : Point
 
-abbrev key_of : Channel → ChannelKey
+abbrev key_of : DeviceChannel → ChannelKey
 key_of channel = record { device = channel.device; least = channel.least }
 
 abbrev key_order : ChannelKey → ChannelKey → Ordering
@@ -53,14 +53,14 @@ key_total =
     (then_total (on_total (λ (k : ChannelKey). k.least.x) int_cmp_total) (on_total (λ (k : ChannelKey). k.least.y) int_cmp_total))
 
 -- what stands in the image of a list
-record ImageOf (channels : List Channel) (key : ChannelKey) : Type 0 where
-  channel : Channel
+record ImageOf (channels : List DeviceChannel) (key : ChannelKey) : Type 0 where
+  channel : DeviceChannel
   there : Contains channels channel
   is : key ≡ key_of channel
 
-image_of : (channels : List Channel) (key : ChannelKey) → Contains (map key_of channels) key → ImageOf channels key
+image_of : (channels : List DeviceChannel) (key : ChannelKey) → Contains (map key_of channels) key → ImageOf channels key
 image_of channels key there = by (slice_get channels there.0) refl where
-  by : (o : Option Channel) → slice_get channels there.0 ≡ o → ImageOf channels key
+  by : (o : Option DeviceChannel) → slice_get channels there.0 ≡ o → ImageOf channels key
   by (Some channel) is = record { channel = channel; there = contained_at channels there.0 channel is; is = same_Some key (key_of channel) (sym (place_of (map key_of channels) key there) ∙ slice_get-map key_of channels there.0 ∙ ap (option_map key_of) is) }
   by None is = let clash : Some key ≡ None = sym (place_of (map key_of channels) key there) ∙ slice_get-map key_of channels there.0 ∙ ap (option_map key_of) is in absurd cc
 
@@ -80,7 +80,7 @@ module _ (tech : Tech) (shapes : List Shape) (labels : List PlainLabel) where
       (record { there = keys_within d e a b; back = keys_within e d b a })
 
   -- what holds of a channel by the one reading holds of it by the other
-  pub record ChannelMoved (d e : DrawnDevices) (c f : Channel) : Type 0 where
+  pub record ChannelMoved (d e : DrawnDevices) (c f : DeviceChannel) : Type 0 where
     pub device : f.device ≡ c.device
     pub least : f.least ≡ c.least
     pub unsound : IsNotSound c → IsNotSound f
@@ -111,8 +111,8 @@ module _ (tech : Tech) (shapes : List Shape) (labels : List PlainLabel) where
   }
 
   -- one channel by two readings
-  channel_moved : (d e : DrawnDevices) (a : AreDrawnDevices tech shapes labels d) (b : AreDrawnDevices tech shapes labels e) (c f : Channel)
-      → IsDrawnChannel tech shapes a.number c → IsDrawnChannel tech shapes b.number f → f.device ≡ c.device → f.least ≡ c.least → ChannelMoved d e c f
+  channel_moved : (d e : DrawnDevices) (a : AreDrawnDevices tech shapes labels d) (b : AreDrawnDevices tech shapes labels e) (c f : DeviceChannel)
+      → IsListedChannel tech shapes a.number c → IsListedChannel tech shapes b.number f → f.device ≡ c.device → f.least ≡ c.least → ChannelMoved d e c f
   channel_moved d e a b c f of_c of_f same_device same_least =
       let one_device : of_f.device ≡ of_c.device = same_Some of_f.device of_c.device (sym of_f.there ∙ ap (slice_get tech.devices) same_device ∙ of_c.there) in
       let r : TerminalsAre tech shapes b.number of_c.device c.least f.terminals =
@@ -155,17 +155,17 @@ module _ (tech : Tech) (shapes : List Shape) (labels : List PlainLabel) where
       }
 
   -- the channel at a place of the other reading
-  pub record ChannelThere (d e : DrawnDevices) (place : ℕ) (c : Channel) : Type 0 where
-    pub channel : Channel
+  pub record ChannelThere (d e : DrawnDevices) (place : ℕ) (c : DeviceChannel) : Type 0 where
+    pub channel : DeviceChannel
     pub there : slice_get e.channels place ≡ Some channel
     pub moved : ChannelMoved d e c channel
 
-  pub channel_there : (d e : DrawnDevices) → AreDrawnDevices tech shapes labels d → AreDrawnDevices tech shapes labels e → (place : ℕ) (c : Channel) → slice_get d.channels place ≡ Some c → ChannelThere d e place c
+  pub channel_there : (d e : DrawnDevices) → AreDrawnDevices tech shapes labels d → AreDrawnDevices tech shapes labels e → (place : ℕ) (c : DeviceChannel) → slice_get d.channels place ≡ Some c → ChannelThere d e place c
   channel_there d e a b place c there = by (slice_get e.channels place) refl where
     keyed : option_map key_of (slice_get e.channels place) ≡ Some (key_of c)
     keyed = sym (slice_get-map key_of e.channels place) ∙ ap (λ (l : List ChannelKey). slice_get l place) (sym (same_keys d e a b)) ∙ slice_get-map key_of d.channels place ∙ ap (option_map key_of) there
 
-    by : (o : Option Channel) → slice_get e.channels place ≡ o → ChannelThere d e place c
+    by : (o : Option DeviceChannel) → slice_get e.channels place ≡ o → ChannelThere d e place c
     by None is = let clash : None ≡ Some (key_of c) = sym (ap (option_map key_of) is) ∙ keyed in absurd cc
     by (Some f) is =
         let same : key_of f ≡ key_of c = same_Some (key_of f) (key_of c) (sym (ap (option_map key_of) is) ∙ keyed) in

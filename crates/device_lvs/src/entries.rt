@@ -6,7 +6,7 @@ ghost use Rattle.device_lvs.specs.Lookup.{table_names, IsSearchable};
 
 use crate::lookup::{NameTable, table_of};
 use device_entries::{DeviceEntry, entry_of};
-use drawn_devices::{Channel, DrawnDevices, Terminals};
+use drawn_devices::{DeviceChannel, DrawnDevices, Terminals};
 use or_geom::{Items, Memory, Point};
 use std::alloc::Global;
 use tech_rules::Device;
@@ -19,7 +19,7 @@ pub enum ChannelEntries {
 }
 
 /// The first channel that isn't sound, by its least corner.
-pub fn first_unsound(channels: &[Channel]) -> Option<Point>
+pub fn first_unsound(channels: &[DeviceChannel]) -> Option<Point>
     ensures { MatchOption result (HasNoneOf IsNotSound channels.now)
         (λ p. IsFirstChannel IsNotSound channels.now p.x p.y) }
 {
@@ -60,7 +60,7 @@ fn read_channel(
     alloc: Global,
     table: &NameTable,
     devices: &[Device],
-    channel: &Channel,
+    channel: &DeviceChannel,
 ) -> Result<Option<DeviceEntry>, Memory>
     requires search { IsSearchable table.now }
     requires sound { channel.now.terminals ≢ None }
@@ -84,7 +84,7 @@ fn read_channels(
     alloc: Global,
     table: &NameTable,
     devices: &[Device],
-    channels: &[Channel],
+    channels: &[DeviceChannel],
 ) -> Result<ChannelEntries, Memory>
     requires search { IsSearchable table.now }
     requires sound { HasNoneOf IsNotSound channels.now }

@@ -20,12 +20,12 @@ use Rattle.element_drawing.specs.PlainLabel.{PlainLabel}
 use Rattle.tech_rules.specs.declared.tech.Device.{Device}
 use Rattle.tech_rules.specs.declared.tech.Tech.{Tech}
 use Rattle.drawn_devices.specs.declared.cut_cell.CutCell.{CutCell}
-use Rattle.drawn_devices.specs.declared.drawn.Channel.{Channel}
+use Rattle.drawn_devices.specs.declared.drawn.DeviceChannel.{DeviceChannel}
 use Rattle.drawn_devices.specs.declared.drawn.DrawnDevices.{DrawnDevices}
 use Rattle.drawn_devices.specs.ChannelBoxes.{AreChannelGroups, low_cell}
 use Rattle.drawn_devices.specs.Channels.{ChannelOf, IsLeastCell}
 use Rattle.drawn_devices.specs.CutCell.{IsCutCell}
-use Rattle.drawn_devices.specs.Drawn.{AreDrawnDevices, IsListed, channel_order}
+use Rattle.drawn_devices.specs.Drawn.{AreDrawnDevices, HasChannelAt, channel_order}
 use Rattle.drawn_devices.specs.DrawnChannels.{IsDrawnIn, IsChannelOf, AreFirstChannels}
 use Rattle.drawn_devices.specs.Nets.{Member}
 use Rattle.drawn_devices.specs.Numbers.{AreNumbersIn}
@@ -49,10 +49,10 @@ nat_less x y Less is lt = refl
 nat_less x y Equal is lt = let e : x ≡ y = ranked x y Equal (sym is) in absurd (omega (arith, lt, e))
 nat_less x y Greater is lt = let gt : y < x = ranked x y Greater (sym is) in absurd (omega (arith, lt, gt))
 
-pub by_device : (a b : Channel) → a.device < b.device → channel_order a b ≡ Less
+pub by_device : (a b : DeviceChannel) → a.device < b.device → channel_order a b ≡ Less
 by_device a b lt = subst (λ (o : Ordering). ordering_then o (point_order a.least b.least) ≡ Less) (sym (nat_less a.device b.device (nat_cmp a.device b.device) refl lt)) refl
 
-pub by_least : (a b : Channel) → a.device ≡ b.device → point_order a.least b.least ≡ Less → channel_order a b ≡ Less
+pub by_least : (a b : DeviceChannel) → a.device ≡ b.device → point_order a.least b.least ≡ Less → channel_order a b ≡ Less
 by_least a b same less =
     let tied : nat_cmp a.device b.device ≡ Equal = subst (λ (k : ℕ). nat_cmp a.device k ≡ Equal) same (tied_itself nat_cmp_total a.device) in
     subst (λ (o : Ordering). ordering_then o (point_order a.least b.least) ≡ Less) (sym tied) less
@@ -71,7 +71,7 @@ one_cell p q up down =
     ]
 
 -- the channel is that of one of the first groups
-pub record IsOfGroup (index : ℕ) (groups : List (List Rect)) (count : ℕ) (channel : Channel) : Type 0 where
+pub record IsOfGroup (index : ℕ) (groups : List (List Rect)) (count : ℕ) (channel : DeviceChannel) : Type 0 where
   pub of : channel.device ≡ index
   pub group : ℕ
   pub below : group < count
@@ -83,14 +83,14 @@ pub record IsOfGroup (index : ℕ) (groups : List (List Rect)) (count : ℕ) (ch
   pub least : channel.least ≡ low_cell first
 
 -- the channels of earlier devices and those of this one's first groups
-pub record AreChannelsTo (cell : CutCell) (index : ℕ) (groups : List (List Rect)) (count : ℕ) (channels : List Channel) : Type 0 where
+pub record AreChannelsTo (cell : CutCell) (index : ℕ) (groups : List (List Rect)) (count : ℕ) (channels : List DeviceChannel) : Type 0 where
   pub rise : IsStrictlySortedBy channel_order channels
-  pub order : (channel : Channel) → Contains channels channel → (channel.device < index) ⊎ IsOfGroup index groups count channel
-  pub drawn : (number : Member → ℕ) → AreNumbersIn cell number → (channel : Channel) → Contains channels channel → IsDrawnIn cell number channel
-  pub all : (i : ℕ) (device : Device) (least : Point) → i < index → slice_get cell.tech.now.devices i ≡ Some device → IsLeastCell cell.shapes.now device least → IsListed channels i least
-  pub here : (k : ℕ) (boxes rest : List Rect) (first : Rect) → k < count → slice_get groups k ≡ Some boxes → boxes ≡ first ∷ rest → IsListed channels index (low_cell first)
+  pub order : (channel : DeviceChannel) → Contains channels channel → (channel.device < index) ⊎ IsOfGroup index groups count channel
+  pub drawn : (number : Member → ℕ) → AreNumbersIn cell number → (channel : DeviceChannel) → Contains channels channel → IsDrawnIn cell number channel
+  pub all : (i : ℕ) (device : Device) (least : Point) → i < index → slice_get cell.tech.now.devices i ≡ Some device → IsLeastCell cell.shapes.now device least → HasChannelAt channels i least
+  pub here : (k : ℕ) (boxes rest : List Rect) (first : Rect) → k < count → slice_get groups k ≡ Some boxes → boxes ≡ first ∷ rest → HasChannelAt channels index (low_cell first)
 
-pub channels_begin : (cell : CutCell) (index : ℕ) (groups : List (List Rect)) (channels : List Channel) → IsCutCell cell → AreFirstChannels cell index channels → AreChannelsTo cell index groups 0 channels
+pub channels_begin : (cell : CutCell) (index : ℕ) (groups : List (List Rect)) (channels : List DeviceChannel) → IsCutCell cell → AreFirstChannels cell index channels → AreChannelsTo cell index groups 0 channels
 channels_begin cell index groups channels cut a = record {
   rise = a.rise;
   order = λ channel h. inl (a.each (number_in cell.bins cell.nets) (cell_numbers cell cut) channel h).0;
@@ -99,10 +99,10 @@ channels_begin cell index groups channels cut a = record {
   here = λ k boxes rest first lt at begins. absurd (omega (arith, lt));
 }
 
-longer : (index : ℕ) (groups : List (List Rect)) (count : ℕ) (channel : Channel) → IsOfGroup index groups count channel → IsOfGroup index groups (count + 1) channel
+longer : (index : ℕ) (groups : List (List Rect)) (count : ℕ) (channel : DeviceChannel) → IsOfGroup index groups count channel → IsOfGroup index groups (count + 1) channel
 longer index groups count channel o = let lt = o.below in record { of = o.of; group = o.group; below = omega (arith, lt); boxes = o.boxes; at = o.at; first = o.first; rest = o.rest; begins = o.begins; least = o.least }
 
-still_listed : (channels : List Channel) (channel : Channel) (device : ℕ) (least : Point) → IsListed channels device least → IsListed (channels ++ channel ∷ []) device least
+still_listed : (channels : List DeviceChannel) (channel : DeviceChannel) (device : ℕ) (least : Point) → HasChannelAt channels device least → HasChannelAt (channels ++ channel ∷ []) device least
 still_listed channels channel device least l = record { channel = l.channel; listed = Contains-append_left channels (channel ∷ []) l.channel l.listed; of = l.of; at = l.at }
 
 head_is : (xs : List Rect) (x y : Rect) (rest others : List Rect) → xs ≡ x ∷ rest → xs ≡ y ∷ others → x ≡ y
@@ -110,7 +110,7 @@ head_is xs x y rest others one two = let e : x ∷ rest ≡ y ∷ others = sym o
 
 module _ (cell : CutCell) (index : ℕ) (device : Device) (groups : List (List Rect)) (are : AreChannelGroups cell.shapes.now device groups) where
   -- the channel of the next group stands behind all earlier ones
-  behind_all : (count : ℕ) (boxes rest : List Rect) (first : Rect) (channels : List Channel) (channel other : Channel) → AreChannelsTo cell index groups count channels → slice_get groups count ≡ Some boxes → boxes ≡ first ∷ rest
+  behind_all : (count : ℕ) (boxes rest : List Rect) (first : Rect) (channels : List DeviceChannel) (channel other : DeviceChannel) → AreChannelsTo cell index groups count channels → slice_get groups count ≡ Some boxes → boxes ≡ first ∷ rest
       → channel.device ≡ index → channel.least ≡ low_cell first → Contains channels other → channel_order other channel ≡ Less
   behind_all count boxes rest first channels channel other a at begins of least h = elim (a.order other h) [
     | inl earlier ↦ by_device other channel (omega (arith, earlier, of))
@@ -119,7 +119,7 @@ module _ (cell : CutCell) (index : ℕ) (device : Device) (groups : List (List R
         by_least other channel (o.of ∙ sym of) (subst (λ (p : Point). point_order p channel.least ≡ Less) (sym o.least) (subst (λ (p : Point). point_order (low_cell o.first) p ≡ Less) (sym least) less))
   ]
 
-  pub channels_more : (count : ℕ) (boxes rest : List Rect) (first : Rect) (channels more : List Channel) (channel : Channel) → slice_get groups count ≡ Some boxes → boxes ≡ first ∷ rest → more ≡ channels ++ channel ∷ [] → channel.device ≡ index
+  pub channels_more : (count : ℕ) (boxes rest : List Rect) (first : Rect) (channels more : List DeviceChannel) (channel : DeviceChannel) → slice_get groups count ≡ Some boxes → boxes ≡ first ∷ rest → more ≡ channels ++ channel ∷ [] → channel.device ≡ index
       → channel.least ≡ low_cell first → ((number : Member → ℕ) → AreNumbersIn cell number → IsDrawnIn cell number channel) → AreChannelsTo cell index groups count channels → AreChannelsTo cell index groups (count + 1) more
   channels_more count boxes rest first channels more channel at begins grown of least drawn a = subst (AreChannelsTo cell index groups (count + 1)) (sym grown) (record {
     rise = sorted_push channel_order channels channel a.rise (λ other h. behind_all count boxes rest first channels channel other a at begins of least h);
@@ -142,14 +142,14 @@ module _ (cell : CutCell) (index : ℕ) (device : Device) (groups : List (List R
   })
 
   -- the channel of the next group
-  pub channels_next : (count : ℕ) (boxes : List Rect) (channels more : List Channel) (channel : Channel) → slice_get groups count ≡ Some boxes → more ≡ channels ++ channel ∷ [] → IsChannelOf cell index boxes channel
+  pub channels_next : (count : ℕ) (boxes : List Rect) (channels more : List DeviceChannel) (channel : DeviceChannel) → slice_get groups count ≡ Some boxes → more ≡ channels ++ channel ∷ [] → IsChannelOf cell index boxes channel
       → AreChannelsTo cell index groups count channels → AreChannelsTo cell index groups (count + 1) more
   channels_next count boxes channels more channel at grown of a =
       let b = are.each count boxes at in
       let same : of.first ≡ b.first = same_Some of.first b.first (sym of.begins ∙ ap (λ (l : List Rect). slice_get l 0) b.is) in
       channels_more count boxes b.rest b.first channels more channel at b.is grown of.device (of.least ∙ ap low_cell same) of.drawn a
 
-  pub channels_end : (count : ℕ) (channels : List Channel) → slice_get cell.tech.now.devices index ≡ Some device → length groups ≤ count → AreChannelsTo cell index groups count channels → AreFirstChannels cell (index + 1) channels
+  pub channels_end : (count : ℕ) (channels : List DeviceChannel) → slice_get cell.tech.now.devices index ≡ Some device → length groups ≤ count → AreChannelsTo cell index groups count channels → AreFirstChannels cell (index + 1) channels
   channels_end count channels there le a = record {
     rise = a.rise;
     each = λ number numbers channel h. (elim (a.order channel h) [ inl below ↦ omega (arith, below) | inr o ↦ let e = o.of in omega (arith, e) ], a.drawn number numbers channel h);
@@ -169,7 +169,7 @@ module _ (cell : CutCell) (index : ℕ) (device : Device) (groups : List (List R
     ];
   }
 
-pub no_channels : (cell : CutCell) (channels : List Channel) → channels ≡ [] → AreFirstChannels cell 0 channels
+pub no_channels : (cell : CutCell) (channels : List DeviceChannel) → channels ≡ [] → AreFirstChannels cell 0 channels
 unfolding IsStrictlySortedBy
 no_channels cell channels none = subst (AreFirstChannels cell 0) (sym none) (record {
   rise = tt;

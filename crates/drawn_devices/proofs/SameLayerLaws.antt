@@ -19,14 +19,14 @@ use Rattle.tech_rules.specs.declared.tech.Device.{Device}
 use Rattle.tech_rules.specs.declared.tech.Tech.{Tech}
 use Rattle.tech_rules.proofs.LinkedLaws.{linked_map}
 use Rattle.drawn_devices.specs.declared.cut_cell.CutCell.{CutCell}
-use Rattle.drawn_devices.specs.declared.drawn.Channel.{Channel}
+use Rattle.drawn_devices.specs.declared.drawn.DeviceChannel.{DeviceChannel}
 use Rattle.drawn_devices.specs.declared.drawn.Flow.{Flow}
 use Rattle.drawn_devices.specs.declared.drawn.Terminals.{Terminals}
 use Rattle.drawn_devices.specs.Cells.{LiesOn, ShareSide}
 use Rattle.drawn_devices.specs.Channels.{IsChannelCell, ChannelOf, IsLeastCell}
 use Rattle.drawn_devices.specs.CutCell.{IsCutCell}
 use Rattle.drawn_devices.specs.Diffusion.{IsActive}
-use Rattle.drawn_devices.specs.Drawn.{TerminalsAre, IsNumberAlong, IsListed, channel_order}
+use Rattle.drawn_devices.specs.Drawn.{TerminalsAre, IsNumberAlong, HasChannelAt, channel_order}
 use Rattle.drawn_devices.specs.DrawnChannels.{IsDrawnIn, AreFirstChannels}
 use Rattle.drawn_devices.specs.Nets.{Member}
 use Rattle.drawn_devices.specs.Numbers.{AreNumbersIn}
@@ -86,7 +86,7 @@ terminals_same tech shapes number d e same least (Some terminals) are = record {
 }
 
 -- a channel of the earlier device, as one of the other
-drawn_same : (cell : CutCell) (index earlier : ℕ) → IsAlikeBefore cell.tech.now.devices index earlier → (number : Member → ℕ) (channel : Channel) → channel.device ≡ earlier → IsDrawnIn cell number channel → IsDrawnIn cell number (with_device index channel)
+drawn_same : (cell : CutCell) (index earlier : ℕ) → IsAlikeBefore cell.tech.now.devices index earlier → (number : Member → ℕ) (channel : DeviceChannel) → channel.device ≡ earlier → IsDrawnIn cell number channel → IsDrawnIn cell number (with_device index channel)
 drawn_same cell index earlier alike number channel of drawn =
     let tech = cell.tech.now in
     let shapes = cell.shapes.now in
@@ -101,26 +101,26 @@ drawn_same cell index earlier alike number channel of drawn =
       terminals = terminals_same tech shapes number alike.other alike.device alike.same channel.least channel.terminals terminals;
     }
 
-least_rises : (a b : Channel) → a.device ≡ b.device → channel_order a b ≡ Less → point_order a.least b.least ≡ Less
+least_rises : (a b : DeviceChannel) → a.device ≡ b.device → channel_order a b ≡ Less → point_order a.least b.least ≡ Less
 least_rises a b same less =
     let tied : nat_cmp a.device b.device ≡ Equal = subst (λ (k : ℕ). nat_cmp a.device k ≡ Equal) same (tied_itself nat_cmp_total a.device) in
     subst (λ (o : Ordering). ordering_then o (point_order a.least b.least) ≡ Less) tied less
 
 -- the channels of the first devices, and those of the earlier device as far as the rest, as channels of the device with this index
-pub record AreSameTo (cell : CutCell) (index earlier : ℕ) (old rest channels : List Channel) : Type 0 where
+pub record AreSameTo (cell : CutCell) (index earlier : ℕ) (old rest channels : List DeviceChannel) : Type 0 where
   pub rise : IsStrictlySortedBy channel_order channels
-  pub each : (number : Member → ℕ) → AreNumbersIn cell number → (channel : Channel) → Contains channels channel → (channel.device < index + 1) × IsDrawnIn cell number channel
-  pub extra : List Channel
+  pub each : (number : Member → ℕ) → AreNumbersIn cell number → (channel : DeviceChannel) → Contains channels channel → (channel.device < index + 1) × IsDrawnIn cell number channel
+  pub extra : List DeviceChannel
   pub grown : channels ≡ old ++ extra
   pub left : IsStrictlySortedBy channel_order rest
-  pub inside : (channel : Channel) → Contains rest channel → Contains old channel
-  pub behind : (added channel : Channel) → Contains channels added → added.device ≡ index → Contains rest channel → channel.device ≡ earlier → point_order added.least channel.least ≡ Less
-  pub done : (channel : Channel) → Contains old channel → channel.device ≡ earlier → Contains rest channel ⊎ IsListed channels index channel.least
+  pub inside : (channel : DeviceChannel) → Contains rest channel → Contains old channel
+  pub behind : (added channel : DeviceChannel) → Contains channels added → added.device ≡ index → Contains rest channel → channel.device ≡ earlier → point_order added.least channel.least ≡ Less
+  pub done : (channel : DeviceChannel) → Contains old channel → channel.device ≡ earlier → Contains rest channel ⊎ HasChannelAt channels index channel.least
 
-kept : (cell : CutCell) (index earlier : ℕ) (old rest channels : List Channel) → AreSameTo cell index earlier old rest channels → (channel : Channel) → Contains old channel → Contains channels channel
-kept cell index earlier old rest channels a channel h = subst (λ (l : List Channel). Contains l channel) (sym a.grown) (Contains-append_left old a.extra channel h)
+kept : (cell : CutCell) (index earlier : ℕ) (old rest channels : List DeviceChannel) → AreSameTo cell index earlier old rest channels → (channel : DeviceChannel) → Contains old channel → Contains channels channel
+kept cell index earlier old rest channels a channel h = subst (λ (l : List DeviceChannel). Contains l channel) (sym a.grown) (Contains-append_left old a.extra channel h)
 
-pub same_begins : (cell : CutCell) (index earlier : ℕ) (old : List Channel) → IsCutCell cell → AreFirstChannels cell index old → AreSameTo cell index earlier old old old
+pub same_begins : (cell : CutCell) (index earlier : ℕ) (old : List DeviceChannel) → IsCutCell cell → AreFirstChannels cell index old → AreSameTo cell index earlier old old old
 same_begins cell index earlier old cut a = record {
   rise = a.rise;
   each = λ number are channel h. let e = a.each number are channel h in let lt = e.0 in (omega (arith, lt), e.1);
@@ -132,16 +132,16 @@ same_begins cell index earlier old cut a = record {
   done = λ channel h of. inl h;
 }
 
-rest_rises : (c : Channel) (tail : List Channel) → IsStrictlySortedBy channel_order (c ∷ tail) → AllByRecursion (λ (z : Channel). channel_order c z ≡ Less) tail × IsStrictlySortedBy channel_order tail
+rest_rises : (c : DeviceChannel) (tail : List DeviceChannel) → IsStrictlySortedBy channel_order (c ∷ tail) → AllByRecursion (λ (z : DeviceChannel). channel_order c z ≡ Less) tail × IsStrictlySortedBy channel_order tail
 unfolding IsStrictlySortedBy
 rest_rises c tail rise = (rise.0, rise.1)
 
-module _ (cell : CutCell) (index earlier : ℕ) (old : List Channel) where
-  still_listed : (channels more : List Channel) (added : Channel) (least : Point) → more ≡ channels ++ added ∷ [] → IsListed channels index least → IsListed more index least
-  still_listed channels more added least grown l = record { channel = l.channel; listed = subst (λ (m : List Channel). Contains m l.channel) (sym grown) (Contains-append_left channels (added ∷ []) l.channel l.listed); of = l.of; at = l.at }
+module _ (cell : CutCell) (index earlier : ℕ) (old : List DeviceChannel) where
+  still_listed : (channels more : List DeviceChannel) (added : DeviceChannel) (least : Point) → more ≡ channels ++ added ∷ [] → HasChannelAt channels index least → HasChannelAt more index least
+  still_listed channels more added least grown l = record { channel = l.channel; listed = subst (λ (m : List DeviceChannel). Contains m l.channel) (sym grown) (Contains-append_left channels (added ∷ []) l.channel l.listed); of = l.of; at = l.at }
 
   -- a channel of another device than the earlier one
-  other_next : (c : Channel) (tail channels : List Channel) → c.device ≢ earlier → AreSameTo cell index earlier old (c ∷ tail) channels → AreSameTo cell index earlier old tail channels
+  other_next : (c : DeviceChannel) (tail channels : List DeviceChannel) → c.device ≢ earlier → AreSameTo cell index earlier old (c ∷ tail) channels → AreSameTo cell index earlier old tail channels
   other_next c tail channels off a = record {
     rise = a.rise;
     each = a.each;
@@ -152,7 +152,7 @@ module _ (cell : CutCell) (index earlier : ℕ) (old : List Channel) where
     behind = λ added channel h same r of. a.behind added channel h same (contains_later c tail channel r) of;
     done = λ channel h of. elim (a.done channel h of) [
       | inl r ↦ elim (contains_cases c tail channel r) [
-        | inl is ↦ absurd (off (subst (λ (x : Channel). x.device ≡ earlier) is of))
+        | inl is ↦ absurd (off (subst (λ (x : DeviceChannel). x.device ≡ earlier) is of))
         | inr later ↦ inl later
       ]
       | inr listed ↦ inr listed
@@ -160,7 +160,7 @@ module _ (cell : CutCell) (index earlier : ℕ) (old : List Channel) where
   }
 
   -- the added channel stands behind all others
-  added_behind : (c added : Channel) (tail channels : List Channel) → IsCutCell cell → c.device ≡ earlier → added.device ≡ index → added.least ≡ c.least → AreSameTo cell index earlier old (c ∷ tail) channels → (other : Channel) → Contains channels other → channel_order other added ≡ Less
+  added_behind : (c added : DeviceChannel) (tail channels : List DeviceChannel) → IsCutCell cell → c.device ≡ earlier → added.device ≡ index → added.least ≡ c.least → AreSameTo cell index earlier old (c ∷ tail) channels → (other : DeviceChannel) → Contains channels other → channel_order other added ≡ Less
   added_behind c added tail channels cut of device least a other h =
       let lt = (a.each (number_in cell.bins cell.nets) (cell_numbers cell cut) other h).0 in
       elim (below_or other.device index lt) [
@@ -169,55 +169,55 @@ module _ (cell : CutCell) (index earlier : ℕ) (old : List Channel) where
       ]
 
   -- a channel of the earlier device
-  same_next : (c : Channel) (tail channels more : List Channel) → IsCutCell cell → IsAlikeBefore cell.tech.now.devices index earlier → c.device ≡ earlier → more ≡ channels ++ with_device index c ∷ [] → AreSameTo cell index earlier old (c ∷ tail) channels
+  same_next : (c : DeviceChannel) (tail channels more : List DeviceChannel) → IsCutCell cell → IsAlikeBefore cell.tech.now.devices index earlier → c.device ≡ earlier → more ≡ channels ++ with_device index c ∷ [] → AreSameTo cell index earlier old (c ∷ tail) channels
       → AreSameTo cell index earlier old tail more
   same_next c tail channels more cut alike of grown a =
       let added = with_device index c in
       let first : Contains channels c = kept cell index earlier old (c ∷ tail) channels a c (a.inside c (contains_first c tail)) in
       let rises = rest_rises c tail a.left in
-      let in_more : (channel : Channel) → Contains more channel → Contains channels channel ⊎ (added ≡ channel) = λ channel h. Contains-push_cases channels added channel (subst (λ (m : List Channel). Contains m channel) grown h) in
+      let in_more : (channel : DeviceChannel) → Contains more channel → Contains channels channel ⊎ (added ≡ channel) = λ channel h. Contains-push_cases channels added channel (subst (λ (m : List DeviceChannel). Contains m channel) grown h) in
       record {
         rise = subst (IsStrictlySortedBy channel_order) (sym grown) (sorted_push channel_order channels added a.rise (λ other h. added_behind c added tail channels cut of refl refl a other h));
         each = λ number are channel h. elim (in_more channel h) [
           | inl earlier_one ↦ a.each number are channel earlier_one
-          | inr same ↦ subst (λ (x : Channel). (x.device < index + 1) × IsDrawnIn cell number x) same (omega arith, drawn_same cell index earlier alike number c of (a.each number are c first).1)
+          | inr same ↦ subst (λ (x : DeviceChannel). (x.device < index + 1) × IsDrawnIn cell number x) same (omega arith, drawn_same cell index earlier alike number c of (a.each number are c first).1)
         ];
         extra = a.extra ++ added ∷ [];
-        grown = grown ∙ ap (λ (l : List Channel). l ++ added ∷ []) a.grown ∙ append_assoc old a.extra (added ∷ []);
+        grown = grown ∙ ap (λ (l : List DeviceChannel). l ++ added ∷ []) a.grown ∙ append_assoc old a.extra (added ∷ []);
         left = rises.1;
         inside = λ channel h. a.inside channel (contains_later c tail channel h);
         behind = λ one channel h same r on. elim (in_more one h) [
           | inl earlier_one ↦ a.behind one channel earlier_one same (contains_later c tail channel r) on
-          | inr is ↦ subst (λ (x : Channel). point_order x.least channel.least ≡ Less) is (least_rises c channel (of ∙ sym on) (all_contained (λ (z : Channel). channel_order c z ≡ Less) tail channel rises.0 r))
+          | inr is ↦ subst (λ (x : DeviceChannel). point_order x.least channel.least ≡ Less) is (least_rises c channel (of ∙ sym on) (all_contained (λ (z : DeviceChannel). channel_order c z ≡ Less) tail channel rises.0 r))
         ];
         done = λ channel h on. elim (a.done channel h on) [
           | inl r ↦ elim (contains_cases c tail channel r) [
-            | inl is ↦ inr (record { channel = added; listed = subst (λ (m : List Channel). Contains m added) (sym grown) (Contains-push channels added); of = refl; at = ap (λ (x : Channel). x.least) (sym is) })
+            | inl is ↦ inr (record { channel = added; listed = subst (λ (m : List DeviceChannel). Contains m added) (sym grown) (Contains-push channels added); of = refl; at = ap (λ (x : DeviceChannel). x.least) (sym is) })
             | inr later ↦ inl later
           ]
           | inr listed ↦ inr (still_listed channels more added channel.least grown listed)
         ];
       }
 
-  pub same_more : (place : ℕ) (c : Channel) (rest tail channels more : List Channel) → rest ≡ c ∷ tail → IsCutCell cell → IsAlikeBefore cell.tech.now.devices index earlier → IsSameAdded earlier index place channels more → slice_get channels place ≡ Some c
+  pub same_more : (place : ℕ) (c : DeviceChannel) (rest tail channels more : List DeviceChannel) → rest ≡ c ∷ tail → IsCutCell cell → IsAlikeBefore cell.tech.now.devices index earlier → IsSameAdded earlier index place channels more → slice_get channels place ≡ Some c
       → AreSameTo cell index earlier old rest channels → AreSameTo cell index earlier old tail more
   same_more place c rest tail channels more begins cut alike step there a =
-      let b : AreSameTo cell index earlier old (c ∷ tail) channels = subst (λ (l : List Channel). AreSameTo cell index earlier old l channels) begins a in
+      let b : AreSameTo cell index earlier old (c ∷ tail) channels = subst (λ (l : List DeviceChannel). AreSameTo cell index earlier old l channels) begins a in
       let is : step.channel ≡ c = one_at channels place step.channel c step.there there in
       elim step.added [
-        | inl added ↦ same_next c tail channels more cut alike (subst (λ (x : Channel). x.device ≡ earlier) is added.0) (subst (λ (x : Channel). more ≡ channels ++ with_device index x ∷ []) is added.1) b
-        | inr none ↦ subst (λ (m : List Channel). AreSameTo cell index earlier old tail m) (sym none.1) (other_next c tail channels (subst (λ (x : Channel). x.device ≢ earlier) is none.0) b)
+        | inl added ↦ same_next c tail channels more cut alike (subst (λ (x : DeviceChannel). x.device ≡ earlier) is added.0) (subst (λ (x : DeviceChannel). more ≡ channels ++ with_device index x ∷ []) is added.1) b
+        | inr none ↦ subst (λ (m : List DeviceChannel). AreSameTo cell index earlier old tail m) (sym none.1) (other_next c tail channels (subst (λ (x : DeviceChannel). x.device ≢ earlier) is none.0) b)
       ]
 
   -- the next of the old channels stands there still
-  pub stands_there : (place : ℕ) (c : Channel) (rest channels : List Channel) → slice_get old place ≡ Some c → AreSameTo cell index earlier old rest channels → slice_get channels place ≡ Some c
+  pub stands_there : (place : ℕ) (c : DeviceChannel) (rest channels : List DeviceChannel) → slice_get old place ≡ Some c → AreSameTo cell index earlier old rest channels → slice_get channels place ≡ Some c
   stands_there place c rest channels at a =
       let within = slice_get_within old place c at in
       let long = length-append old a.extra in
       let is : c ≡ get_or (old ++ a.extra) place c = sym (get_or_append_left old a.extra c place within ∙ get_or_from_slice_get old place c c at) in
-      subst (λ (l : List Channel). slice_get l place ≡ Some c) (sym a.grown) (slice_get_read (old ++ a.extra) (length (old ++ a.extra)) place c refl (omega (arith, within, long)) is)
+      subst (λ (l : List DeviceChannel). slice_get l place ≡ Some c) (sym a.grown) (slice_get_read (old ++ a.extra) (length (old ++ a.extra)) place c refl (omega (arith, within, long)) is)
 
-  pub same_ends : (rest channels : List Channel) → rest ≡ [] → IsAlikeBefore cell.tech.now.devices index earlier → AreFirstChannels cell index old → AreSameTo cell index earlier old rest channels → AreFirstChannels cell (index + 1) channels
+  pub same_ends : (rest channels : List DeviceChannel) → rest ≡ [] → IsAlikeBefore cell.tech.now.devices index earlier → AreFirstChannels cell index old → AreSameTo cell index earlier old rest channels → AreFirstChannels cell (index + 1) channels
   same_ends rest channels ends alike first a =
       let devices = cell.tech.now.devices in
       let shapes = cell.shapes.now in
@@ -233,7 +233,7 @@ module _ (cell : CutCell) (index earlier : ℕ) (old : List Channel) where
               let least_there : IsLeastCell shapes alike.other least = least_same shapes alike.device alike.other (turned alike.other alike.device alike.same) least (subst (λ (d : Device). IsLeastCell shapes d least) own is) in
               let l = first.all earlier alike.other least alike.before alike.there least_there in
               elim (a.done l.channel l.listed l.of) [
-                | inl r ↦ absurd (contains_none l.channel (subst (λ (k : List Channel). Contains k l.channel) ends r))
+                | inl r ↦ absurd (contains_none l.channel (subst (λ (k : List DeviceChannel). Contains k l.channel) ends r))
                 | inr listed ↦ record { channel = listed.channel; listed = listed.listed; of = listed.of ∙ sym same; at = listed.at ∙ l.at }
               ]
         ];

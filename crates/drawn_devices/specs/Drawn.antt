@@ -10,7 +10,7 @@ use Rattle.element_drawing.specs.PlainLabel.{PlainLabel}
 use Rattle.tech_rules.specs.declared.tech.Device.{Device}
 use Rattle.tech_rules.specs.declared.tech.Tech.{Tech}
 use Rattle.cell_hierarchy.specs.FlatLists.{point_order}
-use Rattle.drawn_devices.specs.declared.drawn.Channel.{Channel}
+use Rattle.drawn_devices.specs.declared.drawn.DeviceChannel.{DeviceChannel}
 use Rattle.drawn_devices.specs.declared.drawn.DrawnDevices.{DrawnDevices}
 use Rattle.drawn_devices.specs.declared.drawn.Flow.{Flow}
 use Rattle.drawn_devices.specs.declared.drawn.NetName.{NetName}
@@ -48,7 +48,7 @@ TerminalsAre tech shapes number device least None = IsUnsound tech shapes device
 TerminalsAre tech shapes number device least (Some terminals) = AreTerminals tech shapes number device least terminals
 
 -- a channel of the device with this index, by its least cell, with its terminals if it is sound
-pub record IsDrawnChannel (tech : Tech) (shapes : List Shape) (number : Member → ℕ) (channel : Channel) : Type 0 where
+pub record IsListedChannel (tech : Tech) (shapes : List Shape) (number : Member → ℕ) (channel : DeviceChannel) : Type 0 where
   pub device : Device
   pub there : slice_get tech.devices channel.device ≡ Some device
   pub least : IsLeastCell shapes device channel.least
@@ -61,12 +61,12 @@ pub record IsNetName (tech : Tech) (shapes : List Shape) (labels : List PlainLab
   pub net : entry.net ≡ number (Drawn shape)
 
 -- by device and then by least cell
-abbrev pub channel_order : Channel → Channel → Ordering
+abbrev pub channel_order : DeviceChannel → DeviceChannel → Ordering
 channel_order a b = ordering_then (nat_cmp a.device b.device) (point_order a.least b.least)
 
 -- the channel of the device with this index that has this least cell is listed
-pub record IsListed (channels : List Channel) (device : ℕ) (least : Point) : Type 0 where
-  pub channel : Channel
+pub record HasChannelAt (channels : List DeviceChannel) (device : ℕ) (least : Point) : Type 0 where
+  pub channel : DeviceChannel
   pub listed : Contains channels channel
   pub of : channel.device ≡ device
   pub at : channel.least ≡ least
@@ -78,8 +78,8 @@ pub record AreDrawnDevices (tech : Tech) (shapes : List Shape) (labels : List Pl
   pub nets : AreNetNumbers tech shapes number
   pub names : (entry : NetName) → Contains drawn.names entry ↔ IsNetName tech shapes labels number entry
   pub rise : IsStrictlySortedBy channel_order drawn.channels
-  pub each : (channel : Channel) → Contains drawn.channels channel → IsDrawnChannel tech shapes number channel
-  pub all : (index : ℕ) (device : Device) (least : Point) → slice_get tech.devices index ≡ Some device → IsLeastCell shapes device least → IsListed drawn.channels index least
+  pub each : (channel : DeviceChannel) → Contains drawn.channels channel → IsListedChannel tech shapes number channel
+  pub all : (index : ℕ) (device : Device) (least : Point) → slice_get tech.devices index ≡ Some device → IsLeastCell shapes device least → HasChannelAt drawn.channels index least
 
 -- what one label gives: a name of the net of the shape that it binds, or none
 abbrev pub GivesName : Tech → List Shape → (Member → ℕ) → PlainLabel → Option NetName → Type 0

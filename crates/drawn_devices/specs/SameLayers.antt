@@ -1,7 +1,7 @@
 -- Devices that have the same layers, and so the same channels.
 use Rattle.std.specs.Prelude.{◌≡◌, ◌≢◌, ◌⊎◌, ℕ, ◌<◌, List, [], ◌∷◌, ◌++◌, slice_get, Some}
 use Rattle.tech_rules.specs.declared.tech.Device.{Device}
-use Rattle.drawn_devices.specs.declared.drawn.Channel.{Channel}
+use Rattle.drawn_devices.specs.declared.drawn.DeviceChannel.{DeviceChannel}
 
 pub record HaveSameLayers (device other : Device) : Type 0 where
   pub gate : device.gate ≡ other.gate
@@ -22,11 +22,11 @@ abbrev pub HasNoneAlike : List Device → ℕ → Type 0
 HasNoneAlike devices index = (earlier : ℕ) → IsAlikeBefore devices index earlier → ⊥
 
 -- the channel as one of the device with this index
-abbrev pub with_device : ℕ → Channel → Channel
+abbrev pub with_device : ℕ → DeviceChannel → DeviceChannel
 with_device index channel = record { device = index; least = channel.least; terminals = channel.terminals }
 
 -- the channel at this place is one of the earlier device, and is added as one of the other; or it is none, and nothing is added
-pub record IsSameAdded (earlier index place : ℕ) (before now : List Channel) : Type 0 where
-  pub channel : Channel
+pub record IsSameAdded (earlier index place : ℕ) (before now : List DeviceChannel) : Type 0 where
+  pub channel : DeviceChannel
   pub there : slice_get before place ≡ Some channel
   pub added : ((channel.device ≡ earlier) × (now ≡ before ++ with_device index channel ∷ [])) ⊎ ((channel.device ≢ earlier) × (now ≡ before))

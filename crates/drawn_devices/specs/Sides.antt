@@ -12,16 +12,16 @@ use Rattle.drawn_devices.specs.declared.drawn.Side.TheVariants.{Left, Right, Bel
 use Rattle.drawn_devices.specs.Diffusion.{IsDiffusion}
 
 -- the coordinate is one of a cell between two coordinates
-pub record IsBetween (low high z : ℤ) : Type 0 where
+pub record IsCellBetween (low high z : ℤ) : Type 0 where
   pub from : low ≤ℤ z
   pub below : z <ℤ high
 
 -- the unit cell lies outside the box, along this side of it
 abbrev pub IsAlong : Side → Rect → Point → Type 0
-IsAlong Left box cell = (cell.x +ℤ pos 1 ≡ box.x1) × IsBetween box.y1 box.y2 cell.y
-IsAlong Right box cell = (cell.x ≡ box.x2) × IsBetween box.y1 box.y2 cell.y
-IsAlong Below box cell = (cell.y +ℤ pos 1 ≡ box.y1) × IsBetween box.x1 box.x2 cell.x
-IsAlong Above box cell = (cell.y ≡ box.y2) × IsBetween box.x1 box.x2 cell.x
+IsAlong Left box cell = (cell.x +ℤ pos 1 ≡ box.x1) × IsCellBetween box.y1 box.y2 cell.y
+IsAlong Right box cell = (cell.x ≡ box.x2) × IsCellBetween box.y1 box.y2 cell.y
+IsAlong Below box cell = (cell.y +ℤ pos 1 ≡ box.y1) × IsCellBetween box.x1 box.x2 cell.x
+IsAlong Above box cell = (cell.y ≡ box.y2) × IsCellBetween box.x1 box.x2 cell.x
 
 -- the box has exactly the unit cells along the side
 abbrev pub IsStrip : Side → Rect → Rect → Type 0

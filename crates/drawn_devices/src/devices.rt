@@ -9,7 +9,7 @@ ghost use Rattle.drawn_devices.specs.DrawnChannels.{AreFirstChannels, IsChannelO
 
 use crate::channels::channel_groups;
 use crate::cut_cell::{CutCell, cut_cell};
-use crate::drawn::{Channel, DrawnDevices};
+use crate::drawn::{DeviceChannel, DrawnDevices};
 use crate::names::names_of;
 use crate::same_layers::{add_same_channels, earlier_alike};
 use crate::terminals::terminals_of;
@@ -38,7 +38,7 @@ fn channel_of(
     index: u16,
     device: &Device,
     boxes: &[Rect],
-) -> Result<Channel, Memory>
+) -> Result<DeviceChannel, Memory>
     requires cut { IsCutCell cell.now }
     requires near { AreReachable cell.now.shapes.now }
     requires device { slice_get cell.now.tech.now.devices index ≡ Some device.now }
@@ -46,7 +46,7 @@ fn channel_of(
     ensures { IfOk result (IsChannelOf cell.now index boxes.now) }
 {
     let least = first_corner(boxes);
-    Ok(Channel {
+    Ok(DeviceChannel {
         device: index,
         least,
         terminals: terminals_of(alloc, cell, device, least, boxes)?,
@@ -58,7 +58,7 @@ fn add_own_channels(
     alloc: Global,
     cell: &CutCell,
     index: u16,
-    out: &mut Items<Channel>,
+    out: &mut Items<DeviceChannel>,
 ) -> Result<(), Memory>
     requires cut { IsCutCell cell.now }
     requires near { AreReachable cell.now.shapes.now }
@@ -79,7 +79,7 @@ fn add_channels(
     alloc: Global,
     cell: &CutCell,
     index: u16,
-    out: &mut Items<Channel>,
+    out: &mut Items<DeviceChannel>,
 ) -> Result<(), Memory>
     requires cut { IsCutCell cell.now }
     requires near { AreReachable cell.now.shapes.now }
@@ -94,7 +94,7 @@ fn add_channels(
 }
 
 /// The channels of all devices.
-fn channels_of(alloc: Global, cell: &CutCell) -> Result<Items<Channel>, Memory>
+fn channels_of(alloc: Global, cell: &CutCell) -> Result<Items<DeviceChannel>, Memory>
     requires cut { IsCutCell cell.now }
     requires near { AreReachable cell.now.shapes.now }
     requires few { length cell.now.tech.now.devices ≤ 65535 }

@@ -37,7 +37,7 @@ pub struct Terminals {
 /// A channel: the index of its device in the technology's list, the lower left corner of its least unit cell in
 /// nanometres, and its terminals if it is sound.
 #[derive(Clone, Copy, Debug)]
-pub struct Channel {
+pub struct DeviceChannel {
     pub device: u16,
     pub least: Point,
     pub terminals: Option<Terminals>,
@@ -47,5 +47,5 @@ pub struct Channel {
 #[derive(Debug, Drop)]
 pub struct DrawnDevices {
     pub names: Items<NetName>,
-    pub channels: Items<Channel>,
+    pub channels: Items<DeviceChannel>,
 }

@@ -18,5 +18,5 @@ mod sides;
 mod terminals;
 
 pub use devices::drawn_devices;
-pub use drawn::{Channel, DrawnDevices, Flow, NetName, Side, Terminals};
+pub use drawn::{DeviceChannel, DrawnDevices, Flow, NetName, Side, Terminals};
 pub use laws::{channels_are_these, these_are_channels};

@@ -4,7 +4,7 @@ ghost use Rattle.drawn_devices.specs.DrawnChannels.{AreFirstChannels};
 ghost use Rattle.drawn_devices.specs.SameLayers.{HasNoneAlike, HaveSameLayers, IsAlikeBefore, IsSameAdded};
 
 use crate::cut_cell::CutCell;
-use crate::drawn::Channel;
+use crate::drawn::DeviceChannel;
 use or_geom::{Items, Memory};
 use tech_rules::Device;
 
@@ -35,11 +35,16 @@ pub fn earlier_alike(devices: &[Device], index: u16) -> Option<u16>
 }
 
 /// Adds the channel of the one device that is the other's at this place, if the channel there is one of the other.
-fn add_same(earlier: u16, index: u16, place: usize, out: &mut Items<Channel>) -> Result<(), Memory>
+fn add_same(
+    earlier: u16,
+    index: u16,
+    place: usize,
+    out: &mut Items<DeviceChannel>,
+) -> Result<(), Memory>
     requires { place < length out.old }
     ensures { OnOk result (IsSameAdded earlier index place out.old out.new) }
 {
-    let Channel {
+    let DeviceChannel {
         device,
         least,
         terminals,
@@ -47,7 +52,7 @@ fn add_same(earlier: u16, index: u16, place: usize, out: &mut Items<Channel>) ->
     if device != earlier {
         return Ok(());
     }
-    out.push(Channel {
+    out.push(DeviceChannel {
         device: index,
         least,
         terminals,
@@ -60,7 +65,7 @@ pub fn add_same_channels(
     _cell: &CutCell,
     other: u16,
     index: u16,
-    out: &mut Items<Channel>,
+    out: &mut Items<DeviceChannel>,
 ) -> Result<(), Memory>
     requires cut { IsCutCell _cell.now }
     requires alike { IsAlikeBefore _cell.now.tech.now.devices index other }

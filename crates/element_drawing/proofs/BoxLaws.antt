@@ -14,12 +14,12 @@ use Rattle.element_drawing.specs.declared.boxes.Stroke.{Stroke}
 use Rattle.element_drawing.specs.declared.boxes.Tip.{Tip}
 use Rattle.element_drawing.specs.declared.boxes.Segment.{Segment}
 use Rattle.element_drawing.specs.Paths.{IsSegmentBox, AreBoxesFrom}
-use Rattle.element_drawing.specs.Segments.{IsLength, IsStretchExtent, IsOver}
+use Rattle.element_drawing.specs.Segments.{IsHalfWidth, IsStretchExtent, IsOver}
 
 -- the boxes so far, which those of the rest complete
 pub record AreBoxesBut (stroke : Stroke) (first : Point) (others : List Point) (tip : Tip) (rest : List Point) (boxes : List Rect) : Type 0 where
   pub completes : (more : List Rect) → AreBoxesFrom stroke.half stroke.last tip.before tip.at rest more → AreBoxesFrom stroke.half stroke.last stroke.last first others (boxes ++ more)
-  pub before : IsLength tip.before
+  pub before : IsHalfWidth tip.before
   pub at : IsShort tip.at
   pub short : AllByRecursion IsShort rest
   pub straight : AllStraight (segments_from tip.at rest)
@@ -49,7 +49,7 @@ level_is_box s across upward r level x y over =
       down = λ h. let less = h.rises in absurd (omega (arith, ints, less, level));
     }
 
-pub difference_kept : (a b : ℤ) → FitsSigned w32 a → IsLength b → to_z w64 (of_z w64 (to_z w64 (of_z w64 a) -ℤ to_z w64 (of_z w64 b))) ≡ a -ℤ b
+pub difference_kept : (a b : ℤ) → FitsSigned w32 a → IsHalfWidth b → to_z w64 (of_z w64 (to_z w64 (of_z w64 a) -ℤ to_z w64 (of_z w64 b))) ≡ a -ℤ b
 difference_kept a b f length =
     let fits_a : FitsSigned w64 a = omega (arith, ints, f) in
     let fits_b : FitsSigned w64 b = omega (arith, ints, length.above, length.below) in
@@ -59,5 +59,5 @@ difference_kept a b f length =
 pub short_kept : (z : ℤ) → FitsSigned w32 z → to_z w64 (of_z w64 z) ≡ z
 short_kept z fits = to_z-of_z w64 z (omega (arith, ints, fits))
 
-pub length_kept : (z : ℤ) → IsLength z → to_z w64 (of_z w64 z) ≡ z
+pub length_kept : (z : ℤ) → IsHalfWidth z → to_z w64 (of_z w64 z) ≡ z
 length_kept z length = to_z-of_z w64 z (omega (arith, ints, length.above, length.below))

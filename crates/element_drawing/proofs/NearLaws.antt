@@ -22,8 +22,8 @@ use Rattle.element_drawing.specs.PlainLabel.{PlainLabel}
 use Rattle.element_drawing.specs.Paths.{IsRectOf, IsSegmentBox, AreBoxesFrom, IsEnd, AreBoxes}
 use Rattle.element_drawing.specs.Drawing.{IsDrawing}
 use Rattle.element_drawing.specs.OwnLabels.{own_labels, with_label, text_place_of, IsLabelWithin}
-use Rattle.element_drawing.specs.OwnShapes.{AreOn, AreOwnShapes, layer_of, on_layer, IsRectWithin, IsShapeWithin}
-use Rattle.element_drawing.specs.Segments.{IsLength}
+use Rattle.element_drawing.specs.OwnShapes.{AreOn, AreOwnShapes, element_layer, on_layer, IsRectWithin, IsShapeWithin}
+use Rattle.element_drawing.specs.Segments.{IsHalfWidth}
 
 short_above : (z : ℤ) → FitsSigned w32 z → pos 0 ≤ℤ (z +ℤ pos (2 ^ 32))
 short_above z fits = omega (arith, ints, fits)
@@ -56,19 +56,19 @@ labels_near layers (Text layer texttype at string props ∷ es) writable =
 -- boxes of a path
 
 -- a coordinate and a length away from it
-lower_above : (y z n : ℤ) → y ≡ z -ℤ n → FitsSigned w32 z → IsLength n → pos 0 ≤ℤ (y +ℤ pos (2 ^ 32))
+lower_above : (y z n : ℤ) → y ≡ z -ℤ n → FitsSigned w32 z → IsHalfWidth n → pos 0 ≤ℤ (y +ℤ pos (2 ^ 32))
 lower_above y z n is fits length = omega (arith, ints, is, fits, length.above, length.below)
 
-lower_below : (y z n : ℤ) → y ≡ z -ℤ n → FitsSigned w32 z → IsLength n → y ≤ℤ pos (2 ^ 32)
+lower_below : (y z n : ℤ) → y ≡ z -ℤ n → FitsSigned w32 z → IsHalfWidth n → y ≤ℤ pos (2 ^ 32)
 lower_below y z n is fits length = omega (arith, ints, is, fits, length.above, length.below)
 
-higher_above : (y z n : ℤ) → y ≡ z +ℤ n → FitsSigned w32 z → IsLength n → pos 0 ≤ℤ (y +ℤ pos (2 ^ 32))
+higher_above : (y z n : ℤ) → y ≡ z +ℤ n → FitsSigned w32 z → IsHalfWidth n → pos 0 ≤ℤ (y +ℤ pos (2 ^ 32))
 higher_above y z n is fits length = omega (arith, ints, is, fits, length.above, length.below)
 
-higher_below : (y z n : ℤ) → y ≡ z +ℤ n → FitsSigned w32 z → IsLength n → y ≤ℤ pos (2 ^ 32)
+higher_below : (y z n : ℤ) → y ≡ z +ℤ n → FitsSigned w32 z → IsHalfWidth n → y ≤ℤ pos (2 ^ 32)
 higher_below y z n is fits length = omega (arith, ints, is, fits, length.above, length.below)
 
-box_near : (left bottom right top a b c d : ℤ) (r : Rect) → FitsSigned w32 left → FitsSigned w32 bottom → FitsSigned w32 right → FitsSigned w32 top → IsLength a → IsLength b → IsLength c → IsLength d
+box_near : (left bottom right top a b c d : ℤ) (r : Rect) → FitsSigned w32 left → FitsSigned w32 bottom → FitsSigned w32 right → FitsSigned w32 top → IsHalfWidth a → IsHalfWidth b → IsHalfWidth c → IsHalfWidth d
     → IsRectOf (left -ℤ a) (bottom -ℤ b) (right +ℤ c) (top +ℤ d) r → IsRectWithin (2 ^ 32) r
 box_near left bottom right top a b c d r fl fb fr ft la lb lc ld box = record {
   low = record { x_above = lower_above r.x1 left a box.x1 fl la; x_below = lower_below r.x1 left a box.x1 fl la; y_above = lower_above r.y1 bottom b box.y1 fb lb; y_below = lower_below r.y1 bottom b box.y1 fb lb };
@@ -78,7 +78,7 @@ box_near left bottom right top a b c d r fl fb fr ft la lb lc ld box = record {
 strict : (a b : ℤ) → b ≤ℤ a → a ≢ b → b <ℤ a
 strict a b le ne = by_lt_z b a (λ lt. lt) (λ ge. absurd (ne (omega (arith, ints, le, ge))))
 
-segment_near : (half before after : ℤ) (p q : Point) (r : Rect) → IsLength half → IsLength before → IsLength after → IsShort p → IsShort q → IsStraight (record { a = p; b = q }) → IsSegmentBox half before after p q r → IsRectWithin (2 ^ 32) r
+segment_near : (half before after : ℤ) (p q : Point) (r : Rect) → IsHalfWidth half → IsHalfWidth before → IsHalfWidth after → IsShort p → IsShort q → IsStraight (record { a = p; b = q }) → IsSegmentBox half before after p q r → IsRectWithin (2 ^ 32) r
 segment_near half before after p q r lh lb la sp sq (inl up) box =
     by_lt_z p.y q.y
     (λ lt. box_near p.x p.y p.x q.y half before half after r sp.x sp.y sp.x sq.y lh lb lh la (box.up (record { level = up.0; rises = lt })))
@@ -88,7 +88,7 @@ segment_near half before after p q r lh lb la sp sq (inr across) box =
     (λ lt. box_near p.x p.y q.x p.y before half after half r sp.x sp.y sq.x sp.y lb lh la lh (box.right (record { level = across.0; rises = lt })))
     (λ ge. box_near q.x p.y p.x p.y after half before half r sq.x sp.y sp.x sp.y la lh lb lh (box.left (record { level = sym across.0; rises = strict p.x q.x ge across.1 })))
 
-boxes_from_near : (half last before : ℤ) (p : Point) (qs : List Point) (rects : List Rect) → IsLength half → IsLength last → IsLength before → AllByRecursion IsShort (p ∷ qs) → AllStraight (segments_from p qs) → AreBoxesFrom half last before p qs rects
+boxes_from_near : (half last before : ℤ) (p : Point) (qs : List Point) (rects : List Rect) → IsHalfWidth half → IsHalfWidth last → IsHalfWidth before → AllByRecursion IsShort (p ∷ qs) → AllStraight (segments_from p qs) → AreBoxesFrom half last before p qs rects
     → AllByRecursion (IsRectWithin (2 ^ 32)) rects
 boxes_from_near half last before p [] rects lh ll lb short straight are = subst (AllByRecursion (IsRectWithin (2 ^ 32))) (sym are) tt
 boxes_from_near half last before p (q ∷ qs) [] lh ll lb short straight are = tt
@@ -97,15 +97,15 @@ boxes_from_near half last before p (q ∷ []) (r ∷ rs) lh ll lb short straight
 boxes_from_near half last before p (q ∷ next ∷ qs) (r ∷ rs) lh ll lb short straight are =
     (segment_near half before half p q r lh lb lh short.0 short.1.0 straight.0 are.0, boxes_from_near half last half q (next ∷ qs) rs lh ll lh short.1 straight.1 are.1)
 
-half_length : (width half : ℤ) → pos 1 ≤ℤ width → width ≤ℤ pos 0x7FFFFFFF → width ≡ half +ℤ half → IsLength half
+half_length : (width half : ℤ) → pos 1 ≤ℤ width → width ≤ℤ pos 0x7FFFFFFF → width ≡ half +ℤ half → IsHalfWidth half
 half_length width half positive most is = record { above = omega (arith, ints, positive, is); below = omega (arith, ints, most, is) }
 
-zero_length : (z : ℤ) → z ≡ pos 0 → IsLength z
+zero_length : (z : ℤ) → z ≡ pos 0 → IsHalfWidth z
 zero_length z is = record { above = omega (arith, ints, is); below = omega (arith, ints, is) }
 
-end_length : (kind half last : ℤ) → IsLength half → IsEnd kind half last → IsLength last
+end_length : (kind half last : ℤ) → IsHalfWidth half → IsEnd kind half last → IsHalfWidth last
 end_length kind half last length (inl flush) = zero_length last flush.1
-end_length kind half last length (inr longer) = subst IsLength (sym longer.1) length
+end_length kind half last length (inr longer) = subst IsHalfWidth (sym longer.1) length
 
 path_near : (kind width : ℤ) (points : List Point) (rects : List Rect) → IsWritableTrack kind width points → AreBoxes kind width points rects → AllByRecursion (IsRectWithin (2 ^ 32)) rects
 path_near kind width [] rects track are = subst (AllByRecursion (IsRectWithin (2 ^ 32))) (sym are) tt
@@ -148,4 +148,4 @@ pub shapes_near : (layers : List Layer) (elements : List Element) (shapes : List
 shapes_near layers [] shapes writable are = subst (AllByRecursion (IsShapeWithin (2 ^ 32))) (sym are) tt
 shapes_near layers (e ∷ es) shapes writable are =
     subst (AllByRecursion (IsShapeWithin (2 ^ 32))) (sym are.4)
-    (both_near are.0 are.1 (drawn_near (layer_of layers e) (IsDrawing e) are.0 (λ rects is. drawing_near e rects writable.0 is) are.2) (shapes_near layers es are.1 writable.1 are.3))
+    (both_near are.0 are.1 (drawn_near (element_layer layers e) (IsDrawing e) are.0 (λ rects is. drawing_near e rects writable.0 is) are.2) (shapes_near layers es are.1 writable.1 are.3))

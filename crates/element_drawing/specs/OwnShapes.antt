@@ -14,12 +14,12 @@ abbrev pub layer_with_numbers : List Layer → ℤ → ℤ → Option ℕ
 layer_with_numbers layers number datatype = position (has_numbers number datatype) layers
 
 -- the layer on which an element draws, if the technology has it
-abbrev pub layer_of : List Layer → Element → Option ℕ
-layer_of layers (Boundary layer datatype points props) = layer_with_numbers layers layer datatype
-layer_of layers (Path layer datatype kind width points props) = layer_with_numbers layers layer datatype
-layer_of layers (Sref name place props) = None
-layer_of layers (Aref name place columns rows across down props) = None
-layer_of layers (Text layer texttype at string props) = None
+abbrev pub element_layer : List Layer → Element → Option ℕ
+element_layer layers (Boundary layer datatype points props) = layer_with_numbers layers layer datatype
+element_layer layers (Path layer datatype kind width points props) = layer_with_numbers layers layer datatype
+element_layer layers (Sref name place props) = None
+element_layer layers (Aref name place columns rows across down props) = None
+element_layer layers (Text layer texttype at string props) = None
 
 abbrev pub on_layer : ℕ → Rect → Shape
 on_layer layer rect = record { layer = layer; rect = rect }
@@ -30,7 +30,7 @@ AreOn None IsDrawn shapes = shapes ≡ []
 AreOn (Some layer) IsDrawn shapes = (rects : List Rect) × IsDrawn rects × (shapes ≡ map (on_layer layer) rects)
 
 abbrev pub AreShapesOf : List Layer → Element → List Shape → Type 0
-AreShapesOf layers e shapes = AreOn (layer_of layers e) (IsDrawing e) shapes
+AreShapesOf layers e shapes = AreOn (element_layer layers e) (IsDrawing e) shapes
 
 -- the shapes of the elements, one element after another
 abbrev pub AreOwnShapes : List Layer → List Element → List Shape → Type 0

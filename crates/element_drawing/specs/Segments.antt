@@ -13,15 +13,15 @@ use Rattle.element_drawing.specs.declared.boxes.Segment.{Segment}
 use Rattle.element_drawing.specs.Paths.{IsEnd}
 
 -- at most half of the greatest width
-pub record IsLength (z : ℤ) : Type 0 where
+pub record IsHalfWidth (z : ℤ) : Type 0 where
   pub above : pos 0 ≤ℤ z
   pub below : z ≤ℤ pos (2 ^ 30)
 
 pub record IsShortStretch (s : Stretch) : Type 0 where
   pub from : FitsSigned w32 s.from
   pub to : FitsSigned w32 s.to
-  pub before : IsLength s.before
-  pub after : IsLength s.after
+  pub before : IsHalfWidth s.before
+  pub after : IsHalfWidth s.after
 
 abbrev pub turned_stretch : Stretch → Stretch
 turned_stretch s = record { from = s.to; to = s.from; before = s.after; after = s.before }
@@ -44,8 +44,8 @@ pub record IsOver (across upward : AxisExtent) (r : Rect) : Type 0 where
 
 pub record IsShortStroke (stroke : Stroke) : Type 0 where
   pub some : pos 0 <ℤ stroke.half
-  pub half : IsLength stroke.half
-  pub last : IsLength stroke.last
+  pub half : IsHalfWidth stroke.half
+  pub last : IsHalfWidth stroke.last
 
 -- half the width, and the length of the path's ends
 pub record IsStroke (kind width : ℤ) (stroke : Stroke) : Type 0 where
@@ -56,9 +56,9 @@ pub record IsShortSegment (s : Segment) : Type 0 where
   pub from : IsShort s.from
   pub to : IsShort s.to
   pub some : pos 0 <ℤ s.half
-  pub half : IsLength s.half
-  pub before : IsLength s.before
-  pub after : IsLength s.after
+  pub half : IsHalfWidth s.half
+  pub before : IsHalfWidth s.before
+  pub after : IsHalfWidth s.after
   pub straight : IsStraight (record { a = s.from; b = s.to })
 
 -- the length at a point that these others follow

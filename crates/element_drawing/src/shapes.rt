@@ -2,7 +2,7 @@ ghost use Rattle.std.specs.Prelude.{◌≡◌, ◌++◌, ◌≤◌, ◌^◌, len
 ghost use Rattle.std.specs.List.{AllByRecursion};
 ghost use Rattle.or_geom.specs.declared.shape.Shape.{Shape};
 ghost use Rattle.gds_library.specs.Writable.{IsWritableElement};
-ghost use Rattle.element_drawing.specs.OwnShapes.{AreOwnShapes, AreShapesOf, IsShapeWithin, layer_of, on_layer};
+ghost use Rattle.element_drawing.specs.OwnShapes.{AreOwnShapes, AreShapesOf, IsShapeWithin, element_layer, on_layer};
 
 use crate::drawing::drawing_of;
 use crate::layer::shape_layer;
@@ -14,7 +14,7 @@ use tech_rules::Layer;
 /// The layer on which an element draws, if the technology has it.
 fn drawn_on(layers: &[Layer], element: &Element) -> Option<u16>
     requires { length layers.now ≤ 64 }
-    ensures { result ≡ layer_of layers.now element.now }
+    ensures { result ≡ element_layer layers.now element.now }
 {
     match element {
         Element::Boundary {

@@ -14,7 +14,7 @@ use Rattle.gds_library.specs.Values.{segments_from}
 use Rattle.gds_library.specs.Writable.{IsWritableBody, IsWritableElement, IsWritableTrack}
 use Rattle.tech_rules.specs.declared.tech.Layer.{Layer}
 use Rattle.element_drawing.specs.Drawing.{IsDrawing}
-use Rattle.element_drawing.specs.OwnShapes.{layer_of, on_layer, AreOn, AreOwnShapes}
+use Rattle.element_drawing.specs.OwnShapes.{element_layer, on_layer, AreOn, AreOwnShapes}
 use Rattle.element_drawing.specs.Paths.{IsSegmentBox, AreBoxesFrom, IsEnd, AreBoxes}
 use Rattle.flat_answers.proofs.SlabThereLaws.{slabs_there}
 
@@ -142,6 +142,6 @@ pub shapes_there : (layers : List Layer) (es : List Element) → AllByRecursion 
     → (shapes : List Shape) × AreOwnShapes layers es shapes
 shapes_there layers [] w = ([], refl)
 shapes_there layers (e ∷ es) w =
-    let first = on_there (layer_of layers e) (IsDrawing e) (drawing_there e w.0.body) in
+    let first = on_there (element_layer layers e) (IsDrawing e) (drawing_there e w.0.body) in
     let rest = shapes_there layers es w.1 in
     (first.0 ++ rest.0, (first.0, rest.0, first.1, rest.1, refl))

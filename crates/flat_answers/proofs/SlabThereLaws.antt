@@ -12,7 +12,7 @@ use Rattle.or_geom.specs.ShapeOrder.{rect_order}
 use Rattle.or_geom.proofs.ListLaws.{all_contained}
 use Rattle.or_geom.proofs.PlaceLaws.{same_rect}
 use Rattle.or_geom.proofs.ShapeOrderLaws.{rect_total}
-use Rattle.rectilinear.specs.declared.ring.Side.{Side}
+use Rattle.rectilinear.specs.declared.ring.RingSide.{RingSide}
 use Rattle.rectilinear.specs.Ring.{sides_of, sides_on}
 use Rattle.rectilinear.specs.Slabs.{xor, passes, is_odd_left, IsInside, HasHeight, AreNeighbours, IsSlab, AreDistinct, IsSlabList}
 use Rattle.rectilinear.proofs.RowLaws.{at_or_left, not_left}
@@ -45,11 +45,11 @@ listed_columns [] = listed_none (λ (x : ℤ). ⊥) (λ x has. has)
 listed_columns (p ∷ ps) = listed_either (λ (x : ℤ). x ≡ p.x) (HasColumn ps) (listed_one p.x) (listed_columns ps)
 
 -- Inside and outside change only in the column of a corner.
-abbrev Begins : List Side → ℤ → Type 0
+abbrev Begins : List RingSide → ℤ → Type 0
 Begins [] x = ⊥
 Begins (s ∷ ss) x = (x ≡ s.a.x) ⊎ Begins ss x
 
-changes : (ss : List Side) (z x y : ℤ) → z +ℤ pos 1 ≡ x → (is_odd_left ss x y ≡ is_odd_left ss z y) ⊎ Begins ss x
+changes : (ss : List RingSide) (z x y : ℤ) → z +ℤ pos 1 ≡ x → (is_odd_left ss x y ≡ is_odd_left ss z y) ⊎ Begins ss x
 changes [] z x y next = inl refl
 changes (s ∷ ss) z x y next = elim (changes ss z x y next) [
   | inr begins ↦ inr (inr begins)

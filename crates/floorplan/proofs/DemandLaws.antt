@@ -27,7 +27,7 @@ use Rattle.leaf_tables.specs.Kits.{IsKit, source_of}
 use Rattle.leaf_tables.specs.Leaves.{LeafSource, IsLeaf}
 use Rattle.leaf_tables.specs.NearLeaf.{IsLeafLength}
 use Rattle.leaf_tables.proofs.RoleLaws.{metal_listed, in_kit}
-use Rattle.floorplan.specs.LayoutOfKit.{layout_kit, pin_shape, shape_on, shape_or_square, layer_of_metal}
+use Rattle.floorplan.specs.LayoutOfKit.{layout_kit, pin_shape, pin_rect, shape_or_square, layer_of_metal}
 use Rattle.floorplan.specs.Demanded.{metal_number, same_metal, asks_for, IsDemandOf}
 
 -- the kit's wire
@@ -125,10 +125,10 @@ found kit is seven role leaf there name on =
 shape_there : (kit : Kit) (role : Role) (port metal layer : ℕ) (name : List ℕ) (wire : Wire) (leaf : Leaf) (pin : LeafPin) → slice_get (role_ports role) port ≡ Some name → kit.tech.wire ≡ Some wire → slice_get wire.metals metal ≡ Some layer → leaf_in kit.leaves role ≡ Some leaf
     → find (is_on name layer) leaf.pins ≡ Some pin → pin_shape kit role port metal ≡ Some pin.rect
 shape_there kit role port metal layer name wire leaf pin named wired at there first =
-    ap (option_and_then (λ (n : List ℕ). option_and_then (shape_on (leaf_in kit.leaves role) n) (layer_of_metal kit.tech.wire metal))) named
-    ∙ ap (λ (w : Option Wire). option_and_then (shape_on (leaf_in kit.leaves role) name) (layer_of_metal w metal)) wired
-    ∙ ap (option_and_then (shape_on (leaf_in kit.leaves role) name)) at
-    ∙ ap (λ (l : Option Leaf). shape_on l name layer) there
+    ap (option_and_then (λ (n : List ℕ). option_and_then (pin_rect (leaf_in kit.leaves role) n) (layer_of_metal kit.tech.wire metal))) named
+    ∙ ap (λ (w : Option Wire). option_and_then (pin_rect (leaf_in kit.leaves role) name) (layer_of_metal w metal)) wired
+    ∙ ap (option_and_then (pin_rect (leaf_in kit.leaves role) name)) at
+    ∙ ap (λ (l : Option Leaf). pin_rect l name layer) there
     ∙ ap (option_map (λ (p : LeafPin). p.rect)) first
 
 -- the port's shape is that of the pin at the demand's index

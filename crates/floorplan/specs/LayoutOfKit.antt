@@ -26,11 +26,11 @@ abbrev pub layer_of_metal : Option Wire → ℕ → Option ℕ
 layer_of_metal wire metal = option_and_then (λ (w : Wire). slice_get w.metals metal) wire
 
 -- the shape of the role's pin that is named so and on this layer
-abbrev pub shape_on : Option Leaf → List ℕ → ℕ → Option Rect
-shape_on leaf name layer = option_and_then (λ (l : Leaf). option_map (λ (pin : LeafPin). pin.rect) (pin_on l.pins name layer)) leaf
+abbrev pub pin_rect : Option Leaf → List ℕ → ℕ → Option Rect
+pin_rect leaf name layer = option_and_then (λ (l : Leaf). option_map (λ (pin : LeafPin). pin.rect) (pin_on l.pins name layer)) leaf
 
 abbrev pub pin_shape : Kit → Role → ℕ → ℕ → Option Rect
-pin_shape kit role port metal = option_and_then (λ (name : List ℕ). option_and_then (shape_on (leaf_in kit.leaves role) name) (layer_of_metal kit.tech.wire metal)) (port_name role port)
+pin_shape kit role port metal = option_and_then (λ (name : List ℕ). option_and_then (pin_rect (leaf_in kit.leaves role) name) (layer_of_metal kit.tech.wire metal)) (port_name role port)
 
 -- what stands for a pin that the kit hasn't; it is in no layout (asked_pins)
 abbrev pub unit_square : Rect

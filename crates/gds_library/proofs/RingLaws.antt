@@ -5,13 +5,13 @@ use Rattle.std.specs.List.{AllByRecursion}
 use Rattle.std.specs.Ordering.{int_eq}
 use Rattle.or_geom.specs.declared.shape.Point.{Point}
 use Rattle.gds_records.specs.Values.{IsShort}
-use Rattle.rectilinear.specs.declared.ring.Side.{Side}
+use Rattle.rectilinear.specs.declared.ring.RingSide.{RingSide}
 use Rattle.rectilinear.specs.Ring.{sides_on}
 use Rattle.rectilinear.specs.Corners.{is_zero, is_run, steps, turns_after, last_of, turns, corners_of}
 use Rattle.gds_library.specs.Values.{last_point, IsClosed}
 
-abbrev AreShortPoints : List Side → Type 0
-AreShortPoints sides = AllByRecursion (λ (s : Side). IsShort s.a) sides
+abbrev AreShortPoints : List RingSide → Type 0
+AreShortPoints sides = AllByRecursion (λ (s : RingSide). IsShort s.a) sides
 
 -- a corner is one of the points
 short_sides : (p : Point) (ps : List Point) (last : Point) → IsShort p → AllByRecursion IsShort ps
@@ -19,14 +19,14 @@ short_sides : (p : Point) (ps : List Point) (last : Point) → IsShort p → All
 short_sides p [] last f h = (f, tt)
 short_sides p (q ∷ qs) last f h = (f, short_sides q qs last h.0 h.1)
 
-short_steps : (sides : List Side) → AreShortPoints sides → AreShortPoints (steps sides)
+short_steps : (sides : List RingSide) → AreShortPoints sides → AreShortPoints (steps sides)
 short_steps [] h = tt
 short_steps (s ∷ sides) h = elim (is_zero s) as (λ b. AreShortPoints (cond b (steps sides) (s ∷ steps sides))) [
   | true ↦ short_steps sides h.1
   | false ↦ (h.0, short_steps sides h.1)
 ]
 
-short_turns : (s : Side) (sides : List Side) → AreShortPoints sides → AllByRecursion IsShort (turns_after s sides)
+short_turns : (s : RingSide) (sides : List RingSide) → AreShortPoints sides → AllByRecursion IsShort (turns_after s sides)
 short_turns s [] h = tt
 short_turns s (t ∷ sides) h = elim (is_run s t) as (λ b. AllByRecursion IsShort
     (cond b (turns_after t sides) (t.a ∷ turns_after t sides))) [
@@ -34,7 +34,7 @@ short_turns s (t ∷ sides) h = elim (is_run s t) as (λ b. AllByRecursion IsSho
       | false ↦ (h.0, short_turns t sides h.1)
     ]
 
-short_at : (sides : List Side) → AreShortPoints sides → AllByRecursion IsShort (turns sides)
+short_at : (sides : List RingSide) → AreShortPoints sides → AllByRecursion IsShort (turns sides)
 short_at [] h = tt
 short_at (s ∷ sides) h = short_turns (last_of s sides) (s ∷ sides) h
 
@@ -64,7 +64,7 @@ one_less p (q ∷ qs) last is =
       | false ↦ omega arith
     ]
 
-few_turns : (s : Side) (sides : List Side) → length (turns_after s sides) ≤ length sides
+few_turns : (s : RingSide) (sides : List RingSide) → length (turns_after s sides) ≤ length sides
 few_turns s [] = omega arith
 few_turns s (t ∷ sides) =
     let few = few_turns t sides in
@@ -73,7 +73,7 @@ few_turns s (t ∷ sides) =
       | false ↦ omega arith
     ]
 
-few_at : (sides : List Side) → length (turns sides) ≤ length sides
+few_at : (sides : List RingSide) → length (turns sides) ≤ length sides
 few_at [] = omega arith
 few_at (s ∷ sides) = few_turns (last_of s sides) (s ∷ sides)
 

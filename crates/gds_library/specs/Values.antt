@@ -7,7 +7,7 @@ use Rattle.or_geom.specs.declared.shape.Point.{Point}
 use Rattle.or_geom.specs.declared.place.Orient.{Orient}
 use Rattle.or_geom.specs.declared.place.Orient.TheVariants.{R0, R90, R180, R270, MX, MX90, MX180, MX270}
 use Rattle.gds_records.specs.Values.{points_from, int32_of}
-use Rattle.rectilinear.specs.declared.ring.Side.{Side}
+use Rattle.rectilinear.specs.declared.ring.RingSide.{RingSide}
 use Rattle.rectilinear.specs.Corners.{corners_of}
 use Rattle.rectilinear.specs.Simple.{AllStraight, IsSimple}
 use Rattle.gds_library.specs.declared.limits.TheConstants.{NANOMETRE_EXPONENT, NANOMETRE, ROUNDING, MIRRORED}
@@ -50,11 +50,11 @@ pub record IsOutline (corners : List Point) (content : List ℕ) : Type 0 where
   pub simple : IsSimple corners
 
 -- the segments of a path
-abbrev pub segments_from : Point → List Point → List Side
+abbrev pub segments_from : Point → List Point → List RingSide
 segments_from p [] = []
 segments_from p (q ∷ qs) = record { a = p; b = q } ∷ segments_from q qs
 
-abbrev pub segments : List Point → List Side
+abbrev pub segments : List Point → List RingSide
 segments [] = []
 segments (p ∷ ps) = segments_from p ps
 

@@ -14,7 +14,7 @@ use crate::property::{layers_from, properties_from};
 use gds_records::code::*;
 use gds_records::{Demand, RecordError, barred, has_code, next, points_in, unmet};
 use or_geom::{Items, Memory, Point};
-use rectilinear::{Side, is_straight};
+use rectilinear::{RingSide, is_straight};
 use std::alloc::Global;
 
 /// How a path's points are drawn: its width and the points.
@@ -92,7 +92,7 @@ fn are_straight(points: &[Point]) -> bool
     let mut from = *first;
     let mut rest = others;
     while let Some((next, after)) = rest.split_first() {
-        if !is_straight(Side { a: from, b: *next }) {
+        if !is_straight(RingSide { a: from, b: *next }) {
             return false;
         }
         from = *next;

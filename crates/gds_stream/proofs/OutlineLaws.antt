@@ -1,7 +1,7 @@
 -- A ring with its first corner again is its outline.
 use Rattle.std.proofs.Common.{◌≡◌, ◌≤◌, List, [], ◌∷◌, ◌++◌, length, Bool, true, cond, refl, ap, ◌∙◌, arith}
 use Rattle.or_geom.specs.declared.shape.Point.{Point}
-use Rattle.rectilinear.specs.declared.ring.Side.{Side}
+use Rattle.rectilinear.specs.declared.ring.RingSide.{RingSide}
 use Rattle.rectilinear.specs.Ring.{sides_on, side}
 use Rattle.rectilinear.specs.Corners.{is_zero, steps, turns, corners_of}
 use Rattle.gds_records.specs.Values.{IsShort}
@@ -18,13 +18,13 @@ last_again q [] p = refl
 last_again q (r ∷ ps) p = last_again r ps p
 
 -- a side that goes nowhere is dropped
-steps_more : (ss : List Side) (s : Side) → is_zero s ≡ true → steps (ss ++ s ∷ []) ≡ steps ss
+steps_more : (ss : List RingSide) (s : RingSide) → is_zero s ≡ true → steps (ss ++ s ∷ []) ≡ steps ss
 steps_more [] s zero = ap (λ (b : Bool). cond b [] (s ∷ [])) zero
-steps_more (t ∷ ts) s zero = ap (λ (l : List Side). cond (is_zero t) l (t ∷ l)) (steps_more ts s zero)
+steps_more (t ∷ ts) s zero = ap (λ (l : List RingSide). cond (is_zero t) l (t ∷ l)) (steps_more ts s zero)
 
 same_corners : (p : Point) (ps : List Point) → corners_of (closed_ring (p ∷ ps)) ≡ corners_of (p ∷ ps)
 same_corners p ps =
-    ap (λ (l : List Side). turns (steps l)) (sides_more p ps p p)
+    ap (λ (l : List RingSide). turns (steps l)) (sides_more p ps p p)
     ∙ ap turns (steps_more (sides_on p ps p) (side p p) (zero_side p))
 
 pub closed_outline : (ring : List Point) → IsWritableRing ring → IsOutline ring (points_bytes (closed_ring ring))

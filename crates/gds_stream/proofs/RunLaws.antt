@@ -5,10 +5,10 @@ use Rattle.std.specs.Int.{int_max, int_min}
 use Rattle.std.proofs.lemmas.List.{take_more, take_rest}
 use Rattle.std.specs.List.{AllByRecursion}
 use Rattle.or_geom.specs.declared.shape.Point.{Point}
-use Rattle.rectilinear.specs.declared.ring.Side.{Side}
+use Rattle.rectilinear.specs.declared.ring.RingSide.{RingSide}
 use Rattle.rectilinear.specs.Ring.{side, sides_on, sides_of}
 use Rattle.rectilinear.specs.Corners.{last_of, corners_of}
-use Rattle.rectilinear.specs.Simple.{IsBetween, IsOn, IsStraight, MeetAsNeighbours, MeetAcross, PairsMeet, AllStraight, IsSimple}
+use Rattle.rectilinear.specs.Simple.{LiesBetween, LiesOnSide, IsStraight, MeetAsNeighbours, MeetAcross, PairsMeet, AllStraight, IsSimple}
 use Rattle.rectilinear.specs.Extents.{HoldsSides}
 use Rattle.rectilinear.proofs.HullLaws.{apart_sides, pairs_parts}
 use Rattle.gds_library.specs.Values.{segments, segments_from, last_point}
@@ -50,12 +50,12 @@ holds_more points d k b wider lt w h =
     (all_more (IsWithinBounds wider) (take k points) (get_or points k d)
     (all_wider b wider (get_or points k d) w (take k points) h) w.holds)
 
-between_within : (a z b low high : ℤ) → IsBetween a z b → low ≤ℤ a → a ≤ℤ high → low ≤ℤ b → b ≤ℤ high
+between_within : (a z b low high : ℤ) → LiesBetween a z b → low ≤ℤ a → a ≤ℤ high → low ≤ℤ b → b ≤ℤ high
     → (low ≤ℤ z) × (z ≤ℤ high)
 between_within a z b low high (inl h) la ah lb bh = (omega (arith, ints, h.0), omega (arith, ints, h.1))
 between_within a z b low high (inr h) la ah lb bh = (omega (arith, ints, h.0), omega (arith, ints, h.1))
 
-side_within : (e : Bounds) (a b : Point) → IsWithinBounds e a → IsWithinBounds e b → (p : Point) → IsOn (side a b) p
+side_within : (e : Bounds) (a b : Point) → IsWithinBounds e a → IsWithinBounds e b → (p : Point) → LiesOnSide (side a b) p
     → IsWithinBounds e p
 side_within e a b ha hb p on =
     let x = between_within a.x p.x b.x e.low.x e.high.x on.in_x ha.left ha.right hb.left hb.right in
@@ -84,7 +84,7 @@ split_from : (p : Point) (ps : List Point) (m : ℕ) → m ≤ length ps
     → segments_from p ps ≡ segments_from p (take m ps) ++ segments (drop m (p ∷ ps))
 split_from p ps zero le = refl
 split_from p [] (suc m) le = absurd (omega (arith, le))
-split_from p (q ∷ qs) (suc m) le = ap (λ (l : List Side). side p q ∷ l) (split_from q qs m (omega (arith, le)))
+split_from p (q ∷ qs) (suc m) le = ap (λ (l : List RingSide). side p q ∷ l) (split_from q qs m (omega (arith, le)))
 
 -- a run is cut at a point, which both parts have
 split_run : (run : List Point) (m : ℕ) → m < length run
@@ -116,11 +116,11 @@ one_segment (p ∷ []) d is = absurd (omega (arith, is))
 one_segment (p ∷ q ∷ []) d is = refl
 one_segment (p ∷ q ∷ r ∷ ps) d is = absurd (omega (arith, is))
 
-pub one_across : (ss ts : List Side) (s t : Side) → ss ≡ s ∷ [] → ts ≡ t ∷ [] → MeetAcross ss ts ↔ MeetAsNeighbours s t
+pub one_across : (ss ts : List RingSide) (s t : RingSide) → ss ≡ s ∷ [] → ts ≡ t ∷ [] → MeetAcross ss ts ↔ MeetAsNeighbours s t
 one_across ss ts s t is are =
     let both : MeetAcross (s ∷ []) (t ∷ []) ↔ MeetAsNeighbours s t = (λ m. m.0.0, λ m. ((m, tt), tt)) in
-    subst (λ (xs : List Side). MeetAcross xs ts ↔ MeetAsNeighbours s t) (sym is)
-    (subst (λ (xs : List Side). MeetAcross (s ∷ []) xs ↔ MeetAsNeighbours s t) (sym are) both)
+    subst (λ (xs : List RingSide). MeetAcross xs ts ↔ MeetAsNeighbours s t) (sym is)
+    (subst (λ (xs : List RingSide). MeetAcross (s ∷ []) xs ↔ MeetAsNeighbours s t) (sym are) both)
 
 -- rings
 
@@ -128,21 +128,21 @@ one_across ss ts s t is are =
 back_side : (p : Point) (ps : List Point) (end : Point)
     → sides_on p ps end ≡ segments_from p ps ++ side (last_point p ps) end ∷ []
 back_side p [] end = refl
-back_side p (q ∷ qs) end = ap (λ (l : List Side). side p q ∷ l) (back_side q qs end)
+back_side p (q ∷ qs) end = ap (λ (l : List RingSide). side p q ∷ l) (back_side q qs end)
 
-straight_parts : (ss : List Side) (s : Side) → AllStraight (ss ++ s ∷ []) ↔ (AllStraight ss × IsStraight s)
+straight_parts : (ss : List RingSide) (s : RingSide) → AllStraight (ss ++ s ∷ []) ↔ (AllStraight ss × IsStraight s)
 straight_parts [] s = (λ h. (tt, h.0), λ h. (h.1, tt))
 straight_parts (t ∷ ts) s =
     let more = straight_parts ts s in (λ h. ((h.0, (more.0 h.1).0), (more.0 h.1).1), λ h. (h.0.0, more.1 (h.0.1, h.1)))
 
-last_on : (p : Point) (ps : List Point) (end : Point) (s : Side)
+last_on : (p : Point) (ps : List Point) (end : Point) (s : RingSide)
     → last_of s (sides_on p ps end) ≡ side (last_point p ps) end
 last_on p [] end s = refl
 last_on p (q ∷ qs) end s = last_on q qs end (side p q)
 
-last_in_ring : (s : Side) (ss : List Side) (w : Side) → last_of s ss ≡ w → Turning w (s ∷ ss) ↔ AreTurning (s ∷ ss)
+last_in_ring : (s : RingSide) (ss : List RingSide) (w : RingSide) → last_of s ss ≡ w → Turning w (s ∷ ss) ↔ AreTurning (s ∷ ss)
 last_in_ring s ss w is =
-    (λ h. subst (λ (v : Side). Turning v (s ∷ ss)) (sym is) h, λ h. subst (λ (v : Side). Turning v (s ∷ ss)) is h)
+    (λ h. subst (λ (v : RingSide). Turning v (s ∷ ss)) (sym is) h, λ h. subst (λ (v : RingSide). Turning v (s ∷ ss)) is h)
 
 ring_turns : (p : Point) (ps : List Point)
     → Turning (side (last_point p ps) p) (sides_on p ps p) ↔ AreTurning (sides_on p ps p)
@@ -150,7 +150,7 @@ ring_turns p [] = last_in_ring (side p p) [] (side p p) refl
 ring_turns p (q ∷ qs) = last_in_ring (side p q) (sides_on q qs p) (side (last_point q qs) p) (last_on q qs p (side p q))
 
 -- what the tests of a ring say together
-pub record IsTestedRing (corners others : List Point) (last : Side) : Type 0 where
+pub record IsTestedRing (corners others : List Point) (last : RingSide) : Type 0 where
   pub four : 4 ≤ length corners
   pub straight : AllStraight (segments corners)
   pub last_straight : IsStraight last
@@ -162,7 +162,7 @@ tested : (p : Point) (ps : List Point)
     → (IsSimple (p ∷ ps) × (corners_of (p ∷ ps) ≡ p ∷ ps)) ↔ IsTestedRing (p ∷ ps) ps (side (last_point p ps) p)
 tested p ps = (to, from)
   where
-    end : Side
+    end : RingSide
     end = side (last_point p ps) p
 
     all : sides_on p ps p ≡ segments_from p ps ++ end ∷ []
@@ -192,10 +192,10 @@ tested p ps = (to, from)
         let simple : IsSimple (p ∷ ps) = record { four = t.four; straight = straight; meet = meet } in
         (simple, nothing_dropped (p ∷ ps) straight ((ring_turns p ps).0 t.turning))
 
-pub simple_ring : (corners : List Point) (p : Point) (ps : List Point) (last : Side) → corners ≡ p ∷ ps
+pub simple_ring : (corners : List Point) (p : Point) (ps : List Point) (last : RingSide) → corners ≡ p ∷ ps
     → last ≡ side (last_point p ps) p
     → (IsSimple corners × (corners_of corners ≡ corners)) ↔ IsTestedRing corners ps last
 simple_ring corners p ps last parts is =
     subst (λ (l : List Point). (IsSimple l × (corners_of l ≡ l)) ↔ IsTestedRing l ps last) (sym parts)
-    (subst (λ (s : Side). (IsSimple (p ∷ ps) × (corners_of (p ∷ ps) ≡ p ∷ ps)) ↔ IsTestedRing (p ∷ ps) ps s) (sym is)
+    (subst (λ (s : RingSide). (IsSimple (p ∷ ps) × (corners_of (p ∷ ps) ≡ p ∷ ps)) ↔ IsTestedRing (p ∷ ps) ps s) (sym is)
     (tested p ps))

@@ -2,7 +2,7 @@
 use Rattle.std.specs.Prelude.{List}
 use Rattle.std.specs.List.{AllByRecursion}
 use Rattle.or_geom.specs.declared.shape.Point.{Point}
-use Rattle.rectilinear.specs.declared.ring.Side.{Side}
+use Rattle.rectilinear.specs.declared.ring.RingSide.{RingSide}
 use Rattle.rectilinear.specs.Extents.{IsWithinExtent, IsExtentOf, IsCommon, IsEmpty, IsAtMostPoint}
 use Rattle.gds_stream.specs.declared.side_pairs.Bounds.{Bounds}
 
@@ -10,7 +10,7 @@ abbrev pub IsWithinBounds : Bounds → Point → Type 0
 IsWithinBounds b p = IsWithinExtent (record { low = b.low; high = b.high }) p
 
 -- exactly the points of the side lie within
-abbrev pub AreBoundsOf : Side → Bounds → Type 0
+abbrev pub AreBoundsOf : RingSide → Bounds → Type 0
 AreBoundsOf s b = IsExtentOf s (record { low = b.low; high = b.high })
 
 -- exactly what lies within both boxes lies within the third

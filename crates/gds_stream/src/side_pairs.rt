@@ -4,7 +4,7 @@ ghost use Rattle.gds_stream.specs.Bounds.{AreBoundsOf, AreCommonBounds, AreEmpty
 ghost use Rattle.gds_stream.specs.Bounds.{IsWidened};
 
 use or_geom::Point;
-use rectilinear::Side;
+use rectilinear::RingSide;
 
 /// The closed box from one corner to another; it is empty where the second lies below or left of the first.
 #[derive(Clone, Copy)]
@@ -49,7 +49,7 @@ pub(crate) fn bounds_of(points: &[Point]) -> Bounds
     bounds
 }
 
-fn bounds_of_side(side: Side) -> Bounds
+fn bounds_of_side(side: RingSide) -> Bounds
     ensures { AreBoundsOf side result }
 {
     Bounds {
@@ -111,7 +111,7 @@ fn is_at_most(bounds: Bounds, point: Point) -> bool
     false
 }
 
-fn meet_at_most_there(s: Side, t: Side) -> bool
+fn meet_at_most_there(s: RingSide, t: RingSide) -> bool
     ensures { IsTrue result ↔ MeetAtMostThere s t }
 {
     let both = common(bounds_of_side(s), bounds_of_side(t));
@@ -122,7 +122,7 @@ fn meet_at_most_there(s: Side, t: Side) -> bool
 }
 
 /// Whether two sides meet only as neighbours, at the corner between them.
-pub(crate) fn meet_as_neighbours(s: Side, t: Side) -> bool
+pub(crate) fn meet_as_neighbours(s: RingSide, t: RingSide) -> bool
     ensures { IsTrue result ↔ MeetAsNeighbours s t }
 {
     if meet_at_most_there(s, t) {

@@ -7,7 +7,7 @@ ghost use Rattle.gds_library.proofs.TurnLaws.{Turning};
 
 use crate::side_pairs::{bounds_of, common, is_empty, meet_as_neighbours};
 use or_geom::Point;
-use rectilinear::{Side, is_straight};
+use rectilinear::{RingSide, is_straight};
 
 /// Whether each segment of a run of points is parallel to an axis and longer than zero.
 pub(crate) fn are_straight(run: &[Point]) -> bool
@@ -19,7 +19,7 @@ pub(crate) fn are_straight(run: &[Point]) -> bool
     let mut from = *first;
     let mut rest = others;
     while let Some((next, after)) = rest.split_first() {
-        if !is_straight(Side { a: from, b: *next }) {
+        if !is_straight(RingSide { a: from, b: *next }) {
             return false;
         }
         from = *next;
@@ -39,11 +39,11 @@ fn halves(run: &[Point]) -> (&[Point], &[Point])
     (&run[..middle + 1], &run[middle..])
 }
 
-fn side_in(run: &[Point]) -> Side
+fn side_in(run: &[Point]) -> RingSide
     requires { length run.now ≡ 2 }
     ensures { segments run.now ≡ result ∷ [] }
 {
-    Side {
+    RingSide {
         a: run[0],
         b: run[1],
     }
@@ -86,7 +86,7 @@ fn run_meets(run: &[Point]) -> bool
 }
 
 /// The side from the last corner of a ring back to the first.
-fn last_side(first: Point, others: &[Point]) -> Side
+fn last_side(first: Point, others: &[Point]) -> RingSide
     ensures { result ≡ side (last_point first others.now) first }
 {
     let mut last = first;
@@ -95,35 +95,35 @@ fn last_side(first: Point, others: &[Point]) -> Side
         last = *next;
         rest = after;
     }
-    Side { a: last, b: first }
+    RingSide { a: last, b: first }
 }
 
-fn rises(side: Side) -> bool
+fn rises(side: RingSide) -> bool
     ensures { result ≡ is_up side }
 {
     side.a.x == side.b.x && side.a.y < side.b.y
 }
 
-fn falls(side: Side) -> bool
+fn falls(side: RingSide) -> bool
     ensures { result ≡ is_down side }
 {
     side.a.x == side.b.x && side.b.y < side.a.y
 }
 
-fn leads_right(side: Side) -> bool
+fn leads_right(side: RingSide) -> bool
     ensures { result ≡ is_right side }
 {
     side.a.y == side.b.y && side.a.x < side.b.x
 }
 
-fn leads_left(side: Side) -> bool
+fn leads_left(side: RingSide) -> bool
     ensures { result ≡ is_left side }
 {
     side.a.y == side.b.y && side.b.x < side.a.x
 }
 
 /// Whether the second side goes the way of the first.
-fn goes_on(s: Side, t: Side) -> bool
+fn goes_on(s: RingSide, t: RingSide) -> bool
     ensures { result ≡ is_run s t }
 {
     if rises(s) {
@@ -143,14 +143,14 @@ fn goes_on(s: Side, t: Side) -> bool
 
 /// Whether no side of a ring goes on as the one before it: of the side that comes back to the first corner, and those
 /// through the others.
-fn turns_everywhere(last: Side, others: &[Point]) -> bool
+fn turns_everywhere(last: RingSide, others: &[Point]) -> bool
     ensures { IsTrue result ↔ Turning last (sides_on last.b others.now last.b) }
 {
     let first = last.b;
     let mut before = last;
     let mut rest = others;
     while let Some((next, after)) = rest.split_first() {
-        let side = Side {
+        let side = RingSide {
             a: before.b,
             b: *next,
         };
@@ -162,7 +162,7 @@ fn turns_everywhere(last: Side, others: &[Point]) -> bool
     }
     !goes_on(
         before,
-        Side {
+        RingSide {
             a: before.b,
             b: first,
         },

@@ -10,7 +10,7 @@ use Rattle.sram_plan.specs.PlanNumbers.{used_groups}
 use Rattle.kit_check.specs.declared.window.WordSizes.{WordSizes}
 use Rattle.kit_check.specs.Windows.{all_windows, plan_of, window_rows, window_words, window_banks, word_sizes, sizes_of_word, window_with, windows_of_rows, windows_of_words, windows_of_size, bits_of_count}
 use Rattle.good_places.specs.Windows.{IsWindowOf, with_bits}
-use Rattle.good_windows.specs.Listed.{IsListed, WindowsAreListed}
+use Rattle.good_windows.specs.Listed.{IsPlanOfWindow, WindowsAreListed}
 
 in_flat : {X Y : Type 0} (f : X → List Y) (xs : List X) (x : X) (y : Y) → Contains xs x → Contains (f x) y → Contains (flat_map f xs) y
 in_flat f [] x y has inner = absurd (contains_none x has)
@@ -72,7 +72,7 @@ same_memory word write masks m b c bb cc g gg em eb ec eg =
     ∙ ap (λ (z : List ℕ). memory word write masks bb cc z) eg))
 
 module _ (plan : Organization) (rows : ℕ) (row : Contains window_rows rows) (groups : plan.groups ≡ used_groups (row_groups rows)) (few : plan.col_bits ≤ 3) (small : plan.bank_bits ≤ 2) where
-  pub with_size : (word write masks : ℕ) → IsSize word write masks → IsListed (with_bits plan word write masks)
+  pub with_size : (word write masks : ℕ) → IsSize word write masks → IsPlanOfWindow (with_bits plan word write masks)
   with_size word write masks size =
       let w = words_of plan.col_bits few in
       let b = banks_of_bits plan.bank_bits small in
@@ -82,9 +82,9 @@ module _ (plan : Organization) (rows : ℕ) (row : Contains window_rows rows) (g
         is = same_memory word write masks _ _ _ plan.bank_bits plan.col_bits _ plan.groups size.masks_are b.2 w.2 (sym groups);
       }
 
-  pub which : (other : Organization) → IsWindowOf plan other → IsListed other
-  which other (inl (k, some, few, e)) = subst IsListed (sym e) (with_size k k 0 (all_at_once k some few))
-  which other (inr e) = subst IsListed (sym e) (with_size 3 1 3 (one_by_one 3 (omega arith) (omega arith)))
+  pub which : (other : Organization) → IsWindowOf plan other → IsPlanOfWindow other
+  which other (inl (k, some, few, e)) = subst IsPlanOfWindow (sym e) (with_size k k 0 (all_at_once k some few))
+  which other (inr e) = subst IsPlanOfWindow (sym e) (with_size 3 1 3 (one_by_one 3 (omega arith) (omega arith)))
 
 pub windows_are_listed : WindowsAreListed
 windows_are_listed plan other rows row groups few small is = which plan rows row groups few small other is

@@ -17,7 +17,7 @@ use Rattle.net_extractor.specs.Binding.{Binds, IsUnder}
 use Rattle.leaf_shapes.specs.declared.fit.CellSize.{CellSize}
 use Rattle.leaf_shapes.specs.declared.fit.Fit.{Fit}
 use Rattle.leaf_shapes.specs.declared.fit.Fit.TheVariants.{Top, Bottom, TopAndBottom, Left, Right, LeftAndRight, Anywhere, LowerRail, UpperRail}
-use Rattle.leaf_shapes.specs.Fits.{FitsCell, IsAcross, IsUpward, Spans}
+use Rattle.leaf_shapes.specs.Fits.{FitsCell, IsAcross, IsWireHigh, Spans}
 use Rattle.kit_answers.proofs.DecidingLaws.{Decided, all_or_first, decide_at_most, decide_both, decide_int, decide_like, good_contained, turned}
 
 -- four facts that each hold or not
@@ -90,7 +90,7 @@ decide_binds shapes label shape listed =
 decide_across : (wire : ℤ) (r : Rect) → Decided (IsAcross wire r)
 decide_across wire r = decide_int (r.x2 -ℤ r.x1) wire
 
-decide_upward : (wire : ℤ) (r : Rect) → Decided (IsUpward wire r)
+decide_upward : (wire : ℤ) (r : Rect) → Decided (IsWireHigh wire r)
 decide_upward wire r = decide_int (r.y2 -ℤ r.y1) wire
 
 decide_spans : (size : CellSize) (r : Rect) → Decided (Spans size r)
@@ -106,9 +106,9 @@ decide_fits Top wire size r = decide_both (r.y2 ≡ size.height) (IsAcross wire 
 decide_fits Bottom wire size r = decide_both (r.y1 ≡ pos 0) (IsAcross wire r) (decide_int r.y1 (pos 0)) (decide_across wire r)
 decide_fits TopAndBottom wire size r =
     decide_three (r.y2 ≡ size.height) (r.y1 ≡ pos 0) (IsAcross wire r) (decide_int r.y2 size.height) (decide_int r.y1 (pos 0)) (decide_across wire r)
-decide_fits Left wire size r = decide_both (r.x1 ≡ pos 0) (IsUpward wire r) (decide_int r.x1 (pos 0)) (decide_upward wire r)
-decide_fits Right wire size r = decide_both (r.x2 ≡ size.width) (IsUpward wire r) (decide_int r.x2 size.width) (decide_upward wire r)
-decide_fits LeftAndRight wire size r = decide_both (Spans size r) (IsUpward wire r) (decide_spans size r) (decide_upward wire r)
+decide_fits Left wire size r = decide_both (r.x1 ≡ pos 0) (IsWireHigh wire r) (decide_int r.x1 (pos 0)) (decide_upward wire r)
+decide_fits Right wire size r = decide_both (r.x2 ≡ size.width) (IsWireHigh wire r) (decide_int r.x2 size.width) (decide_upward wire r)
+decide_fits LeftAndRight wire size r = decide_both (Spans size r) (IsWireHigh wire r) (decide_spans size r) (decide_upward wire r)
 decide_fits Anywhere wire size r = decide_upward wire r
 decide_fits LowerRail wire size r =
     decide_three (Spans size r) (r.y1 ≡ pos 0) (r.y2 ≡ wire) (decide_spans size r) (decide_int r.y1 (pos 0)) (decide_int r.y2 wire)

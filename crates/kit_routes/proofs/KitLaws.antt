@@ -12,7 +12,7 @@ use Rattle.leaf_tables.specs.declared.kit.Leaf.{Leaf}
 use Rattle.leaf_tables.specs.Alignment.{leaf_in}
 use Rattle.leaf_tables.specs.Kits.{IsKit}
 use Rattle.floorplan.specs.LeafSides.{side_of, leaf_width}
-use Rattle.floorplan.specs.LayoutOfKit.{layout_kit, pin_on, port_name, layer_of_metal, shape_on, pin_shape, shape_or_square}
+use Rattle.floorplan.specs.LayoutOfKit.{layout_kit, pin_on, port_name, layer_of_metal, pin_rect, pin_shape, shape_or_square}
 use Rattle.floorplan.proofs.SideLaws.{width_is}
 use Rattle.bank_layout.proofs.PinLaws.{inside_leaf}
 use Rattle.spacing_laws.proofs.RepeatLaws.{IsInStep}
@@ -45,11 +45,11 @@ pin_begins kit is role r k leaf there pin at same =
     let side = (width_is kit is role leaf there).is in
     subst (λ (q : Rect). IsInStep (leaf_width kit role) q.x1) same (record { above = left; below = omega (arith, ints, right, wide, side) })
 
-named_begins : (kit : Kit) → IsKit kit → (role : Role) (name : List ℕ) (layer : Option ℕ) (r : Rect) → option_and_then (shape_on (leaf_in kit.leaves role) name) layer ≡ Some r → IsInStep (leaf_width kit role) r.x1
+named_begins : (kit : Kit) → IsKit kit → (role : Role) (name : List ℕ) (layer : Option ℕ) (r : Rect) → option_and_then (pin_rect (leaf_in kit.leaves role) name) layer ≡ Some r → IsInStep (leaf_width kit role) r.x1
 named_begins kit is role name None r e = not_none (IsInStep (leaf_width kit role) r.x1) r e
 named_begins kit is role name (Some layer) r e =
     let leaf = leaf_exists kit is role in
-    by leaf.0 leaf.1 (pin_on leaf.0.pins name layer) refl (ap (λ (l : Option Leaf). shape_on l name layer) (sym leaf.1) ∙ e)
+    by leaf.0 leaf.1 (pin_on leaf.0.pins name layer) refl (ap (λ (l : Option Leaf). pin_rect l name layer) (sym leaf.1) ∙ e)
   where
     by : (leaf : Leaf) → leaf_in kit.leaves role ≡ Some leaf → (o : Option LeafPin) → pin_on leaf.pins name layer ≡ o → option_map (λ (pin : LeafPin). pin.rect) o ≡ Some r → IsInStep (leaf_width kit role) r.x1
     by leaf there None is_found e = not_none (IsInStep (leaf_width kit role) r.x1) r e
@@ -58,7 +58,7 @@ named_begins kit is role name (Some layer) r e =
         pin_begins kit is role r at.0 leaf there pin at.1 (same_Some pin.rect r e)
 
 port_begins : (kit : Kit) → IsKit kit → (role : Role) (name : Option (List ℕ)) (metal : ℕ) (r : Rect)
-    → option_and_then (λ (n : List ℕ). option_and_then (shape_on (leaf_in kit.leaves role) n) (layer_of_metal kit.tech.wire metal)) name ≡ Some r → IsInStep (leaf_width kit role) r.x1
+    → option_and_then (λ (n : List ℕ). option_and_then (pin_rect (leaf_in kit.leaves role) n) (layer_of_metal kit.tech.wire metal)) name ≡ Some r → IsInStep (leaf_width kit role) r.x1
 port_begins kit is role None metal r e = not_none (IsInStep (leaf_width kit role) r.x1) r e
 port_begins kit is role (Some name) metal r e = named_begins kit is role name (layer_of_metal kit.tech.wire metal) r e
 

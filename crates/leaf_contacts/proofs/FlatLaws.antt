@@ -16,7 +16,7 @@ use Rattle.tech_rules.specs.declared.tech.Layer.{Layer}
 use Rattle.tech_rules.specs.declared.tech.Tech.{Tech}
 use Rattle.tech_rules.specs.WireRules.{has_numbers}
 use Rattle.element_drawing.specs.Drawing.{IsDrawing}
-use Rattle.element_drawing.specs.OwnShapes.{AreOn, AreOwnShapes, layer_of, layer_with_numbers, on_layer}
+use Rattle.element_drawing.specs.OwnShapes.{AreOn, AreOwnShapes, element_layer, layer_with_numbers, on_layer}
 use Rattle.cell_chains.specs.Chains.{elements_of, IsSound}
 use Rattle.cell_chains.proofs.MemberLaws.{image_from}
 use Rattle.cell_hierarchy.specs.FlatLists.{AreFlatShapes}
@@ -35,7 +35,7 @@ layer_within : (layers : List Layer) (number datatype : ℤ) (layer : ℕ) → l
 layer_within [] number datatype layer is = absurd cc
 layer_within (l ∷ layers) number datatype layer is = (position-Some (has_numbers number datatype) (l ∷ layers) layer l is).0
 
-layer_below : (layers : List Layer) (e : Element) (layer : ℕ) → layer_of layers e ≡ Some layer → layer < length layers
+layer_below : (layers : List Layer) (e : Element) (layer : ℕ) → element_layer layers e ≡ Some layer → layer < length layers
 layer_below layers (Boundary number datatype points props) layer is = layer_within layers number datatype layer is
 layer_below layers (Path number datatype kind width points props) layer is = layer_within layers number datatype layer is
 layer_below layers (Sref name place props) layer is = absurd cc
@@ -52,7 +52,7 @@ drawn_on layers (Some layer) IsDrawn shapes s below on h =
 own_on_layer : (layers : List Layer) (es : List Element) (shapes : List Shape) (s : Shape) → AreOwnShapes layers es shapes → Contains shapes s → s.layer < length layers
 own_on_layer layers [] shapes s own h = absurd (contains_none s (subst (λ (l : List Shape). Contains l s) own h))
 own_on_layer layers (e ∷ es) shapes s own h = elim (Contains-append_cases own.0 own.1 s (subst (λ (l : List Shape). Contains l s) own.4 h)) [
-  | inl first ↦ drawn_on layers (layer_of layers e) (IsDrawing e) own.0 s (layer_below layers e) own.2 first
+  | inl first ↦ drawn_on layers (element_layer layers e) (IsDrawing e) own.0 s (layer_below layers e) own.2 first
   | inr rest ↦ own_on_layer layers es own.1 s own.3 rest
 ]
 

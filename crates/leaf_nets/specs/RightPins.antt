@@ -24,14 +24,14 @@ abbrev pub IsOneNet : List Connect → FlatLists → List ℕ → Type 0
 IsOneNet connections lists pin = (s t : Shape) → BindsForPin lists pin s → BindsForPin lists pin t → AreOnOneNet connections lists.shapes s t
 
 -- no shape that a label of one pin binds is on one net with one that a label of the other binds
-abbrev pub ArePinsApart : List Connect → FlatLists → List ℕ → List ℕ → Type 0
-ArePinsApart connections lists pin other = (s t : Shape) → BindsForPin lists pin s → BindsForPin lists other t → AreOnOneNet connections lists.shapes s t → ⊥
+abbrev pub AreOnOtherNets : List Connect → FlatLists → List ℕ → List ℕ → Type 0
+AreOnOtherNets connections lists pin other = (s t : Shape) → BindsForPin lists pin s → BindsForPin lists other t → AreOnOneNet connections lists.shapes s t → ⊥
 
 -- The labels of the pin at this place are right, alone and with those of the pins before it.
 pub record IsRightPin (connections : List Connect) (lists : FlatLists) (pins : List (List ℕ)) (place : ℕ) (pin : List ℕ) : Type 0 where
   pub bound : IsBound lists pin
   pub one : IsOneNet connections lists pin
-  pub apart : (earlier : ℕ) (other : List ℕ) → earlier < place → slice_get pins earlier ≡ Some other → ArePinsApart connections lists other pin
+  pub apart : (earlier : ℕ) (other : List ℕ) → earlier < place → slice_get pins earlier ≡ Some other → AreOnOtherNets connections lists other pin
 
 -- those of the pins before this place are right
 abbrev pub ArePinsRightBefore : List Connect → FlatLists → List (List ℕ) → ℕ → Type 0

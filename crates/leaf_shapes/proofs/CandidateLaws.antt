@@ -17,7 +17,7 @@ use Rattle.cell_hierarchy.specs.Plain.{plain_label}
 use Rattle.element_drawing.specs.PlainLabel.{PlainLabel}
 use Rattle.net_extractor.specs.declared.label.Anchor.{Anchor}
 use Rattle.net_extractor.specs.Binding.{IsUnder, Binds, BindsNone}
-use Rattle.leaf_shapes.specs.declared.candidate.Wanted.{Wanted}
+use Rattle.leaf_shapes.specs.declared.candidate.WantedShape.{WantedShape}
 use Rattle.leaf_shapes.specs.Candidates.{anchor_at, NoCandidate, IsFirstCandidate}
 use Rattle.leaf_shapes.specs.Wanted.{IsWanted, GivesShape, GivesNone}
 use Rattle.leaf_shapes.proofs.PlaceLaws.{EachBefore, at_contained, sorted_at}
@@ -66,10 +66,10 @@ one_bound shapes label s t rises a b =
     ]
 
 -- a label that binds no shape gives none, nor does one that binds a shape which is not as wanted
-pub unbound_gives : (wanted : Wanted) (shapes : List Shape) (pin : List ℕ) (label : PlainLabel) → BindsNone shapes (anchor_at label) → GivesNone wanted shapes pin label
+pub unbound_gives : (wanted : WantedShape) (shapes : List Shape) (pin : List ℕ) (label : PlainLabel) → BindsNone shapes (anchor_at label) → GivesNone wanted shapes pin label
 unbound_gives wanted shapes pin label none s g = none s g.binds.listed g.binds.under
 
-pub unwanted_gives : (wanted : Wanted) (shapes : List Shape) (pin : List ℕ) (label : PlainLabel) (s : Shape) → IsStrictlySortedBy shape_order shapes → Binds shapes (anchor_at label) s → (IsWanted wanted s → ⊥) → GivesNone wanted shapes pin label
+pub unwanted_gives : (wanted : WantedShape) (shapes : List Shape) (pin : List ℕ) (label : PlainLabel) (s : Shape) → IsStrictlySortedBy shape_order shapes → Binds shapes (anchor_at label) s → (IsWanted wanted s → ⊥) → GivesNone wanted shapes pin label
 unwanted_gives wanted shapes pin label s rises binds not t g = not (subst (IsWanted wanted) (one_bound shapes (anchor_at label) t s rises g.binds binds) g.is)
 
 -- the label at a place
@@ -77,7 +77,7 @@ pub plain_at : (labels : List Label) (i : ℕ) (label : Label) → slice_get lab
 plain_at labels i label at = slice_get-map plain_label labels i ∙ ap (option_map plain_label) at
 
 -- the first label that gives a shape
-pub first_gives : (wanted : Wanted) (shapes : List Shape) (pin : List ℕ) (labels : List PlainLabel) (i : ℕ) (label : PlainLabel) (s : Shape) → slice_get labels i ≡ Some label → GivesShape wanted shapes pin label s
+pub first_gives : (wanted : WantedShape) (shapes : List Shape) (pin : List ℕ) (labels : List PlainLabel) (i : ℕ) (label : PlainLabel) (s : Shape) → slice_get labels i ≡ Some label → GivesShape wanted shapes pin label s
     → EachBefore (GivesNone wanted shapes pin) labels i → IsFirstCandidate (IsWanted wanted) shapes labels pin s
 first_gives wanted shapes pin labels i label s here g before = record {
   place = i;
@@ -87,7 +87,7 @@ first_gives wanted shapes pin labels i label s here g before = record {
 }
 
 -- no label gives one
-pub none_give : (wanted : Wanted) (shapes : List Shape) (pin : List ℕ) (labels : List PlainLabel) (i : ℕ) → length labels ≤ i → EachBefore (GivesNone wanted shapes pin) labels i → NoCandidate (IsWanted wanted) shapes labels pin
+pub none_give : (wanted : WantedShape) (shapes : List Shape) (pin : List ℕ) (labels : List PlainLabel) (i : ℕ) → length labels ≤ i → EachBefore (GivesNone wanted shapes pin) labels i → NoCandidate (IsWanted wanted) shapes labels pin
 none_give wanted shapes pin labels i all before h =
     let lt = slice_get_within labels h.place h.bound.label h.bound.there in
     before h.place h.bound.label (omega (arith, lt, all)) h.bound.there h.shape (record { of = h.bound.of; binds = h.bound.binds; is = h.has })

@@ -7,7 +7,7 @@ use Rattle.std.proofs.lemmas.Option.{slice_get-map, slice_get_within, slice_get_
 use Rattle.or_geom.specs.declared.shape.Shape.{Shape}
 use Rattle.or_geom.proofs.ListLaws.{one_at}
 use Rattle.element_drawing.specs.PlainLabel.{PlainLabel}
-use Rattle.leaf_shapes.specs.declared.demand.Demand.{Demand}
+use Rattle.leaf_shapes.specs.declared.demand.PinRequirement.{PinRequirement}
 use Rattle.leaf_shapes.specs.declared.fault.PinFault.TheVariants.{PinMissing, PinLayer, EdgePin}
 use Rattle.leaf_shapes.specs.declared.pins.LeafPin.{LeafPin}
 use Rattle.leaf_shapes.specs.Candidates.{HasCandidate, NoCandidate, IsFirstCandidate}
@@ -82,7 +82,7 @@ pins_lack cell demands pins i demand here unmet b = record {
 }
 
 -- the demand at a place
-pub plain_at : (demands : List Demand) (i : ℕ) (demand : Demand) → slice_get demands i ≡ Some demand → slice_get (map plain_demand demands) i ≡ Some (plain_demand demand)
+pub plain_at : (demands : List PinRequirement) (i : ℕ) (demand : PinRequirement) → slice_get demands i ≡ Some demand → slice_get (map plain_demand demands) i ≡ Some (plain_demand demand)
 plain_at demands i demand at = slice_get-map plain_demand demands i ∙ ap (option_map plain_demand) at
 
 -- what is not true

@@ -3,7 +3,7 @@ use Rattle.std.specs.Prelude.{ℕ, List, [], ◌∷◌, slice_index, codes}
 use Rattle.cell_roles.specs.declared.role.Role.{Role}
 use Rattle.cell_roles.specs.declared.role.Role.TheVariants.{Bitcell, Precharge, Mux, Tie, Sense, Write, RowNand2, RowNand3, Driver, Nand2, Nand3, Inv, Dff, Delay}
 use Rattle.tech_rules.specs.declared.tech.Wire.{Wire}
-use Rattle.leaf_shapes.specs.declared.demand.Demand.{Demand}
+use Rattle.leaf_shapes.specs.declared.demand.PinRequirement.{PinRequirement}
 use Rattle.leaf_shapes.specs.declared.demand.Metal.{Metal}
 use Rattle.leaf_shapes.specs.declared.demand.Metal.TheVariants.{M1, M2, M3, M4}
 use Rattle.leaf_shapes.specs.declared.fit.Fit.{Fit}
@@ -15,7 +15,7 @@ pub record PinDemand : Type 0 where
   pub metal : Metal
   pub fit : Fit
 
-abbrev pub plain_demand : Demand → PinDemand
+abbrev pub plain_demand : PinRequirement → PinDemand
 plain_demand d = record { pin = d.0.now; metal = d.1; fit = d.2 }
 
 abbrev pub draw : List ℕ → Metal → Fit → PinDemand

@@ -10,8 +10,8 @@ abbrev pub IsAcross : ℤ → Rect → Type 0
 IsAcross wire r = r.x2 -ℤ r.x1 ≡ wire
 
 -- it is as high as a wire is wide
-abbrev pub IsUpward : ℤ → Rect → Type 0
-IsUpward wire r = r.y2 -ℤ r.y1 ≡ wire
+abbrev pub IsWireHigh : ℤ → Rect → Type 0
+IsWireHigh wire r = r.y2 -ℤ r.y1 ≡ wire
 
 -- it goes from the cell's left edge to its right edge
 abbrev pub Spans : CellSize → Rect → Type 0
@@ -21,9 +21,9 @@ abbrev pub FitsCell : Fit → ℤ → CellSize → Rect → Type 0
 FitsCell Top wire size r = (r.y2 ≡ size.height) × IsAcross wire r
 FitsCell Bottom wire size r = (r.y1 ≡ pos 0) × IsAcross wire r
 FitsCell TopAndBottom wire size r = (r.y2 ≡ size.height) × (r.y1 ≡ pos 0) × IsAcross wire r
-FitsCell Left wire size r = (r.x1 ≡ pos 0) × IsUpward wire r
-FitsCell Right wire size r = (r.x2 ≡ size.width) × IsUpward wire r
-FitsCell LeftAndRight wire size r = Spans size r × IsUpward wire r
-FitsCell Anywhere wire size r = IsUpward wire r
+FitsCell Left wire size r = (r.x1 ≡ pos 0) × IsWireHigh wire r
+FitsCell Right wire size r = (r.x2 ≡ size.width) × IsWireHigh wire r
+FitsCell LeftAndRight wire size r = Spans size r × IsWireHigh wire r
+FitsCell Anywhere wire size r = IsWireHigh wire r
 FitsCell LowerRail wire size r = Spans size r × (r.y1 ≡ pos 0) × (r.y2 ≡ wire)
 FitsCell UpperRail wire size r = Spans size r × (r.y1 ≡ size.height -ℤ wire) × (r.y2 ≡ size.height)

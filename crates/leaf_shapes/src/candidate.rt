@@ -13,7 +13,7 @@ use shape_bins::Bins;
 
 /// What a pin's shape is wanted to be.
 #[derive(Clone, Copy)]
-pub enum Wanted {
+pub enum WantedShape {
     Any,
     OnLayer(u16),
     Fitting {
@@ -25,13 +25,13 @@ pub enum Wanted {
 }
 
 /// Whether the shape is as wanted.
-fn is_wanted(wanted: Wanted, shape: Shape) -> bool
+fn is_wanted(wanted: WantedShape, shape: Shape) -> bool
     ensures { IsTrue result ↔ IsWanted wanted shape }
 {
     match wanted {
-        Wanted::Any => true,
-        Wanted::OnLayer(layer) => shape.layer == layer,
-        Wanted::Fitting {
+        WantedShape::Any => true,
+        WantedShape::OnLayer(layer) => shape.layer == layer,
+        WantedShape::Fitting {
             layer,
             fit,
             size,
@@ -76,7 +76,7 @@ fn bound_shape(bins: &Bins, label: &Label) -> Option<Shape>
 }
 
 /// The shape that the label binds, if the label is one of the pin's and the shape is as wanted.
-fn wanted_shape(bins: &Bins, label: &Label, pin: &str, wanted: Wanted) -> Option<Shape>
+fn wanted_shape(bins: &Bins, label: &Label, pin: &str, wanted: WantedShape) -> Option<Shape>
     requires { IsStrictlySortedBy shape_order bins.now }
     ensures { MatchOption result (GivesNone wanted bins.now pin.now (plain_label label.now))
         (GivesShape wanted bins.now pin.now (plain_label label.now)) }
@@ -102,7 +102,12 @@ fn label_at<'b>(labels: &[Label<'b>], index: usize) -> Label<'b>
 }
 
 /// Of the shapes that the pin's labels bind, in order of labels, the first that is as wanted.
-pub fn first_candidate(bins: &Bins, labels: &[Label], pin: &str, wanted: Wanted) -> Option<Shape>
+pub fn first_candidate(
+    bins: &Bins,
+    labels: &[Label],
+    pin: &str,
+    wanted: WantedShape,
+) -> Option<Shape>
     requires { IsStrictlySortedBy shape_order bins.now }
     ensures { MatchOption result (NoCandidate (IsWanted wanted) bins.now (map plain_label labels.now) pin.now)
         (IsFirstCandidate (IsWanted wanted) bins.now (map plain_label labels.now) pin.now) }
@@ -117,7 +122,7 @@ pub fn first_candidate(bins: &Bins, labels: &[Label], pin: &str, wanted: Wanted)
 }
 
 /// Whether one of the shapes that the pin's labels bind is as wanted.
-pub fn has_candidate(bins: &Bins, labels: &[Label], pin: &str, wanted: Wanted) -> bool
+pub fn has_candidate(bins: &Bins, labels: &[Label], pin: &str, wanted: WantedShape) -> bool
     requires { IsStrictlySortedBy shape_order bins.now }
     ensures { IsTrue result ↔ HasCandidate (IsWanted wanted) bins.now (map plain_label labels.now) pin.now }
 {

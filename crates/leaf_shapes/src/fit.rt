@@ -1,5 +1,5 @@
 ghost use Rattle.std.specs.Prelude.{◌↔◌, IsTrue};
-ghost use Rattle.leaf_shapes.specs.Fits.{FitsCell, IsAcross, IsUpward, Spans};
+ghost use Rattle.leaf_shapes.specs.Fits.{FitsCell, IsAcross, IsWireHigh, Spans};
 
 use or_geom::Rect;
 
@@ -39,7 +39,7 @@ fn is_across(rect: Rect, wire: i64) -> bool
 
 /// Whether the rectangle is as high as a wire is wide.
 fn is_upward(rect: Rect, wire: i64) -> bool
-    ensures { IsTrue result ↔ IsUpward wire rect }
+    ensures { IsTrue result ↔ IsWireHigh wire rect }
 {
     match rect.y2.checked_sub(rect.y1) {
         Some(side) => side == wire,

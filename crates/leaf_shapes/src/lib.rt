@@ -8,7 +8,7 @@ mod fit;
 mod outline;
 mod pins;
 
-pub use demand::{Demand, Metal, demands};
+pub use demand::{Metal, PinRequirement, demands};
 pub use fault::PinFault;
 pub use fit::{CellSize, Fit};
 pub use outline::outline_size;

@@ -9,8 +9,8 @@ ghost use Rattle.leaf_shapes.specs.Pins.{AreLeafPins, IsDemanded, IsMet, IsPinFa
 ghost use Rattle.leaf_shapes.specs.Pins.{drawing_of};
 ghost use Rattle.or_geom.specs.Gathering.{SomeHas};
 
-use crate::candidate::{Wanted, first_candidate, has_candidate};
-use crate::demand::{Demand, demands};
+use crate::candidate::{WantedShape, first_candidate, has_candidate};
+use crate::demand::{PinRequirement, demands};
 use crate::fault::PinFault;
 use crate::fit::CellSize;
 use cell_hierarchy::Label;
@@ -35,14 +35,14 @@ fn demanded_shape(
     size: CellSize,
     bins: &Bins,
     labels: &[Label],
-    demand: Demand,
+    demand: PinRequirement,
 ) -> Option<Shape>
     requires { IsStrictlySortedBy shape_order bins.now }
     ensures { let cell = drawing_of wire.now size bins.now labels.now in let d = plain_demand demand in MatchOption
         result (IsMet cell d → ⊥) (IsFirstCandidate (IsDemanded cell d) cell.shapes cell.labels d.pin) }
 {
-    let Demand(pin, metal, fit) = demand;
-    let wanted = Wanted::Fitting {
+    let PinRequirement(pin, metal, fit) = demand;
+    let wanted = WantedShape::Fitting {
         layer: metal.layer(wire),
         fit,
         size,
@@ -59,19 +59,25 @@ fn is_same(text: &str, other: &str) -> bool
 }
 
 /// Whether the demand is the pin's and none of the shapes that its labels bind is on the layer.
-fn lacks_layer(wire: &Wire, bins: &Bins, labels: &[Label], pin: &str, demand: Demand) -> bool
+fn lacks_layer(
+    wire: &Wire,
+    bins: &Bins,
+    labels: &[Label],
+    pin: &str,
+    demand: PinRequirement,
+) -> bool
     requires { IsStrictlySortedBy shape_order bins.now }
     ensures { IsTrue result ↔ LacksLayer wire.now bins.now (map plain_label labels.now) pin.now (plain_demand demand) }
 {
-    let Demand(name, metal, _) = demand;
+    let PinRequirement(name, metal, _) = demand;
     if !is_same(name, pin) {
         return false;
     }
-    !has_candidate(bins, labels, pin, Wanted::OnLayer(metal.layer(wire)))
+    !has_candidate(bins, labels, pin, WantedShape::OnLayer(metal.layer(wire)))
 }
 
 /// The demand at an index.
-fn demand_at(demands: &[Demand], index: usize) -> Demand
+fn demand_at(demands: &[PinRequirement], index: usize) -> PinRequirement
     requires { index < length demands.now }
     ensures { slice_get demands.now index ≡ Some result }
 {
@@ -79,7 +85,13 @@ fn demand_at(demands: &[Demand], index: usize) -> Demand
 }
 
 /// Whether for one of the pin's demands none of the shapes that its labels bind is on the layer.
-fn is_off_layer(wire: &Wire, bins: &Bins, labels: &[Label], pin: &str, demands: &[Demand]) -> bool
+fn is_off_layer(
+    wire: &Wire,
+    bins: &Bins,
+    labels: &[Label],
+    pin: &str,
+    demands: &[PinRequirement],
+) -> bool
     requires { IsStrictlySortedBy shape_order bins.now }
     ensures { IsTrue result ↔ SomeHas (LacksLayer wire.now bins.now (map plain_label labels.now) pin.now)
         (map plain_demand demands.now) }
@@ -98,7 +110,7 @@ fn pin_fault(
     wire: &Wire,
     bins: &Bins,
     labels: &[Label],
-    demands: &[Demand],
+    demands: &[PinRequirement],
     pin: &str,
 ) -> PinFault
     requires { IsStrictlySortedBy shape_order bins.now }
@@ -109,7 +121,7 @@ fn pin_fault(
     let Ok(name) = Name::from_bytes(alloc, pin.as_bytes()) else {
         return PinFault::Memory;
     };
-    if !has_candidate(bins, labels, pin, Wanted::Any) {
+    if !has_candidate(bins, labels, pin, WantedShape::Any) {
         return PinFault::PinMissing { pin: name };
     }
     if is_off_layer(wire, bins, labels, pin, demands) {
@@ -118,7 +130,7 @@ fn pin_fault(
     PinFault::EdgePin { pin: name }
 }
 
-fn leaf_pin(alloc: Global, demand: Demand, shape: Shape) -> Result<LeafPin, Memory>
+fn leaf_pin(alloc: Global, demand: PinRequirement, shape: Shape) -> Result<LeafPin, Memory>
     ensures { IfOk result (λ pin. (pin.pin ≡ demand.0.now) × (pin.layer ≡ shape.layer) × (pin.rect ≡ shape.rect)) }
 {
     Ok(LeafPin {

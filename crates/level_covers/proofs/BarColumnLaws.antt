@@ -22,7 +22,7 @@ use Rattle.good_places.proofs.LookLaws.{shape_moves}
 use Rattle.good_wires.specs.Drawn.{IsDrawnMemory}
 use Rattle.good_wires.specs.Kept.{HasDrawnShapes}
 use Rattle.good_wires.proofs.ClearLaws.{zone_kind}
-use Rattle.supply_bars.specs.Heights.{Part, Height, part_of, low, IsBarAlong, IsJoinerAlong, height_y}
+use Rattle.supply_bars.specs.Heights.{Storey, Height, part_of, low, IsBarAlong, IsJoinerAlong, height_y}
 use Rattle.supply_bars.proofs.HeightLaws.{on_metal}
 use Rattle.supply_bars.proofs.PartLaws.{rise_of, in_part, banks_end}
 use Rattle.supply_bars.proofs.PairedLaws.{ArePaired}
@@ -93,7 +93,7 @@ module _ (Flat : List ℕ → Shape → Type 0) (plan other : Organization) (kit
   bar_column x y inside far = span_narrow (pos 1) wire.width box.y1 box.y2 IsColumnBar (λ s. s.rect.y1) (λ s. s.rect.y2) (omega (arith, ints)) box.tall sizes apart all where
     at_height : (s : Shape) (b : IsColumnBar s) → (s.rect.y1 ≡ low g p.part +ℤ rise_of other kit wire b.height) × (s.rect.y2 ≡ (low g p.part +ℤ rise_of other kit wire b.height) +ℤ wire.width)
     at_height s b =
-        let e : height_y other kit wire g b.height ≡ low g p.part +ℤ rise_of other kit wire b.height = ap (λ (q : Part). low g q +ℤ rise_of other kit wire b.height) (sym b.part) in
+        let e : height_y other kit wire g b.height ≡ low g p.part +ℤ rise_of other kit wire b.height = ap (λ (q : Storey). low g q +ℤ rise_of other kit wire b.height) (sym b.part) in
         (b.bar.at.low ∙ e, b.bar.at.high ∙ ap (λ (z : ℤ). z +ℤ wire.width) e)
 
     sizes : (s : Shape) → IsColumnBar s → (s.rect.y1 <ℤ s.rect.y2) × (s.rect.y2 ≤ℤ (s.rect.y1 +ℤ wire.width))

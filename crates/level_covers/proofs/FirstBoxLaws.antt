@@ -22,7 +22,7 @@ use Rattle.good_wires.specs.Drawn.{IsDrawnMemory}
 use Rattle.good_wires.specs.Kept.{HasDrawnShapes}
 use Rattle.good_wires.proofs.LevelLaws.{Levels, levels, Sides, sides}
 use Rattle.good_wires.proofs.ClearLaws.{write_high, column_high, banks_left}
-use Rattle.supply_bars.specs.Heights.{Part, LogicRow, Slices, Columns, Height, LogicLow, LogicHigh, WriteLow, WriteHigh, SenseLow, SenseHigh, ColumnLow, ColumnHigh, CellRow, PrechargeLow, PrechargeHigh, part_of, low, bar_begin, HasJoiner, IsBarAlong, IsJoinerAlong, IsAtHeight, trunk_by, is_power, height_y}
+use Rattle.supply_bars.specs.Heights.{Storey, LogicRow, Slices, Columns, Height, LogicLow, LogicHigh, WriteLow, WriteHigh, SenseLow, SenseHigh, ColumnLow, ColumnHigh, CellRow, PrechargeLow, PrechargeHigh, part_of, low, bar_begin, HasJoiner, IsBarAlong, IsJoinerAlong, IsAtHeight, trunk_by, is_power, height_y}
 use Rattle.supply_bars.proofs.HeightLaws.{on_metal, a_bar, a_joiner}
 use Rattle.supply_bars.proofs.PartLaws.{rise_of, tall_of, same_rise, same_bars, LiesInPart, in_part, begins, trunks}
 use Rattle.supply_bars.proofs.SideLaws.{IsAlikeLeft, IsAlikeRight}
@@ -32,7 +32,7 @@ use Rattle.upright_covers.proofs.AtLaws.{IsBoxAt, cell_over, cell_under}
 use Rattle.upright_covers.proofs.ChannelRowLaws.{IsChannelRow, over_logic, under_slices, over_slices, under_columns, logic_top, slice_foot, slice_top, column_foot, zone_off_channels}
 
 -- a cell of a bar or a joiner lies in its part
-pub record IsInPart (plan : Organization) (kit : LayoutKit) (f : Floorplan) (part : Part) (y : ℤ) : Type 0 where
+pub record IsInPart (plan : Organization) (kit : LayoutKit) (f : Floorplan) (part : Storey) (y : ℤ) : Type 0 where
   pub from : low f part ≤ℤ y
   pub to : y <ℤ (low f part +ℤ tall_of plan kit part)
 
@@ -48,7 +48,7 @@ in_part_at plan kit wire tracks f m h s y lies at from to = record {
   up l r t w y2 a e b = omega (arith, ints, a, e, b)
 
 -- no part has a row of a channel
-part_off_channels : (plan : Organization) (kit : LayoutKit) (wire : Wire) (tracks : Tracks) (f : Floorplan) (m : IsDrawnMemory plan kit wire tracks f) (part : Part) (y : ℤ) → IsInPart plan kit f part y → IsChannelRow plan kit wire tracks f m y → ⊥
+part_off_channels : (plan : Organization) (kit : LayoutKit) (wire : Wire) (tracks : Tracks) (f : Floorplan) (m : IsDrawnMemory plan kit wire tracks f) (part : Storey) (y : ℤ) → IsInPart plan kit f part y → IsChannelRow plan kit wire tracks f m y → ⊥
 part_off_channels plan kit wire tracks f m LogicRow y i row =
     let to = i.to in
     let w = write_high plan kit wire tracks f m in
@@ -113,7 +113,7 @@ module _ (Flat : List ℕ → Shape → Type 0) (plan other : Organization) (kit
   WireAt x y = IsWireCell Flat other kit bits wire many g by from h metal x y
 
   -- the part of a wire
-  wire_part : (x y : ℤ) → WireAt x y → (part : Part) × IsInPart other kit g part y
+  wire_part : (x y : ℤ) → WireAt x y → (part : Storey) × IsInPart other kit g part y
   wire_part x y w = elim (on_metal other kit wire many g m w.shape w.on w.is) [
     | inl bar ↦ (part_of bar.0, in_part_at other kit wire many g m bar.0 w.shape y (in_part other kit wire many g m bar.0 (inl bar.1.has)) bar.1.at w.holds.low w.holds.high)
     | inr joiner ↦ (part_of joiner.1, in_part_at other kit wire many g m joiner.1 w.shape y (in_part other kit wire many g m joiner.1 (inr joiner.2.has)) joiner.2.at w.holds.low w.holds.high)
@@ -132,7 +132,7 @@ module _ (Flat : List ℕ → Shape → Type 0) (plan other : Organization) (kit
   under : (x y line : ℤ) → HasCell box x y → line ≤ℤ there.low → IsChannelRow other kit wire many g m (line -ℤ wire.space) → (y +ℤ wire.space) <ℤ line → ⊥
   under x y line inside foot row lt = bare_row x (line -ℤ wire.space) row (covered x (line -ℤ wire.space) (cell_under wire reach there there d box at line x y inside foot lt))
 
-  pub one_part : (x y : ℤ) → HasCell box x y → (part zone_part : Part) → IsInPart other kit g part y → there.low ≡ low g zone_part → there.high ≡ low g zone_part +ℤ tall_of other kit zone_part → zone_part ≡ part
+  pub one_part : (x y : ℤ) → HasCell box x y → (part zone_part : Storey) → IsInPart other kit g part y → there.low ≡ low g zone_part → there.high ≡ low g zone_part +ℤ tall_of other kit zone_part → zone_part ≡ part
   one_part x y inside LogicRow LogicRow i a b = refl
   one_part x y inside Slices LogicRow i a b = let q = i.from in let w = write_high other kit wire many g m in absurd (over x y (pos (kit.height Inv)) inside (omega (arith, ints, b)) (logic_top other kit wire many g m _ (over_logic other kit wire many g m)) (omega (arith, ints, q, w)))
   one_part x y inside Columns LogicRow i a b =

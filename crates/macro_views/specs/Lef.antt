@@ -11,7 +11,7 @@ abbrev pub metal_name : Abstract → ℕ → List ℕ
 metal_name view i = slice_index_or view.metals i []
 
 -- a box of lengths, none negative
-pub record IsDrawn (area : LefBox) : Type 0 where
+pub record HasNoNegativeLength (area : LefBox) : Type 0 where
   pub x1 : pos 0 ≤ℤ area.x1
   pub y1 : pos 0 ≤ℤ area.y1
   pub x2 : pos 0 ≤ℤ area.x2

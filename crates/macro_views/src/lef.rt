@@ -1,7 +1,7 @@
 ghost use Rattle.std.specs.Prelude.{◌≡◌, ◌++◌, ◌<◌, ◌^◌, ℤ, pos, ◌≤ℤ◌, length, IfOk, OnOk, flat_map};
 ghost use Rattle.sram_plan.specs.View.{IsLength, IsView};
 ghost use Rattle.macro_views.specs.Lines.{text_of_lines};
-ghost use Rattle.macro_views.specs.Lef.{IsDrawn, metal_name, corner_text, box_text, port_lines, pin_lines};
+ghost use Rattle.macro_views.specs.Lef.{HasNoNegativeLength, metal_name, corner_text, box_text, port_lines, pin_lines};
 ghost use Rattle.macro_views.specs.Lef.{signal_direction, signal_use, signal_text, supply_lines, supplies_lines};
 ghost use Rattle.macro_views.specs.Lef.{blocked_lines, obstruction_lines, size_text, head_lines, end_lines, lef_text};
 
@@ -162,7 +162,7 @@ fn write_pin(
     layer: &[u8],
     area: LefBox,
 ) -> Result<(), Memory>
-    requires { IsDrawn area }
+    requires { HasNoNegativeLength area }
     ensures { OnOk result (out.new.items ≡ out.old.items ++ text_of_lines
         (pin_lines name.now direction.now use_of.now layer.now area)) }
 {
@@ -175,7 +175,7 @@ fn write_pin(
 }
 
 fn write_port(out: &mut Vec<u8>, layer: &[u8], area: LefBox) -> Result<(), Memory>
-    requires { IsDrawn area }
+    requires { HasNoNegativeLength area }
     ensures { OnOk result (out.new.items ≡ out.old.items ++ text_of_lines (port_lines layer.now area)) }
 {
     append_filled(out, b"    PORT\n      LAYER ", layer, b" ;\n        ")?;
@@ -214,7 +214,7 @@ fn write_obstructions(out: &mut Vec<u8>, view: &Abstract) -> Result<(), Memory>
 
 /// A box of a metal where no wire may be drawn.
 fn write_blocked(out: &mut Vec<u8>, layer: &[u8], area: LefBox) -> Result<(), Memory>
-    requires { IsDrawn area }
+    requires { HasNoNegativeLength area }
     ensures { OnOk result (out.new.items ≡ out.old.items ++ text_of_lines (blocked_lines layer.now area)) }
 {
     append_filled(out, b"    LAYER ", layer, b" ;\n      ")?;
@@ -224,7 +224,7 @@ fn write_blocked(out: &mut Vec<u8>, layer: &[u8], area: LefBox) -> Result<(), Me
 }
 
 fn append_box(out: &mut Vec<u8>, area: LefBox) -> Result<(), Memory>
-    requires { IsDrawn area }
+    requires { HasNoNegativeLength area }
     ensures { OnOk result (out.new.items ≡ out.old.items ++ box_text area) }
 {
     append(out, b"RECT ")?;

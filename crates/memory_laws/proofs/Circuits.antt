@@ -5,7 +5,7 @@ use Rattle.sram_netlist.specs.Instances.{LeafInstance}
 use Rattle.cell_roles.specs.declared.role.Role.TheVariants.{Dff}
 use Rattle.cell_roles.specs.declared.leaf_role.LeafRole.TheVariants.{Common}
 use Rattle.cell_roles.specs.Acts.{Drive, Act}
-use Rattle.memory_laws.specs.Phase.{Circuit, State, PortInputs, Gives, DrivesNet, JoinsNets, InGroup, AreLinked, HasNone, IsDriven, IsPair, IsPhase, act_at, bits}
+use Rattle.memory_laws.specs.Phase.{Circuit, State, PortInputs, Gives, DrivesNet, JoinsNets, InGroup, AreJoinedThrough, HasNone, IsDriven, IsPair, IsPhase, act_at, bits}
 use Rattle.memory_laws.specs.Run.{MemoryCommand, IsCycle, IsStartState, IsCommandRun, port_values}
 
 pub record SameCircuit (c d : Circuit) : Type 0 where
@@ -52,7 +52,7 @@ joins_same c d h s v x y g = record {
   pair = subst (λ (ys : List (Net × Net)). IsPair x y ys (act_at d s v g.leaf).joins) (h.joins g.leaf g.there) (subst (λ (t : Act). IsPair x y (c.joins g.leaf) t.joins) (h.acts s v g.leaf g.there) g.pair);
 }
 
-linked_same : (c d : Circuit) → SameCircuit c d → (s : State) (v : Net → Bool) (x : Net) (zs : List Net) (y : Net) → AreLinked c s v x zs y → AreLinked d s v x zs y
+linked_same : (c d : Circuit) → SameCircuit c d → (s : State) (v : Net → Bool) (x : Net) (zs : List Net) (y : Net) → AreJoinedThrough c s v x zs y → AreJoinedThrough d s v x zs y
 linked_same c d h s v x [] y e = e
 linked_same c d h s v x (z ∷ zs) y e = (joins_same c d h s v x z e.0, linked_same c d h s v z zs y e.1)
 

@@ -7,7 +7,7 @@ use Rattle.sram_netlist.specs.Instances.{LeafInstance, MuxAt}
 use Rattle.sram_netlist.specs.Organization.{power_of_two, Organization}
 use Rattle.sram_netlist.specs.Netlist.{lo_net, ro_net}
 use Rattle.sram_netlist.specs.Membership.{HasLeafInstance, HasLeafNet}
-use Rattle.memory_laws.specs.Phase.{State, JoinsNets, InGroup, AreLinked, IsPair, act_at}
+use Rattle.memory_laws.specs.Phase.{State, JoinsNets, InGroup, AreJoinedThrough, IsPair, act_at}
 use Rattle.memory_laws.proofs.Decode.{twice_some}
 use Rattle.memory_laws.proofs.Direct.{joins, direct, writable}
 
@@ -91,7 +91,7 @@ pub carried : (p : Organization) (s : State) (v : Net → Bool) (k : ℕ) (P : N
     → (x y : Net) → InGroup (direct p) s v x y → P x → P y
 carried p s v k P is step x y g h = by_nets g.through x g.linked h
   where
-    by_nets : (zs : List Net) (x : Net) → AreLinked (direct p) s v x zs y → P x → P y
+    by_nets : (zs : List Net) (x : Net) → AreJoinedThrough (direct p) s v x zs y → P x → P y
     by_nets [] x e h = subst P e h
     by_nets (z ∷ zs) x e h = by_nets zs z e.1 (step x z (ends_of p s v k x z is e.0) h)
 
@@ -102,7 +102,7 @@ self p s v x = record { through = []; linked = refl }
 pub follow : (p : Organization) (s : State) (v : Net → Bool) (x y z : Net) → InGroup (direct p) s v x y → InGroup (direct p) s v y z → InGroup (direct p) s v x z
 follow p s v x y z g h = by_nets g.through x g.linked
   where
-    by_nets : (zs : List Net) (x : Net) → AreLinked (direct p) s v x zs y → InGroup (direct p) s v x z
+    by_nets : (zs : List Net) (x : Net) → AreJoinedThrough (direct p) s v x zs y → InGroup (direct p) s v x z
     by_nets [] x e = subst (λ (u : Net). InGroup (direct p) s v u z) (sym e) h
     by_nets (u ∷ us) x e = let r = by_nets us u e.1 in record { through = u ∷ r.through; linked = (e.0, r.linked) }
 

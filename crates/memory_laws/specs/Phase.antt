@@ -85,14 +85,14 @@ pub record JoinsNets (c : Circuit) (s : State) (v : Net → Bool) (x y : Net) : 
   pub pair : IsPair x y (c.joins leaf) (act_at c s v leaf).joins
 
 -- through these nets
-abbrev pub AreLinked : Circuit → State → (Net → Bool) → Net → List Net → Net → Type 0
-AreLinked c s v x [] y = x ≡ y
-AreLinked c s v x (z ∷ zs) y = JoinsNets c s v x z × AreLinked c s v z zs y
+abbrev pub AreJoinedThrough : Circuit → State → (Net → Bool) → Net → List Net → Net → Type 0
+AreJoinedThrough c s v x [] y = x ≡ y
+AreJoinedThrough c s v x (z ∷ zs) y = JoinsNets c s v x z × AreJoinedThrough c s v z zs y
 
 -- one group has both
 pub record InGroup (c : Circuit) (s : State) (v : Net → Bool) (x y : Net) : Type 0 where
   pub through : List Net
-  pub linked : AreLinked c s v x through y
+  pub linked : AreJoinedThrough c s v x through y
 
 -- no contribution of this kind in the group
 abbrev pub HasNone : Circuit → State → PortInputs → (Net → Bool) → (Bool → Drive) → Net → Type 0

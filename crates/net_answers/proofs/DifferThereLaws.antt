@@ -6,7 +6,7 @@ use Rattle.std.proofs.lemmas.Bool.{cases_eq, cases_lt}
 use Rattle.std.proofs.lemmas.Option.{same_Some, slice_get_within}
 use Rattle.or_geom.proofs.ListLaws.{below_or, one_at}
 use Rattle.netlist.specs.declared.rows.RowPin.{RowPin}
-use Rattle.net_extractor.specs.Difference.{in_lower_case, IsLabelOf, HasNet, IsLabelled, IsWhole, Agree, slash, IsAbove, IsAlong, IsPlacedBy}
+use Rattle.net_extractor.specs.Difference.{in_lower_case, IsLabelOf, HasNet, IsLabelled, IsWhole, Agree, slash, IsAbove, IsOnOnePath, IsPlacedBy}
 use Rattle.net_extractor.specs.Difference.{IsStranger, AreAlike}
 use Rattle.net_extractor.specs.FirstDifference.{IsFirst, AreLabelled, AreRightBefore, IsTorn, AreOpen}
 use Rattle.net_extractor.specs.FirstDifference.{AreShort}
@@ -62,7 +62,7 @@ decide_above (b ∷ bs) (c ∷ cs) = elim (cases_eq c b) [
 
 decide_placed : (path : List ℕ) (pin : RowPin) → Decided (IsPlacedBy path pin)
 decide_placed path pin =
-    decide_as ((pin.path ≢ []) × IsAlong path pin.path) (IsPlacedBy path pin) (λ h. record { leaf = h.0; along = h.1 }) (λ p. (p.leaf, p.along))
+    decide_as ((pin.path ≢ []) × IsOnOnePath path pin.path) (IsPlacedBy path pin) (λ h. record { leaf = h.0; along = h.1 }) (λ p. (p.leaf, p.along))
     (decide_both _ _ (decide_not _ (decide_name pin.path []))
     (decide_either _ _ (decide_name path pin.path) (decide_either _ _ (decide_above path pin.path) (decide_above pin.path path))))
 

@@ -13,7 +13,7 @@ use Rattle.net_extractor.specs.declared.difference.NetDiff.TheVariants.{Unlabell
 use Rattle.net_extractor.specs.declared.difference.PinName.{PinName}
 use Rattle.net_extractor.specs.Difference.{HasNet, Agree, AreAlike}
 use Rattle.net_extractor.specs.FirstDifference.{IsUnlabelledAt, IsStrangerAt, AreLabelled, AreRightBefore, AreOpen, AreShort, IsTornAt, IsWrongAt, name_of_pin, name_of_label, ArePaired, FirstUnlabelled, FirstStranger, FirstTorn, FirstWrong, IsFirstDifference}
-use Rattle.net_extractor.specs.Conflicts.{IsConflict, AreConflictPins, ArePinNames, IsNamed}
+use Rattle.net_extractor.specs.Conflicts.{IsConflict, AreConflictPins, ArePinNames, IsDifferenceOf}
 use Rattle.net_extractor.proofs.PlaceLaws.{at_contained}
 
 turned : (labels : List NetLabel) (q p : RowPin) → Agree labels q p → Agree labels p q
@@ -90,7 +90,7 @@ wrong Wrong labels pins i j first second paired w n = record {
   then = n.second_is ∙ ap name_of_pin (one_at pins j n.p w.pin n.at_p w.here);
 }
 
-pub conflict_first : (labels : List NetLabel) (pins : List RowPin) (c : Conflict) (d : NetDiff) → ArePaired labels pins → IsConflict labels pins c → IsNamed pins c d → IsFirstDifference labels pins d
+pub conflict_first : (labels : List NetLabel) (pins : List RowPin) (c : Conflict) (d : NetDiff) → ArePaired labels pins → IsConflict labels pins c → IsDifferenceOf pins c d → IsFirstDifference labels pins d
 conflict_first labels pins (conflict.Open i j) (Unlabelled name) paired h n = absurd n
 conflict_first labels pins (conflict.Open i j) (Stranger name) paired h n = absurd n
 conflict_first labels pins (conflict.Open i j) (Open first second) paired (inl h) n = inl (torn labels pins i j first second paired h.0 h.1 n)

@@ -17,7 +17,7 @@ use Rattle.net_extractor.specs.declared.numbering.Numbering.{Numbering}
 use Rattle.tech_rules.specs.Net.{AreOnOneNet}
 use Rattle.net_extractor.specs.Binding.{Binds, BindsNone}
 use Rattle.net_extractor.specs.Bound.{IsBoundAt}
-use Rattle.shape_bins.specs.Numbers.{IsOn}
+use Rattle.shape_bins.specs.Numbers.{IsGivenNumber}
 use Rattle.net_extractor.specs.Numbering.{IsNumbering}
 use Rattle.net_extractor.specs.FirstAppearance.{AppearFrom}
 use Rattle.net_extractor.specs.Entries.{entry, IsNetOf}
@@ -36,7 +36,7 @@ pub record IsHeld (shapes : List Shape) (nets : List (Option ℕ)) (e : NetLabel
   pub number : ℕ
   pub bound : IsBoundAt shapes (anchor_of e) place
   pub is : e.net ≡ Some number
-  pub on : IsOn nets place number
+  pub on : IsGivenNumber nets place number
 
 -- what stands in the entries so far, of the first labels
 pub record AreEntries (connections : List Connect) (shapes : List Shape) (labels : List Label) (i : ℕ) (numbering : Numbering) (entries : List NetLabel) : Type 0 where
@@ -57,12 +57,12 @@ appear_step connections shapes label old new (Some number) more h a = elim h.num
   | inr fresh ↦ inr (fresh.0, subst (λ (n : ℕ). AppearFrom n more) fresh.1 a)
 ]
 
-kept_right : (shapes : List Shape) (old new : List (Option ℕ)) (e : NetLabel) → ((k m : ℕ) → IsOn old k m → IsOn new k m) → IsFree shapes e ⊎ IsHeld shapes old e → IsFree shapes e ⊎ IsHeld shapes new e
+kept_right : (shapes : List Shape) (old new : List (Option ℕ)) (e : NetLabel) → ((k m : ℕ) → IsGivenNumber old k m → IsGivenNumber new k m) → IsFree shapes e ⊎ IsHeld shapes old e → IsFree shapes e ⊎ IsHeld shapes new e
 kept_right shapes old new e kept (inl f) = inl f
 kept_right shapes old new e kept (inr h) = inr (record { place = h.place; number = h.number; bound = h.bound; is = h.is; on = kept h.place h.number h.on })
 
-kept_numbers : (connections : List Connect) (shapes : List Shape) (label : Anchor) (old new : Numbering) (net : Option ℕ) → IsNetOf connections shapes label old net new → (k m : ℕ) → IsOn old.numbers.given k m → IsOn new.numbers.given k m
-kept_numbers connections shapes label old new None h k m on = subst (λ (n : Numbering). IsOn n.numbers.given k m) (sym h.same) on
+kept_numbers : (connections : List Connect) (shapes : List Shape) (label : Anchor) (old new : Numbering) (net : Option ℕ) → IsNetOf connections shapes label old net new → (k m : ℕ) → IsGivenNumber old.numbers.given k m → IsGivenNumber new.numbers.given k m
+kept_numbers connections shapes label old new None h k m on = subst (λ (n : Numbering). IsGivenNumber n.numbers.given k m) (sym h.same) on
 kept_numbers connections shapes label old new (Some number) h k m on = h.numbers.kept k m on
 
 numbered_step : (connections : List Connect) (shapes : List Shape) (label : Anchor) (old new : Numbering) (net : Option ℕ) → IsNetOf connections shapes label old net new → IsNumbering connections shapes old → IsNumbering connections shapes new
@@ -133,9 +133,9 @@ one_exactly connections shapes numbering e f s t rises n a b binds_s binds_t =
       λ one.
           let numbers : ◌≡◌ {A = Option ℕ} (Some b.number) (Some a.number) = sym b.is ∙ (sym one ∙ a.is) in
           let equal : b.number ≡ a.number = cc in
-          same.0 (subst (IsOn nets b.place) equal b.on),
+          same.0 (subst (IsGivenNumber nets b.place) equal b.on),
       λ net.
-          let there : IsOn nets b.place a.number = same.1 net in
+          let there : IsGivenNumber nets b.place a.number = same.1 net in
           let equal = on_one nets b.place a.number b.number there b.on in
           a.is ∙ (ap (λ (k : ℕ). Some k) equal ∙ sym b.is),
     )

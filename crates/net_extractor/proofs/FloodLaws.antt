@@ -7,7 +7,7 @@ use Rattle.std.proofs.lemmas.Bool.{cases_eq, cases_lt}
 use Rattle.or_geom.specs.declared.shape.Shape.{Shape}
 use Rattle.or_geom.proofs.ListLaws.{contained_at, contains_none, one_at}
 use Rattle.tech_rules.specs.declared.tech.Connect.{Connect}
-use Rattle.shape_bins.specs.Numbers.{IsOn, KeepsNumbers, GivesAll}
+use Rattle.shape_bins.specs.Numbers.{IsGivenNumber, KeepsNumbers, GivesAll}
 use Rattle.shape_bins.proofs.NumberLaws.{has_kept}
 use Rattle.tech_rules.specs.Touch.{Touch}
 use Rattle.tech_rules.specs.Net.{AreOnOneNet}
@@ -17,7 +17,7 @@ use Rattle.net_extractor.proofs.NetLaws.{net_of_itself, net_further}
 use Rattle.net_extractor.proofs.PinLaws.{exists_at}
 
 -- a place with a number is one of the list
-on_within : (given : List (Option ℕ)) (k m : ℕ) → IsOn given k m → k < length given
+on_within : (given : List (Option ℕ)) (k m : ℕ) → IsGivenNumber given k m → k < length given
 on_within given k m on = elim (cases_lt k (length given)) [
   | inl lt ↦ lt
   | inr ge ↦ let e : ◌≡◌ {A = Option ℕ} None (Some m) = sym (get_or_past given k None ge) ∙ on in absurd cc
@@ -27,41 +27,41 @@ on_within given k m on = elim (cases_lt k (length given)) [
 pub record IsFlooding (connections : List Connect) (shapes : List Shape) (start number : ℕ) (old now : List (Option ℕ)) (waiting : List ℕ) : Type 0 where
   pub sized : length now ≡ length old
   pub kept : KeepsNumbers old now
-  pub here : IsOn now start number
-  pub only : (place n : ℕ) → IsOn now place n → IsOn old place n ⊎ IsFloodedAt connections shapes start number place n
-  pub wait : (place : ℕ) → Contains waiting place → IsOn now place number
-  pub spread : (place : ℕ) → IsOn now place number → Contains waiting place ⊎ IsSpread connections shapes now place
+  pub here : IsGivenNumber now start number
+  pub only : (place n : ℕ) → IsGivenNumber now place n → IsGivenNumber old place n ⊎ IsFloodedAt connections shapes start number place n
+  pub wait : (place : ℕ) → Contains waiting place → IsGivenNumber now place number
+  pub spread : (place : ℕ) → IsGivenNumber now place number → Contains waiting place ⊎ IsSpread connections shapes now place
 
 pub flood_begins : (connections : List Connect) (shapes : List Shape) (start number : ℕ) (old now : List (Option ℕ)) (waiting : List ℕ) → start < length shapes → length old ≡ length shapes → get_or old start None ≡ None → IsUnused old number
     → now ≡ set old start (Some number) → waiting ≡ start ∷ [] → IsFlooding connections shapes start number old now waiting
 flood_begins connections shapes start number old now waiting lt sized none unused is one =
     let inside : start < length old = omega (arith, lt, sized) in
-    let here : IsOn now start number = subst (λ (ns : List (Option ℕ)). IsOn ns start number) (sym is) (get_or-set_same old start (Some number) None inside) in
+    let here : IsGivenNumber now start number = subst (λ (ns : List (Option ℕ)). IsGivenNumber ns start number) (sym is) (get_or-set_same old start (Some number) None inside) in
     let first = exists_at shapes start lt in
     record {
       sized = ap length is ∙ length-set old start (Some number);
       kept = λ k n on. elim (cases_eq k start) [
         | inl e ↦
-            let there : IsOn old start n = subst (λ (p : ℕ). IsOn old p n) e on in
+            let there : IsGivenNumber old start n = subst (λ (p : ℕ). IsGivenNumber old p n) e on in
             let clash : ◌≡◌ {A = Option ℕ} None (Some n) = sym none ∙ there in
             absurd cc
-        | inr ne ↦ subst (λ (ns : List (Option ℕ)). IsOn ns k n) (sym is) (get_or-set_other old start k (Some number) None ne ∙ on)
+        | inr ne ↦ subst (λ (ns : List (Option ℕ)). IsGivenNumber ns k n) (sym is) (get_or-set_other old start k (Some number) None ne ∙ on)
       ];
       here = here;
       only = λ k n on. elim (cases_eq k start) [
         | inl e ↦
-            let there : IsOn now start n = subst (λ (p : ℕ). IsOn now p n) e on in
+            let there : IsGivenNumber now start n = subst (λ (p : ℕ). IsGivenNumber now p n) e on in
             let same : ◌≡◌ {A = Option ℕ} (Some n) (Some number) = sym there ∙ here in
             inr (record { is = cc; first = first.0; shape = first.0; begins = first.1; there = subst (λ (p : ℕ). slice_get shapes p ≡ Some first.0) (sym e) first.1; net = net_of_itself connections shapes first.0 })
-        | inr ne ↦ inl (sym (get_or-set_other old start k (Some number) None ne) ∙ subst (λ (ns : List (Option ℕ)). IsOn ns k n) is on)
+        | inr ne ↦ inl (sym (get_or-set_other old start k (Some number) None ne) ∙ subst (λ (ns : List (Option ℕ)). IsGivenNumber ns k n) is on)
       ];
       wait = λ k h. elim (Contains-push_cases [] start k (subst (λ (l : List ℕ). Contains l k) one h)) [
         | inl none_there ↦ absurd (contains_none k none_there)
-        | inr e ↦ subst (λ (p : ℕ). IsOn now p number) e here
+        | inr e ↦ subst (λ (p : ℕ). IsGivenNumber now p number) e here
       ];
       spread = λ k on. elim (cases_eq k start) [
         | inl e ↦ inl (subst (λ (l : List ℕ). Contains l k) (sym one) (subst (λ (p : ℕ). Contains (start ∷ []) p) (sym e) (Contains-push [] start)))
-        | inr ne ↦ absurd (unused k (sym (get_or-set_other old start k (Some number) None ne) ∙ subst (λ (ns : List (Option ℕ)). IsOn ns k number) is on))
+        | inr ne ↦ absurd (unused k (sym (get_or-set_other old start k (Some number) None ne) ∙ subst (λ (ns : List (Option ℕ)). IsGivenNumber ns k number) is on))
       ];
     }
 

@@ -7,7 +7,7 @@ use Rattle.or_geom.specs.declared.shape.Shape.{Shape}
 use Rattle.or_geom.specs.ShapeOrder.{shape_order}
 use Rattle.or_geom.proofs.ListLaws.{contained_at, one_at}
 use Rattle.tech_rules.specs.declared.tech.Connect.{Connect}
-use Rattle.shape_bins.specs.Numbers.{IsOn, HasNumber}
+use Rattle.shape_bins.specs.Numbers.{IsGivenNumber, HasNumber}
 use Rattle.net_extractor.specs.declared.numbering.Numbering.{Numbering}
 use Rattle.tech_rules.specs.Net.{AreOnOneNet}
 use Rattle.net_extractor.specs.Flood.{IsUnused, IsSpread, IsFloodedAt, IsFlooded}
@@ -15,10 +15,10 @@ use Rattle.net_extractor.specs.Numbering.{IsNumbering, Numbers}
 use Rattle.net_extractor.proofs.NetLaws.{net_of_itself, nets_on, net_further, net_back, net_numbered}
 
 -- one number at a place
-pub on_one : (nets : List (Option ℕ)) (k m n : ℕ) → IsOn nets k m → IsOn nets k n → m ≡ n
+pub on_one : (nets : List (Option ℕ)) (k m n : ℕ) → IsGivenNumber nets k m → IsGivenNumber nets k n → m ≡ n
 on_one nets k m n a b = let e : ◌≡◌ {A = Option ℕ} (Some m) (Some n) = sym a ∙ b in cc
 
-pub old_number : (connections : List Connect) (shapes : List Shape) (numbering : Numbering) (place number : ℕ) → IsNumbering connections shapes numbering → IsOn numbering.numbers.given place number → Numbers connections shapes numbering place number numbering
+pub old_number : (connections : List Connect) (shapes : List Shape) (numbering : Numbering) (place number : ℕ) → IsNumbering connections shapes numbering → IsGivenNumber numbering.numbers.given place number → Numbers connections shapes numbering place number numbering
 old_number connections shapes numbering place number n on = record { numbered = n; kept = λ k m h. h; here = on; next = inl (n.below place number on, refl) }
 
 -- the next number is new
@@ -32,7 +32,7 @@ all_spread connections shapes old new start n f k has other s t at_k at_other to
   | inl earlier ↦
       let net = net_further connections shapes s s t (net_of_itself connections shapes s) (contained_at shapes other t at_other) touch in
       record { number = has.number; is = f.kept other has.number ((n.whole k other has.number s t at_k at_other earlier).1 net) }
-  | inr fresh ↦ f.spread k (subst (λ (m : ℕ). IsOn new.numbers.given k m) fresh.is has.is) other s t at_k at_other touch
+  | inr fresh ↦ f.spread k (subst (λ (m : ℕ). IsGivenNumber new.numbers.given k m) fresh.is has.is) other s t at_k at_other touch
 ]
 
 -- two shapes that a flood gave the number to
@@ -76,10 +76,10 @@ new_number connections shapes old new place rises n none same f next =
                       let here : fresh.shape ≡ s = one_at shapes from fresh.shape s fresh.there at_from in
                       let one : AreOnOneNet connections shapes first s = subst (λ (u : Shape). AreOnOneNet connections shapes first u) here fresh.net in
                       let back = net_back connections shapes first t (contained_at shapes place first fresh.begins) (nets_on connections shapes first s t one net) in
-                      let clash : IsOn before place has.number = (n.whole to place has.number t first at_to fresh.begins earlier).1 back in
+                      let clash : IsGivenNumber before place has.number = (n.whole to place has.number t first at_to fresh.begins earlier).1 back in
                       let e : ◌≡◌ {A = Option ℕ} None (Some has.number) = sym none ∙ clash in
                       absurd cc
-                  | inr there ↦ subst (λ (m : ℕ). IsOn after to m) (there.is ∙ sym fresh.is) has.is
+                  | inr there ↦ subst (λ (m : ℕ). IsGivenNumber after to m) (there.is ∙ sym fresh.is) has.is
                 ],
           )
         ];
@@ -93,7 +93,7 @@ new_number connections shapes old new place rises n none same f next =
       next = inr (refl, next);
     }
 
-no_number : (n k m : ℕ) → IsOn (replicate n None) k m → ⊥
+no_number : (n k m : ℕ) → IsGivenNumber (replicate n None) k m → ⊥
 no_number zero k m on = absurd cc
 no_number (suc n) zero m on = absurd cc
 no_number (suc n) (suc k) m on = no_number n k m on
@@ -103,8 +103,8 @@ pub numbering_begins : (connections : List Connect) (shapes : List Shape) (n : �
 numbering_begins connections shapes n numbering same none sized = record {
   same = same;
   sized = ap length none ∙ (length-replicate n None ∙ sized);
-  whole = λ from to number s t at_from at_to on. absurd (no_number n from number (subst (λ (ns : List (Option ℕ)). IsOn ns from number) none on));
-  below = λ k m on. absurd (no_number n k m (subst (λ (ns : List (Option ℕ)). IsOn ns k m) none on));
+  whole = λ from to number s t at_from at_to on. absurd (no_number n from number (subst (λ (ns : List (Option ℕ)). IsGivenNumber ns from number) none on));
+  below = λ k m on. absurd (no_number n k m (subst (λ (ns : List (Option ℕ)). IsGivenNumber ns k m) none on));
 }
 
 -- what isn't some number is none

@@ -5,7 +5,7 @@ use Rattle.std.proofs.lemmas.List.{map-append}
 use Rattle.or_geom.specs.declared.shape.Shape.{Shape}
 use Rattle.tech_rules.specs.declared.tech.Connect.{Connect}
 use Rattle.cell_hierarchy.proofs.CellLaws.{after_push, length_pushed}
-use Rattle.shape_bins.specs.Numbers.{IsOn}
+use Rattle.shape_bins.specs.Numbers.{IsGivenNumber}
 use Rattle.net_extractor.specs.declared.numbering.Numbering.{Numbering}
 use Rattle.net_extractor.specs.FirstAppearance.{AppearFrom}
 use Rattle.net_extractor.specs.Numbering.{IsNumbering, Numbers}
@@ -17,7 +17,7 @@ pub record AreFirstNets (connections : List Connect) (shapes : List Shape) (i : 
   pub numbered : IsNumbering connections shapes numbering
   pub few : numbering.next ≤ i
   pub sized : length nets ≡ i
-  pub on : (k m : ℕ) → slice_get nets k ≡ Some m → IsOn numbering.numbers.given k m
+  pub on : (k m : ℕ) → slice_get nets k ≡ Some m → IsGivenNumber numbering.numbers.given k m
   pub order : (more : List (Option ℕ)) → AppearFrom numbering.next more → AppearFrom 0 (map (λ (net : ℕ). Some net) nets ++ more)
 
 pub first_nets_begin : (connections : List Connect) (shapes : List Shape) (numbering : Numbering) (nets : List ℕ) → IsNumbering connections shapes numbering → numbering.next ≡ 0 → nets ≡ [] → AreFirstNets connections shapes 0 numbering nets
@@ -56,7 +56,7 @@ first_nets_more connections shapes i number old new nets next h grown a =
       sized = length_pushed nets number (nets ++ number ∷ []) refl ∙ ap (λ (n : ℕ). n + 1) a.sized;
       on = λ k m at_k. elim (after_push nets number k m at_k) [
         | inl earlier ↦ h.kept k m (a.on k m earlier)
-        | inr last ↦ subst (λ (place : ℕ). IsOn new.numbers.given place m) (sym (last.place ∙ a.sized)) (subst (λ (n : ℕ). IsOn new.numbers.given i n) (sym last.is) h.here)
+        | inr last ↦ subst (λ (place : ℕ). IsGivenNumber new.numbers.given place m) (sym (last.place ∙ a.sized)) (subst (λ (n : ℕ). IsGivenNumber new.numbers.given i n) (sym last.is) h.here)
       ];
       order = λ more b. subst (AppearFrom 0) (sym (net_added nets number more)) (a.order (Some number ∷ more) (appear_more connections shapes i number old new more h b));
     })
@@ -67,7 +67,7 @@ first_nets_all connections shapes i numbering nets whole a = record {
   one = λ j k m n s t at_s at_t is_m is_n.
       let given = numbering.numbers.given in
       let same = a.numbered.whole j k m s t at_s at_t (a.on j m is_m) in (
-        λ equal. same.0 (subst (IsOn given k) (sym equal) (a.on k n is_n)),
+        λ equal. same.0 (subst (IsGivenNumber given k) (sym equal) (a.on k n is_n)),
         λ net. on_one given k m n (same.1 net) (a.on k n is_n),
       );
   numbered = subst (AppearFrom 0) (append-nil (map (λ (n : ℕ). Some n) nets)) (a.order [] tt);

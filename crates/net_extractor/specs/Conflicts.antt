@@ -44,12 +44,12 @@ pub record ArePinNames (pins : List RowPin) (i j : ℕ) (first second : PinName)
   pub second_is : second ≡ name_of_pin p
 
 -- the conflict as a difference
-abbrev pub IsNamed : List RowPin → Conflict → NetDiff → Type 0
-IsNamed pins (Open i j) (diff.Unlabelled pin) = ⊥
-IsNamed pins (Open i j) (diff.Stranger pin) = ⊥
-IsNamed pins (Open i j) (diff.Open first second) = ArePinNames pins i j first second
-IsNamed pins (Open i j) (diff.Short first second) = ⊥
-IsNamed pins (Short i j) (diff.Unlabelled pin) = ⊥
-IsNamed pins (Short i j) (diff.Stranger pin) = ⊥
-IsNamed pins (Short i j) (diff.Open first second) = ⊥
-IsNamed pins (Short i j) (diff.Short first second) = ArePinNames pins i j first second
+abbrev pub IsDifferenceOf : List RowPin → Conflict → NetDiff → Type 0
+IsDifferenceOf pins (Open i j) (diff.Unlabelled pin) = ⊥
+IsDifferenceOf pins (Open i j) (diff.Stranger pin) = ⊥
+IsDifferenceOf pins (Open i j) (diff.Open first second) = ArePinNames pins i j first second
+IsDifferenceOf pins (Open i j) (diff.Short first second) = ⊥
+IsDifferenceOf pins (Short i j) (diff.Unlabelled pin) = ⊥
+IsDifferenceOf pins (Short i j) (diff.Stranger pin) = ⊥
+IsDifferenceOf pins (Short i j) (diff.Open first second) = ⊥
+IsDifferenceOf pins (Short i j) (diff.Short first second) = ArePinNames pins i j first second

@@ -42,13 +42,13 @@ pub record IsAbove (path other : List ℕ) : Type 0 where
   pub is : other ≡ path ++ slash ∷ rest
 
 -- in whole names, the path is the other, a proper prefix of it, or below it
-abbrev pub IsAlong : List ℕ → List ℕ → Type 0
-IsAlong path other = (path ≡ other) ⊎ (IsAbove path other ⊎ IsAbove other path)
+abbrev pub IsOnOnePath : List ℕ → List ℕ → Type 0
+IsOnOnePath path other = (path ≡ other) ⊎ (IsAbove path other ⊎ IsAbove other path)
 
 -- The pin is one of a leaf instance (a port of the top has an empty path), and the path stands at that instance.
 pub record IsPlacedBy (path : List ℕ) (pin : RowPin) : Type 0 where
   pub leaf : pin.path ≢ []
-  pub along : IsAlong path pin.path
+  pub along : IsOnOnePath path pin.path
 
 -- the label's path isn't empty, and stands at no leaf instance that has a pin
 pub record IsStranger (pins : List RowPin) (label : NetLabel) : Type 0 where

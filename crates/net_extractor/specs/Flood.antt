@@ -2,13 +2,13 @@
 use Rattle.std.specs.Prelude.{◌≡◌, ◌⊎◌, ℕ, List, length, slice_get, Some, Option}
 use Rattle.or_geom.specs.declared.shape.Shape.{Shape}
 use Rattle.tech_rules.specs.declared.tech.Connect.{Connect}
-use Rattle.shape_bins.specs.Numbers.{IsOn, HasNumber, KeepsNumbers}
+use Rattle.shape_bins.specs.Numbers.{IsGivenNumber, HasNumber, KeepsNumbers}
 use Rattle.tech_rules.specs.Net.{AreOnOneNet}
 use Rattle.tech_rules.specs.Touch.{Touch}
 
 -- no shape has the number
 abbrev pub IsUnused : List (Option ℕ) → ℕ → Type 0
-IsUnused given number = (place : ℕ) → IsOn given place number → ⊥
+IsUnused given number = (place : ℕ) → IsGivenNumber given place number → ⊥
 
 -- each shape that touches the one at the place has a number
 abbrev pub IsSpread : List Connect → List Shape → List (Option ℕ) → ℕ → Type 0
@@ -27,6 +27,6 @@ pub record IsFloodedAt (connections : List Connect) (shapes : List Shape) (start
 pub record IsFlooded (connections : List Connect) (shapes : List Shape) (start number : ℕ) (old new : List (Option ℕ)) : Type 0 where
   pub sized : length new ≡ length old
   pub kept : KeepsNumbers old new
-  pub here : IsOn new start number
-  pub only : (place n : ℕ) → IsOn new place n → IsOn old place n ⊎ IsFloodedAt connections shapes start number place n
-  pub spread : (place : ℕ) → IsOn new place number → IsSpread connections shapes new place
+  pub here : IsGivenNumber new start number
+  pub only : (place n : ℕ) → IsGivenNumber new place n → IsGivenNumber old place n ⊎ IsFloodedAt connections shapes start number place n
+  pub spread : (place : ℕ) → IsGivenNumber new place number → IsSpread connections shapes new place

@@ -5,5 +5,5 @@ use Rattle.netlist.specs.declared.rows.RowPin.{RowPin}
 use Rattle.net_extractor.specs.Difference.{IsPlacedBy}
 
 -- the path stands at a leaf instance that has a pin
-abbrev pub IsPlaced : List RowPin → List ℕ → Type 0
-IsPlaced pins path = SomeHas (IsPlacedBy path) pins
+abbrev pub IsLeafPath : List RowPin → List ℕ → Type 0
+IsLeafPath pins path = SomeHas (IsPlacedBy path) pins

@@ -1,5 +1,5 @@
 ghost use Rattle.std.specs.Prelude.{◌≡◌, ◌↔◌, ◌<◌, length, slice_get, Some, None, IfOk, IfSome};
-ghost use Rattle.net_extractor.specs.Conflicts.{AreConflictPins, IsNamed};
+ghost use Rattle.net_extractor.specs.Conflicts.{AreConflictPins, IsDifferenceOf};
 ghost use Rattle.net_extractor.specs.Difference.{AreAlike};
 ghost use Rattle.net_extractor.specs.FirstDifference.{IsFirstDifference, name_of_label, name_of_pin};
 
@@ -38,7 +38,7 @@ fn label_name(alloc: Global, labels: &[NetLabel], place: usize) -> Result<PinNam
 /// The conflict with the names of its pins.
 fn named(alloc: Global, pins: &[RowPin], conflict: Conflict) -> Result<NetDiff, Memory>
     requires { AreConflictPins pins.now conflict }
-    ensures { IfOk result (IsNamed pins.now conflict) }
+    ensures { IfOk result (IsDifferenceOf pins.now conflict) }
 {
     match conflict {
         Conflict::Open { first, second } => Ok(NetDiff::Open {

@@ -1,7 +1,7 @@
 ghost use Rattle.std.specs.Prelude.{◌≡◌, ◌≢◌, ◌++◌, ◌↔◌, ℕ, List, IsTrue, IfOk, MatchOption};
-ghost use Rattle.net_extractor.specs.Difference.{in_lower_case, IsAbove, IsAlong};
+ghost use Rattle.net_extractor.specs.Difference.{in_lower_case, IsAbove, IsOnOnePath};
 ghost use Rattle.net_extractor.specs.FirstDifference.{AreNoStrangers, IsStrangerAt};
-ghost use Rattle.net_extractor.specs.Strangers.{IsPlaced};
+ghost use Rattle.net_extractor.specs.Strangers.{IsLeafPath};
 
 use crate::label::NetLabel;
 use netlist::RowPin;
@@ -31,7 +31,7 @@ fn is_above(path: &[u8], other: &[u8]) -> bool
 
 /// Whether the path is the other, a proper prefix of it, or below it.
 fn is_along(path: &[u8], other: &[u8]) -> bool
-    ensures { IsTrue result ↔ IsAlong path.now other.now }
+    ensures { IsTrue result ↔ IsOnOnePath path.now other.now }
 {
     if path == other {
         return true;
@@ -41,7 +41,7 @@ fn is_along(path: &[u8], other: &[u8]) -> bool
 
 /// Whether the path stands at a leaf instance that has a pin, looking at one pin after another.
 fn is_placed_among(path: &[u8], pins: &[RowPin]) -> bool
-    ensures { IsTrue result ↔ IsPlaced pins.now path.now }
+    ensures { IsTrue result ↔ IsLeafPath pins.now path.now }
 {
     for pin in pins {
         let instance = pin.path.as_bytes();
@@ -87,7 +87,7 @@ fn likely_pin(instances: &[(&[u8], usize)], path: &[u8]) -> usize {
 
 /// Whether the path stands at the instance of the pin at the place.
 fn stands_at(path: &[u8], pins: &[RowPin], place: usize) -> bool
-    ensures { IsTrue result → IsPlaced pins.now path.now }
+    ensures { IsTrue result → IsLeafPath pins.now path.now }
 {
     if pins.len() <= place {
         return false;
@@ -102,7 +102,7 @@ fn stands_at(path: &[u8], pins: &[RowPin], place: usize) -> bool
 /// Whether a pin is found by the path, or by a path above it, at whose instance the path stands. The pin at the place
 /// `likely` is looked at first, and the pin that the path leads to is left there for the next path.
 fn is_found(path: &[u8], pins: &[RowPin], instances: &[(&[u8], usize)], likely: &mut usize) -> bool
-    ensures { IsTrue result → IsPlaced pins.now path.now }
+    ensures { IsTrue result → IsLeafPath pins.now path.now }
 {
     if stands_at(path, pins, *likely) {
         return true;
@@ -124,7 +124,7 @@ fn is_found(path: &[u8], pins: &[RowPin], instances: &[(&[u8], usize)], likely: 
 
 /// Whether the path stands at a leaf instance that has a pin.
 fn is_placed(path: &[u8], pins: &[RowPin], instances: &[(&[u8], usize)], likely: &mut usize) -> bool
-    ensures { IsTrue result ↔ IsPlaced pins.now path.now }
+    ensures { IsTrue result ↔ IsLeafPath pins.now path.now }
 {
     if is_found(path, pins, instances, likely) {
         return true;

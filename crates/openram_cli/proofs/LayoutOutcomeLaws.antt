@@ -21,8 +21,8 @@ use Rattle.reply_lines.specs.NetLines.{nets_reply}
 use Rattle.reply_lines.specs.Reply.{report_reply}
 use Rattle.command_steps.specs.Once.{IsLow}
 use Rattle.command_steps.specs.Outcome.{WithoutRefusal, ValueOrFault, Then}
-use Rattle.openram_cli.specs.declared.inputs.Layout.{Layout}
-use Rattle.openram_cli.specs.Inputs.{IsSoundLayout}
+use Rattle.openram_cli.specs.declared.inputs.LayoutInput.{LayoutInput}
+use Rattle.openram_cli.specs.Inputs.{IsReadLayout}
 use Rattle.openram_cli.specs.Answer.{AreFlatShapesOf, AreFlat, AreLeafRows, leaves_of, IsReported, IsNetListing, IsCompared, IsCompareAnswer}
 use Rattle.row_answers.proofs.AnswerLaws.{row_answers_are_there}
 use Rattle.design_answers.specs.DesignAnswers.{HasOutcome}
@@ -42,7 +42,7 @@ flatten_low (flatten_fault.TooMany shapes labels) known = omega arith
 flatten_low (flatten_fault.Far x y) known = omega arith
 flatten_low flatten_fault.Memory known = absurd (known refl)
 
-module _ (layout : Layout) where
+module _ (layout : LayoutInput) where
   abbrev IsBad : FlattenFault → Type 0
   IsBad = IsFault layout.tech.layers layout.lib.structs layout.top
 
@@ -77,7 +77,7 @@ rows_low (rows_fault.PortCount path) known = omega arith
 rows_low (rows_fault.TooMany count) known = omega arith
 rows_low rows_fault.Memory known = absurd (known refl)
 
-module _ (layout : Layout) (deck : Deck) (sound : IsSoundLayout layout) where
+module _ (layout : LayoutInput) (deck : Deck) (sound : IsReadLayout layout) where
   abbrev AreRows : Rows → Type 0
   AreRows rows = AreFlatRows deck.subckts layout.top (leaves_of layout.tech) rows.pins
 

@@ -55,7 +55,7 @@ use Rattle.reply_lines.specs.NetLines.{nets_reply}
 use Rattle.reply_lines.specs.Differences.{comparison_reply}
 use Rattle.openram_cli.specs.declared.inputs.Inputs.{Inputs}
 use Rattle.openram_cli.specs.declared.inputs.Inputs.TheVariants as inputs
-use Rattle.openram_cli.specs.declared.inputs.Layout.{Layout}
+use Rattle.openram_cli.specs.declared.inputs.LayoutInput.{LayoutInput}
 use Rattle.openram_cli.specs.declared.inputs.LeafCells.{LeafCells}
 use Rattle.openram_cli.specs.Inspection.{Inspection, LayoutWords, inspection_of}
 use Rattle.openram_cli.specs.Inspection.Inspection.{check, nets, compare, devices, kit}
@@ -157,7 +157,7 @@ module _ (l : AreLaws) where
       on_fault (Spells bytes) (λ (f : GdsFault). IsFaultOf f bytes) refusal_of.Gds (λ x y p q. l.libraries bytes x y (omega (arith, short)) p q)
       (λ f g s t p q. l.faults bytes f g (gds_lasts f s) (gds_lasts g t) p q) (λ f x s p q. l.no_faults bytes x f (gds_lasts f s) p q)
 
-  on_shapes : (layout : Layout) → AllByRecursion IsWritableCell layout.lib.structs → IsOnce (AreFlatShapesOf layout)
+  on_shapes : (layout : LayoutInput) → AllByRecursion IsWritableCell layout.lib.structs → IsOnce (AreFlatShapesOf layout)
   on_shapes layout writable =
       let layers = layout.tech.layers in
       let structs = layout.lib.structs in
@@ -165,7 +165,7 @@ module _ (l : AreLaws) where
       (λ f g s t p q. l.refusals layers structs layout.top f g writable (flatten_lasts f s) (flatten_lasts g t) p q)
       (λ f x s p q. l.no_shapes layers structs layout.top x f writable (flatten_lasts f s) p q)
 
-  on_flat : (layout : Layout) → AllByRecursion IsWritableCell layout.lib.structs → IsOnce (AreFlat layout)
+  on_flat : (layout : LayoutInput) → AllByRecursion IsWritableCell layout.lib.structs → IsOnce (AreFlat layout)
   on_flat layout writable =
       let layers = layout.tech.layers in
       let structs = layout.lib.structs in
@@ -173,7 +173,7 @@ module _ (l : AreLaws) where
       (λ f g s t p q. l.refusals layers structs layout.top f g writable (flatten_lasts f s) (flatten_lasts g t) p q)
       (λ f x s p q. l.no_lists layers structs layout.top x f writable (flatten_lasts f s) p q)
 
-  on_rows : (layout : Layout) (d : Deck) → IsOnce (AreLeafRows layout d)
+  on_rows : (layout : LayoutInput) (d : Deck) → IsOnce (AreLeafRows layout d)
   on_rows layout d =
       let leaves = leaves_of layout.tech in
       on_fault (λ (rows : Rows). AreFlatRows d.subckts layout.top leaves rows.pins) (IsFlatFault d.subckts layout.top leaves) refusal_of.Rows
@@ -189,7 +189,7 @@ module _ (l : AreLaws) where
 
   on_layout : (files : Files) (words : LayoutWords) → HoldBytes files → IsOnce (IsLayout files words)
   on_layout files words hold =
-      let last : Tech → Library → Layout → Type 0 = λ tech lib layout. layout ≡ record { tech = tech; lib = lib; top = words.top } in
+      let last : Tech → Library → LayoutInput → Type 0 = λ tech lib layout. layout ≡ record { tech = tech; lib = lib; top = words.top } in
       on_then (IsTechnologyFile files words.tech) (IsLayoutWith files words) (on_tech_file files words.tech)
       (λ tech made. on_then (IsLibraryFile files words.gds) (λ lib. WithoutRefusal (last tech lib)) (on_library_file files words.gds hold) (λ lib spelled. on_gives (last tech lib) (λ x y p q. p ∙ sym q)))
 
@@ -220,20 +220,20 @@ module _ (l : AreLaws) where
       let writable : IsWritable lib = l.writable file.0 lib (hold (name ++ codes ".gds") file.0 file.1.holds) file.2 in
       subst (λ (x : LeafCells). AllByRecursion IsWritableCell x.lib.structs) (sym made.2.2.2) writable.cells
 
-  layout_writable : (files : Files) (words : LayoutWords) (layout : Layout) → HoldBytes files → IsLayout files words (Ok layout) → AllByRecursion IsWritableCell layout.lib.structs
+  layout_writable : (files : Files) (words : LayoutWords) (layout : LayoutInput) → HoldBytes files → IsLayout files words (Ok layout) → AllByRecursion IsWritableCell layout.lib.structs
   layout_writable files words layout hold made =
       let lib = made.2.0 in
       let file = made.2.1 in
       let writable : IsWritable lib = l.writable file.0 lib (hold words.gds file.0 file.1.holds) file.2 in
-      subst (λ (x : Layout). AllByRecursion IsWritableCell x.lib.structs) (sym made.2.2) writable.cells
+      subst (λ (x : LayoutInput). AllByRecursion IsWritableCell x.lib.structs) (sym made.2.2) writable.cells
 
-  on_check : (layout : Layout) → AllByRecursion IsWritableCell layout.lib.structs → IsOnce (IsCheckAnswer layout)
+  on_check : (layout : LayoutInput) → AllByRecursion IsWritableCell layout.lib.structs → IsOnce (IsCheckAnswer layout)
   on_check layout w = on_then (AreFlatShapesOf layout) (λ shapes. WithoutRefusal (IsReported layout.tech shapes)) (on_shapes layout w) (λ shapes flat. on_gives (IsReported layout.tech shapes) (reported l.reports layout.tech shapes))
 
-  on_nets : (layout : Layout) → AllByRecursion IsWritableCell layout.lib.structs → IsOnce (IsNetsAnswer layout)
+  on_nets : (layout : LayoutInput) → AllByRecursion IsWritableCell layout.lib.structs → IsOnce (IsNetsAnswer layout)
   on_nets layout w = on_then (AreFlat layout) (λ lists. WithoutRefusal (IsNetListing layout.tech lists)) (on_flat layout w) (λ lists flat. on_gives (IsNetListing layout.tech lists) (listed l.nets layout.tech lists))
 
-  on_compare : (layout : Layout) (d : Deck) → AllByRecursion IsWritableCell layout.lib.structs → IsOnce (IsCompareAnswer layout d)
+  on_compare : (layout : LayoutInput) (d : Deck) → AllByRecursion IsWritableCell layout.lib.structs → IsOnce (IsCompareAnswer layout d)
   on_compare layout d w =
       let last : FlatLists → Rows → Reply → Type 0 = λ lists rows. IsCompared layout.tech lists rows in
       on_then (AreFlat layout) (λ lists. Then (AreLeafRows layout d) (λ rows. WithoutRefusal (last lists rows))) (on_flat layout w)

@@ -42,13 +42,13 @@ use Rattle.design_answers.proofs.LowLaws.{gds_low}
 use Rattle.design_answers.proofs.StepLaws.{answered_by, answered_file, answered_result, answered_tech_file, answered_then, answered_value}
 use Rattle.openram_cli.specs.declared.inputs.Inputs.{Inputs}
 use Rattle.openram_cli.specs.declared.inputs.Inputs.TheVariants as inputs
-use Rattle.openram_cli.specs.declared.inputs.Layout.{Layout}
+use Rattle.openram_cli.specs.declared.inputs.LayoutInput.{LayoutInput}
 use Rattle.openram_cli.specs.declared.inputs.LeafCells.{LeafCells}
 use Rattle.openram_cli.specs.Answer.{IsAnswer, IsCommandWork, IsReplyTo, IsUsage}
 use Rattle.openram_cli.specs.Inspection.{Inspection, LayoutWords, inspection_of}
 use Rattle.openram_cli.specs.Inspection.Inspection.{check, nets, compare, devices, kit}
 use Rattle.openram_cli.specs.Inputs.{AreCellsOver, AreCellsWith, AreCompared, AreInputs, AreLeafCells, HasDevices, IsDeck, IsDeckFile, IsDeviceTechnology}
-use Rattle.openram_cli.specs.Inputs.{IsLayout, IsLayoutWith, IsLibrary, IsLibraryFile, IsSoundLayout}
+use Rattle.openram_cli.specs.Inputs.{IsLayout, IsLayoutWith, IsLibrary, IsLibraryFile, IsReadLayout}
 use Rattle.openram_cli.specs.Outcomes.{InputsHaveOutcomes, IsNoKit, AnswersAreThere}
 use Rattle.openram_cli.proofs.LayoutOutcomeLaws.{checks_have_outcomes, listings_have_outcomes, comparisons_have_outcomes}
 
@@ -96,7 +96,7 @@ module _ (files : Files) (hold : HoldBytes files) where
 
   answered_layout_with : (words : LayoutWords) (tech : Tech) → HasOutcome (IsLayoutWith files words tech)
   answered_layout_with words tech =
-      let made_of : Library → Layout → Type 0 = λ lib layout. layout ≡ record { tech = tech; lib = lib; top = words.top } in
+      let made_of : Library → LayoutInput → Type 0 = λ lib layout. layout ≡ record { tech = tech; lib = lib; top = words.top } in
       answered_then (IsLibraryFile files words.gds) (λ lib. WithoutRefusal (made_of lib)) (answered_library_file words.gds)
       (λ lib made. answered_value (made_of lib) (record { tech = tech; lib = lib; top = words.top }) refl)
 
@@ -105,7 +105,7 @@ module _ (files : Files) (hold : HoldBytes files) where
       answered_then (IsTechnologyFile files words.tech) (IsLayoutWith files words) (answered_tech_file files words.tech)
       (λ tech made. answered_layout_with words tech)
 
-  answered_compared : (netlist : List ℕ) (layout : Layout) → HasOutcome (AreCompared files netlist layout)
+  answered_compared : (netlist : List ℕ) (layout : LayoutInput) → HasOutcome (AreCompared files netlist layout)
   answered_compared netlist layout =
       let read_as : Deck → Inputs → Type 0 = λ d read. read ≡ inputs.Compare layout d in
       answered_then (IsDeckFile files netlist) (λ d. WithoutRefusal (read_as d)) (answered_deck_file files netlist)
@@ -134,11 +134,11 @@ module _ (files : Files) (hold : HoldBytes files) where
 
   answered_inputs : (c : Inspection) → HasOutcome (AreInputs files c)
   answered_inputs (check words) =
-      let read_as : Layout → Inputs → Type 0 = λ layout read. read ≡ inputs.Check layout in
+      let read_as : LayoutInput → Inputs → Type 0 = λ layout read. read ≡ inputs.Check layout in
       answered_then (IsLayout files words) (λ layout. WithoutRefusal (read_as layout)) (answered_layout words)
       (λ layout made. answered_value (read_as layout) (inputs.Check layout) refl)
   answered_inputs (nets words) =
-      let read_as : Layout → Inputs → Type 0 = λ layout read. read ≡ inputs.Nets layout in
+      let read_as : LayoutInput → Inputs → Type 0 = λ layout read. read ≡ inputs.Nets layout in
       answered_then (IsLayout files words) (λ layout. WithoutRefusal (read_as layout)) (answered_layout words)
       (λ layout made. answered_value (read_as layout) (inputs.Nets layout) refl)
   answered_inputs (compare words netlist) =
@@ -153,13 +153,13 @@ module _ (files : Files) (hold : HoldBytes files) where
       (λ made is. answered_value (read_as made) (inputs.Kit made) refl)
 
   -- a layout that was read can be written, and its technology is one
-  sound_layout : LibrariesAreWritable → (words : LayoutWords) (layout : Layout) → IsLayout files words (Ok layout) → IsSoundLayout layout
+  sound_layout : LibrariesAreWritable → (words : LayoutWords) (layout : LayoutInput) → IsLayout files words (Ok layout) → IsReadLayout layout
   sound_layout writable words layout made =
       let tech = made.0 in
       let with = made.2 in
       let lib = with.0 in
       let bytes = with.1.0 in
-      subst IsSoundLayout (sym with.2) (record {
+      subst IsReadLayout (sym with.2) (record {
         tech = technology-IsTech made.1.0 tech made.1.2;
         writable = writable bytes lib (hold words.gds bytes with.1.1.holds) with.1.2;
       })

@@ -29,28 +29,28 @@ use Rattle.reply_lines.specs.NetLines.{nets_reply}
 use Rattle.reply_lines.specs.Reply.{refusal_reply, report_reply}
 use Rattle.openram_cli.specs.declared.inputs.Inputs.{Inputs}
 use Rattle.openram_cli.specs.declared.inputs.Inputs.TheVariants as inputs
-use Rattle.openram_cli.specs.declared.inputs.Layout.{Layout}
+use Rattle.openram_cli.specs.declared.inputs.LayoutInput.{LayoutInput}
 use Rattle.openram_cli.specs.Inspection.{Inspection, inspection_of}
 use Rattle.openram_cli.specs.Inputs.{AreInputs}
 use Rattle.command_steps.specs.Outcome.{WithoutRefusal, ValueOrFault, Then}
 
 -- why the structure has no flat layout
-abbrev pub IsFlatteningFault : Layout → FlattenFault → Type 0
+abbrev pub IsFlatteningFault : LayoutInput → FlattenFault → Type 0
 IsFlatteningFault layout = IsFault layout.tech.layers layout.lib.structs layout.top
 
 -- the flat shapes of the structure, or the first refusal
-abbrev pub AreFlatShapesOf : Layout → Result (List Shape) Refusal → Type 0
+abbrev pub AreFlatShapesOf : LayoutInput → Result (List Shape) Refusal → Type 0
 AreFlatShapesOf layout = ValueOrFault (AreFlatShapes layout.tech.layers layout.lib.structs layout.top) (IsFlatteningFault layout) refusal_of.Flatten
 
 -- the flat shapes and labels of the structure, or the first refusal
-abbrev pub AreFlat : Layout → Result FlatLists Refusal → Type 0
+abbrev pub AreFlat : LayoutInput → Result FlatLists Refusal → Type 0
 AreFlat layout = ValueOrFault (AreFlatLists layout.tech.layers layout.lib.structs layout.top) (IsFlatteningFault layout) refusal_of.Flatten
 
 -- the same of a flat layout, wherever its lists lie: of its shapes alone, and of both lists
-abbrev pub AreFlatShapesIn : Layout → Result Flat Refusal → Type 0
+abbrev pub AreFlatShapesIn : LayoutInput → Result Flat Refusal → Type 0
 AreFlatShapesIn layout = ValueOrFault (λ flat. AreFlatShapes layout.tech.layers layout.lib.structs layout.top flat.shapes.now) (IsFlatteningFault layout) refusal_of.Flatten
 
-abbrev pub AreFlatListsIn : Layout → Result Flat Refusal → Type 0
+abbrev pub AreFlatListsIn : LayoutInput → Result Flat Refusal → Type 0
 AreFlatListsIn layout = ValueOrFault (λ flat. AreFlatLists layout.tech.layers layout.lib.structs layout.top (lists_of flat)) (IsFlatteningFault layout) refusal_of.Flatten
 
 -- the cells of the technology's roles, which are the leaves of a netlist
@@ -58,7 +58,7 @@ abbrev pub leaves_of : Tech → List (List ℕ)
 leaves_of tech = map (λ r. r.cell) tech.roles
 
 -- the flat rows of the subcircuit that has the structure's name, without regard to case, or the first refusal
-abbrev pub AreLeafRows : Layout → Deck → Result Rows Refusal → Type 0
+abbrev pub AreLeafRows : LayoutInput → Deck → Result Rows Refusal → Type 0
 AreLeafRows layout d =
     ValueOrFault (λ rows. AreFlatRows d.subckts layout.top (leaves_of layout.tech) rows.pins) (IsFlatFault d.subckts layout.top (leaves_of layout.tech)) refusal_of.Rows
 
@@ -86,15 +86,15 @@ IsCompared tech lists rows reply =
     × ((difference : Option NetDiff) × IsDifference labels rows.pins difference × (reply ≡ comparison_reply difference))
 
 -- the answer of `check`, in which labels play no part, and how many workers do it neither
-abbrev pub IsCheckAnswer : Layout → Result Reply Refusal → Type 0
+abbrev pub IsCheckAnswer : LayoutInput → Result Reply Refusal → Type 0
 IsCheckAnswer layout = Then (AreFlatShapesOf layout) (λ shapes. WithoutRefusal (IsReported layout.tech shapes))
 
 -- the answer of `nets`
-abbrev pub IsNetsAnswer : Layout → Result Reply Refusal → Type 0
+abbrev pub IsNetsAnswer : LayoutInput → Result Reply Refusal → Type 0
 IsNetsAnswer layout = Then (AreFlat layout) (λ lists. WithoutRefusal (IsNetListing layout.tech lists))
 
 -- the answer of `compare`
-abbrev pub IsCompareAnswer : Layout → Deck → Result Reply Refusal → Type 0
+abbrev pub IsCompareAnswer : LayoutInput → Deck → Result Reply Refusal → Type 0
 IsCompareAnswer layout d =
     Then (AreFlat layout) (λ lists.
     Then (AreLeafRows layout d) (λ rows.

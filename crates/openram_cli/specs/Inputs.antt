@@ -14,7 +14,7 @@ use Rattle.reply_lines.specs.declared.refusal.Refusal.{Refusal}
 use Rattle.reply_lines.specs.declared.refusal.Refusal.TheVariants as refusal_of
 use Rattle.openram_cli.specs.declared.inputs.Inputs.{Inputs}
 use Rattle.openram_cli.specs.declared.inputs.Inputs.TheVariants as inputs
-use Rattle.openram_cli.specs.declared.inputs.Layout.{Layout}
+use Rattle.openram_cli.specs.declared.inputs.LayoutInput.{LayoutInput}
 use Rattle.openram_cli.specs.declared.inputs.LeafCells.{LeafCells}
 use Rattle.openram_cli.specs.Inspection.{Inspection, LayoutWords}
 use Rattle.openram_cli.specs.Inspection.Inspection.{check, nets, compare, devices, kit}
@@ -38,16 +38,16 @@ abbrev pub IsDeckFile : Files → List ℕ → Result Deck Refusal → Type 0
 IsDeckFile files name = Then (IsFile files name) IsDeck
 
 -- the layout after the technology
-abbrev pub IsLayoutWith : Files → LayoutWords → Tech → Result Layout Refusal → Type 0
+abbrev pub IsLayoutWith : Files → LayoutWords → Tech → Result LayoutInput Refusal → Type 0
 IsLayoutWith files words tech =
     Then (IsLibraryFile files words.gds) (λ lib. WithoutRefusal (λ layout. layout ≡ record { tech = tech; lib = lib; top = words.top }))
 
 -- the technology first, and then the layout
-abbrev pub IsLayout : Files → LayoutWords → Result Layout Refusal → Type 0
+abbrev pub IsLayout : Files → LayoutWords → Result LayoutInput Refusal → Type 0
 IsLayout files words = Then (IsTechnologyFile files words.tech) (IsLayoutWith files words)
 
 -- the netlist after the layout
-abbrev pub AreCompared : Files → List ℕ → Layout → Result Inputs Refusal → Type 0
+abbrev pub AreCompared : Files → List ℕ → LayoutInput → Result Inputs Refusal → Type 0
 AreCompared files netlist layout = Then (IsDeckFile files netlist) (λ d. WithoutRefusal (λ read. read ≡ inputs.Compare layout d))
 
 -- a technology that has kinds of transistors, or that it has none
@@ -81,7 +81,7 @@ AreInputs files (devices name) = Then (AreLeafCells files name) (λ cells. Witho
 AreInputs files (kit name) = Then (IsKitUnder files name) (λ made. WithoutRefusal (λ read. read ≡ inputs.Kit made))
 
 -- what is known of every technology and every library that is read
-pub record IsSoundLayout (layout : Layout) : Type 0 where
+pub record IsReadLayout (layout : LayoutInput) : Type 0 where
   pub tech : IsTech layout.tech
   pub writable : IsWritable layout.lib
 
@@ -90,8 +90,8 @@ pub record AreSoundCells (cells : LeafCells) : Type 0 where
   pub writable : IsWritable cells.lib
 
 abbrev pub AreSound : Inputs → Type 0
-AreSound (inputs.Check layout) = IsSoundLayout layout
-AreSound (inputs.Nets layout) = IsSoundLayout layout
-AreSound (inputs.Compare layout d) = IsSoundLayout layout
+AreSound (inputs.Check layout) = IsReadLayout layout
+AreSound (inputs.Nets layout) = IsReadLayout layout
+AreSound (inputs.Compare layout d) = IsReadLayout layout
 AreSound (inputs.Devices cells) = AreSoundCells cells
 AreSound (inputs.Kit made) = IsKit made

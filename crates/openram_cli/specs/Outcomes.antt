@@ -5,11 +5,11 @@ use Rattle.netlist.specs.declared.deck.Deck.{Deck}
 use Rattle.reply_lines.specs.declared.reply.Reply.{Reply}
 use Rattle.build_command.specs.OneDesign.{HoldBytes}
 use Rattle.design_answers.specs.DesignAnswers.{HasOutcome}
-use Rattle.openram_cli.specs.declared.inputs.Layout.{Layout}
+use Rattle.openram_cli.specs.declared.inputs.LayoutInput.{LayoutInput}
 use Rattle.openram_cli.specs.Answer.{IsAnswer, IsCheckAnswer, IsNetsAnswer, IsCompareAnswer}
 use Rattle.openram_cli.specs.Inspection.{Inspection, inspection_of}
 use Rattle.openram_cli.specs.Inspection.Inspection.{kit}
-use Rattle.openram_cli.specs.Inputs.{AreInputs, IsSoundLayout}
+use Rattle.openram_cli.specs.Inputs.{AreInputs, IsReadLayout}
 
 -- what the files of each command hold is read, or refused, over files of bytes
 abbrev pub InputsHaveOutcomes : Type 0
@@ -17,13 +17,13 @@ InputsHaveOutcomes = (files : Files) (c : Inspection) → HoldBytes files → Ha
 
 -- the work of `check`, `nets` and `compare` on each layout that is read has an outcome
 abbrev pub ChecksHaveOutcomes : Type 0
-ChecksHaveOutcomes = (layout : Layout) → IsSoundLayout layout → HasOutcome (IsCheckAnswer layout)
+ChecksHaveOutcomes = (layout : LayoutInput) → IsReadLayout layout → HasOutcome (IsCheckAnswer layout)
 
 abbrev pub ListingsHaveOutcomes : Type 0
-ListingsHaveOutcomes = (layout : Layout) → IsSoundLayout layout → HasOutcome (IsNetsAnswer layout)
+ListingsHaveOutcomes = (layout : LayoutInput) → IsReadLayout layout → HasOutcome (IsNetsAnswer layout)
 
 abbrev pub ComparisonsHaveOutcomes : Type 0
-ComparisonsHaveOutcomes = (layout : Layout) (deck : Deck) → IsSoundLayout layout → HasOutcome (IsCompareAnswer layout deck)
+ComparisonsHaveOutcomes = (layout : LayoutInput) (deck : Deck) → IsReadLayout layout → HasOutcome (IsCompareAnswer layout deck)
 
 -- any command but `kit`
 abbrev pub IsNoKit : Inspection → Type 0

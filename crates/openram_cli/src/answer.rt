@@ -7,10 +7,10 @@ ghost use Rattle.tech_rules.specs.Facts.{IsTech};
 ghost use Rattle.tile_checker.specs.RuleReport.{IsReport};
 ghost use Rattle.openram_cli.specs.Answer.{AreFlatListsIn, AreFlatShapesIn, AreLeafRows, AreNetsOf, IsCheckAnswer};
 ghost use Rattle.openram_cli.specs.Answer.{IsNetsAnswer, IsCompareAnswer, IsReplyTo};
-ghost use Rattle.openram_cli.specs.Inputs.{AreSound, IsSoundLayout};
+ghost use Rattle.openram_cli.specs.Inputs.{AreSound, IsReadLayout};
 ghost use Rattle.command_steps.specs.Outcome.{UnlessMemory, is_read_failed, is_usage_outcome};
 
-use crate::inputs::{Inputs, Layout};
+use crate::inputs::{Inputs, LayoutInput};
 use bumpalo::Bump;
 use cell_hierarchy::{Flat, flatten, flatten_shapes};
 use device_command::answer_devices;
@@ -27,8 +27,8 @@ use tech_rules::{RoleName, Tech};
 use tile_checker::{Gate, Violation, check_all};
 
 /// The flat shapes and labels of the structure, in the arena.
-fn flat_of<'b>(alloc: Global, bump: &'b Bump, layout: &Layout) -> Result<Flat<'b>, Refusal>
-    requires { IsSoundLayout layout.now }
+fn flat_of<'b>(alloc: Global, bump: &'b Bump, layout: &LayoutInput) -> Result<Flat<'b>, Refusal>
+    requires { IsReadLayout layout.now }
     ensures flat { UnlessMemory (AreFlatListsIn layout.now) result }
     ensures rises { IfOk result (λ flat. IsStrictlySortedBy shape_order flat.shapes.now) }
     ensures few { IfOk result (λ flat. length flat.shapes.now ≤ 16777216) }
@@ -40,8 +40,8 @@ fn flat_of<'b>(alloc: Global, bump: &'b Bump, layout: &Layout) -> Result<Flat<'b
 }
 
 /// The flat shapes of the structure alone, in the arena.
-fn shapes_of<'b>(alloc: Global, bump: &'b Bump, layout: &Layout) -> Result<Flat<'b>, Refusal>
-    requires { IsSoundLayout layout.now }
+fn shapes_of<'b>(alloc: Global, bump: &'b Bump, layout: &LayoutInput) -> Result<Flat<'b>, Refusal>
+    requires { IsReadLayout layout.now }
     ensures flat { UnlessMemory (AreFlatShapesIn layout.now) result }
     ensures rises { IfOk result (λ flat. IsStrictlySortedBy shape_order flat.shapes.now) }
     ensures reach { IfOk result (λ flat. AreReachable flat.shapes.now) }
@@ -103,7 +103,7 @@ fn cells_of(alloc: Global, roles: &[RoleName]) -> Result<Vec<Name>, Memory>
 }
 
 /// The flat rows of the subcircuit that has the structure's name. The cells of the technology's roles are its leaves.
-fn rows_of(alloc: Global, layout: &Layout, deck: &Deck) -> Result<Rows, Refusal>
+fn rows_of(alloc: Global, layout: &LayoutInput, deck: &Deck) -> Result<Rows, Refusal>
     ensures rows { UnlessMemory (AreLeafRows layout.now deck.now) result }
     ensures read { is_read_failed result ≡ false }
     ensures words { is_usage_outcome result ≡ false }
@@ -117,10 +117,10 @@ fn answer_check<R: Threads + Sync, G: Gate + Sync>(
     rt: &R,
     alloc: Global,
     gate: &G,
-    layout: Layout,
+    layout: LayoutInput,
     workers: u8,
 ) -> Result<Reply, Refusal>
-    requires sound { IsSoundLayout layout }
+    requires sound { IsReadLayout layout }
     requires some { 0 < workers }
     requires at_most { workers ≤ 64 }
     ensures answer { UnlessMemory (IsCheckAnswer layout) result }
@@ -131,13 +131,17 @@ fn answer_check<R: Threads + Sync, G: Gate + Sync>(
     let bump = Bump::new(alloc);
     let flat = shapes_of(alloc, &bump, &layout)?;
     let violations = violations_of(rt, alloc, gate, &bump, &layout.tech, &flat, workers)?;
-    let Layout { tech, .. } = layout;
+    let LayoutInput { tech, .. } = layout;
     Ok(report_of(tech.layers, violations))
 }
 
 /// The labels of the structure with their nets.
-fn answer_nets<R: Threads + Sync>(rt: &R, alloc: Global, layout: &Layout) -> Result<Reply, Refusal>
-    requires { IsSoundLayout layout.now }
+fn answer_nets<R: Threads + Sync>(
+    rt: &R,
+    alloc: Global,
+    layout: &LayoutInput,
+) -> Result<Reply, Refusal>
+    requires { IsReadLayout layout.now }
     ensures answer { UnlessMemory (IsNetsAnswer layout.now) result }
     ensures small { IfOk result (λ reply. reply.status < 2) }
     ensures read { is_read_failed result ≡ false }
@@ -153,10 +157,10 @@ fn answer_nets<R: Threads + Sync>(rt: &R, alloc: Global, layout: &Layout) -> Res
 fn answer_compare<R: Threads + Sync>(
     rt: &R,
     alloc: Global,
-    layout: &Layout,
+    layout: &LayoutInput,
     deck: &Deck,
 ) -> Result<Reply, Refusal>
-    requires { IsSoundLayout layout.now }
+    requires { IsReadLayout layout.now }
     ensures answer { UnlessMemory (IsCompareAnswer layout.now deck.now) result }
     ensures small { IfOk result (λ reply. reply.status < 2) }
     ensures read { is_read_failed result ≡ false }

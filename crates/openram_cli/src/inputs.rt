@@ -22,7 +22,7 @@ use tech_rules::Tech;
 
 /// A technology and a library, of which one structure is looked at.
 #[derive(Drop)]
-pub struct Layout {
+pub struct LayoutInput {
     pub tech: Tech,
     pub lib: Library,
     pub top: Name,
@@ -39,9 +39,9 @@ pub struct LeafCells {
 /// What the files of a command hold, each decoded: all that its answer depends on.
 #[derive(Drop)]
 pub enum Inputs {
-    Check(Layout),
-    Nets(Layout),
-    Compare { layout: Layout, deck: Deck },
+    Check(LayoutInput),
+    Nets(LayoutInput),
+    Compare { layout: LayoutInput, deck: Deck },
     Devices(LeafCells),
     Kit(Kit),
 }
@@ -67,7 +67,7 @@ fn read_layout<S: Store>(
     alloc: Global,
     words: LayoutWords<'_>,
     store: &mut S,
-) -> Result<Layout, Refusal>
+) -> Result<LayoutInput, Refusal>
     ensures read { HasRead (λ files. IsLayout files (told_layout words.entry)) result (S.state store.old)
         (S.state store.new) }
     ensures tech { IfOk result (λ layout. IsTech layout.tech) }
@@ -77,7 +77,7 @@ fn read_layout<S: Store>(
     let tech = read_technology(alloc, words.tech, store)?;
     let lib = read_library(alloc, words.gds, store)?;
     let top = Name::from_bytes(alloc, words.top.as_bytes())?;
-    Ok(Layout { tech, lib, top })
+    Ok(LayoutInput { tech, lib, top })
 }
 
 /// A technology that has kinds of transistors.

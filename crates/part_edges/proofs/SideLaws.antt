@@ -9,7 +9,7 @@ use Rattle.leaf_shapes.specs.Demands.{PinDemand}
 use Rattle.leaf_shapes.specs.declared.pins.LeafPin.{LeafPin}
 use Rattle.leaf_tables.specs.declared.part.Edge.{Edge}
 use Rattle.leaf_tables.specs.NearLeaf.{ArePinsReachable}
-use Rattle.part_edges.specs.declared.side.Side.{Side}
+use Rattle.part_edges.specs.declared.side.PartSide.{PartSide}
 use Rattle.part_edges.specs.PartPins.{PartPin, placed_pin, is_at_side, net_of, side_pins, edge_of, meets, edges_at}
 
 one_edge : (x : PartPin) (m : List PartPin) (t : Bool) → map edge_of (cond t (x ∷ []) []) ++ map edge_of m ≡ map edge_of (cond t (x ∷ m) m)
@@ -17,7 +17,7 @@ one_edge x m true = refl
 one_edge x m false = refl
 
 -- a pin that is demanded at a side
-pub pin_more : (side : Side) (role : Role) (nets : List (List ℕ)) (place : Place) (d : PinDemand) (ds : List PinDemand) (p : LeafPin) (ps : List LeafPin) (rest : List PinDemand) (pins : List LeafPin) (now new all : List Edge) (net : List ℕ)
+pub pin_more : (side : PartSide) (role : Role) (nets : List (List ℕ)) (place : Place) (d : PinDemand) (ds : List PinDemand) (p : LeafPin) (ps : List LeafPin) (rest : List PinDemand) (pins : List LeafPin) (now new all : List Edge) (net : List ℕ)
     → rest ≡ d ∷ ds → pins ≡ p ∷ ps → is_at_side d.fit ≡ true → net ≡ net_of (role_ports role) nets d.pin → new ≡ now ++ edges_at side (placed_pin net place p.rect ∷ [])
     → now ++ edges_at side (side_pins role nets place rest pins) ≡ all → new ++ edges_at side (side_pins role nets place ds ps) ≡ all
 pin_more side role nets place d ds p ps rest pins now new all net front first at is added before =

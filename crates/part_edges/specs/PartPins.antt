@@ -21,8 +21,8 @@ use Rattle.leaf_tables.specs.declared.kit.Leaf.{Leaf}
 use Rattle.leaf_tables.specs.declared.part.Edge.{Edge}
 use Rattle.leaf_tables.specs.declared.part.Edges.{Edges}
 use Rattle.leaf_tables.specs.Alignment.{leaf_in}
-use Rattle.part_edges.specs.declared.side.Side.{Side}
-use Rattle.part_edges.specs.declared.side.Side.TheVariants.{Lower, Upper}
+use Rattle.part_edges.specs.declared.side.PartSide.{PartSide}
+use Rattle.part_edges.specs.declared.side.PartSide.TheVariants.{Lower, Upper}
 
 -- a pin of a part: its net, and where its shape begins from the left, begins from below, and ends above
 pub record PartPin : Type 0 where
@@ -70,8 +70,8 @@ edge_pins_of None = []
 edge_pins_of (Some leaf) = leaf.pins
 
 -- those of the role's leaf cell as it stands at the place, with its ports on these nets
-abbrev pub leaf_pins : List Leaf → Role → List (List ℕ) → Place → List PartPin
-leaf_pins leaves role nets place = side_pins role nets place (role_demands role) (edge_pins_of (leaf_in leaves role))
+abbrev pub edge_pins : List Leaf → Role → List (List ℕ) → Place → List PartPin
+edge_pins leaves role nets place = side_pins role nets place (role_demands role) (edge_pins_of (leaf_in leaves role))
 
 -- Those of the leaf cells of a part, in turn: each of its role, on the nets of its instance in the part's subcircuit, and as it
 -- stands in the part's cell. (The three lists of a part are equally long.)
@@ -79,7 +79,7 @@ abbrev pub part_pins : List Leaf → List Role → List Instance → List Placed
 part_pins leaves [] instances placed = []
 part_pins leaves (r ∷ rs) [] placed = []
 part_pins leaves (r ∷ rs) (i ∷ is) [] = []
-part_pins leaves (r ∷ rs) (i ∷ is) (p ∷ ps) = leaf_pins leaves r i.nodes p.place ++ part_pins leaves rs is ps
+part_pins leaves (r ∷ rs) (i ∷ is) (p ∷ ps) = edge_pins leaves r i.nodes p.place ++ part_pins leaves rs is ps
 
 -- where a net comes to an edge
 abbrev pub edge_at : List ℕ → ℤ → Edge
@@ -105,15 +105,15 @@ abbrev pub begins_at : ℤ → PartPin → Bool
 begins_at y pin = int_eq pin.low y
 
 -- what lies between these heights reaches this side
-abbrev pub reaches : Side → ℤ → ℤ → Bool
+abbrev pub reaches : PartSide → ℤ → ℤ → Bool
 reaches Lower low high = int_eq low (pos 0)
 reaches (Upper height) low high = int_eq high height
 
-abbrev pub meets : Side → PartPin → Bool
+abbrev pub meets : PartSide → PartPin → Bool
 meets side pin = reaches side pin.low pin.high
 
 -- the edges at this side, in the order of the pins
-abbrev pub edges_at : Side → List PartPin → List Edge
+abbrev pub edges_at : PartSide → List PartPin → List Edge
 edges_at side pins = map edge_of (filter (meets side) pins)
 
 -- The edges of a part that has these pins: at the top those of the pins that end at its upper side, at the bottom those of the

@@ -9,4 +9,4 @@ mod side;
 pub use edge::{edge_at, sorted_edges};
 pub use part::add_part;
 pub use pins::{edges_of, side_edges};
-pub use side::Side;
+pub use side::PartSide;

@@ -5,14 +5,14 @@ ghost use Rattle.or_geom.specs.Place.{IsNearPoint};
 ghost use Rattle.cell_roles.specs.Roles.{role_ports};
 ghost use Rattle.leaf_shapes.specs.Demands.{plain_demand};
 ghost use Rattle.leaf_tables.specs.Kits.{IsKit};
-ghost use Rattle.part_edges.specs.PartPins.{placed_pin, port_place, net_of, side_pins, leaf_pins, part_pins, edges_at};
+ghost use Rattle.part_edges.specs.PartPins.{placed_pin, port_place, net_of, side_pins, edge_pins, part_pins, edges_at};
 ghost use Rattle.part_edges.specs.PartPins.{AreEdgesOf};
 
 use crate::edge::{edge_at, sorted_edges};
-use crate::side::{Side, is_at_side};
+use crate::side::{PartSide, is_at_side};
 use cell_builder::PlacedInstance;
 use cell_roles::Role;
-use leaf_shapes::{Demand, LeafPin, demands};
+use leaf_shapes::{LeafPin, PinRequirement, demands};
 use leaf_tables::{Edge, Edges, Kit, leaf_of};
 use netlist::Instance;
 use or_geom::{Memory, Name, Place};
@@ -54,7 +54,7 @@ fn add_pin_edge(
     net: &[u8],
     place: Place,
     pin: &LeafPin,
-    side: Side,
+    side: PartSide,
     edges: &mut Vec<Edge>,
 ) -> Result<(), Memory>
     requires place { IsNearPoint place.at }
@@ -82,9 +82,9 @@ fn add_side_edges(
     alloc: Global,
     leaf: PlacedLeaf,
     nets: &[Name],
-    demands: &[Demand],
+    demands: &[PinRequirement],
     pins: &[LeafPin],
-    side: Side,
+    side: PartSide,
     edges: &mut Vec<Edge>,
 ) -> Result<(), Memory>
     requires place { IsNearPoint leaf.place.at }
@@ -116,13 +116,13 @@ fn add_leaf_edges(
     role: Role,
     nets: &[Name],
     place: Place,
-    side: Side,
+    side: PartSide,
     edges: &mut Vec<Edge>,
 ) -> Result<(), Memory>
     requires kit { IsKit kit.now }
     requires place { IsNearPoint place.at }
     ensures { OnOk result (edges.new.items
-        ≡ edges.old.items ++ edges_at side (leaf_pins kit.now.leaves role nets.now place)) }
+        ≡ edges.old.items ++ edges_at side (edge_pins kit.now.leaves role nets.now place)) }
 {
     let pins = leaf_of(kit, role).pins.as_slice();
     let leaf = PlacedLeaf { role, place };
@@ -136,7 +136,7 @@ fn add_part_edges(
     roles: &[Role],
     instances: &[Instance],
     placed: &[PlacedInstance],
-    side: Side,
+    side: PartSide,
     edges: &mut Vec<Edge>,
 ) -> Result<(), Memory>
     requires kit { IsKit kit.now }
@@ -172,7 +172,7 @@ pub fn side_edges(
     roles: &[Role],
     instances: &[Instance],
     placed: &[PlacedInstance],
-    side: Side,
+    side: PartSide,
 ) -> Result<Vec<Edge>, Memory>
     requires kit { IsKit kit.now }
     requires near { AllByRecursion (λ cell. IsNearPoint cell.place.at) placed.now }
@@ -200,8 +200,15 @@ pub fn edges_of(
     ensures width { IfOk result (λ edges. edges.width ≡ width) }
     ensures height { IfOk result (λ edges. edges.height ≡ height) }
 {
-    let top = side_edges(alloc, kit, roles, instances, placed, Side::Upper { height })?;
-    let bottom = side_edges(alloc, kit, roles, instances, placed, Side::Lower)?;
+    let top = side_edges(
+        alloc,
+        kit,
+        roles,
+        instances,
+        placed,
+        PartSide::Upper { height },
+    )?;
+    let bottom = side_edges(alloc, kit, roles, instances, placed, PartSide::Lower)?;
     Ok(Edges {
         top: sorted_edges(top),
         bottom: sorted_edges(bottom),

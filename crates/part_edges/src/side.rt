@@ -7,19 +7,19 @@ use or_geom::Rect;
 
 /// The lower side of a part, or its upper one, which is so high above the lower one, in nanometres.
 #[derive(Clone, Copy, Debug)]
-pub enum Side {
+pub enum PartSide {
     Lower,
     Upper { height: i64 },
 }
 
-impl Side {
+impl PartSide {
     /// Whether the rectangle ends at the side.
     pub fn is_met(self, rect: Rect) -> bool
         ensures { result ≡ reaches self rect.y1 rect.y2 }
     {
         match self {
-            Side::Lower => rect.y1 == 0,
-            Side::Upper { height } => rect.y2 == height,
+            PartSide::Lower => rect.y1 == 0,
+            PartSide::Upper { height } => rect.y2 == height,
         }
     }
 }

@@ -4,7 +4,7 @@ use Rattle.std.specs.Prelude.{int_le, Contains}
 use Rattle.std.proofs.lemmas.Int.{ints, by_lt_z}
 use Rattle.or_geom.specs.declared.shape.Point.{Point}
 use Rattle.rectilinear.specs.declared.ends.End.{End}
-use Rattle.rectilinear.specs.declared.ring.Side.{Side}
+use Rattle.rectilinear.specs.declared.ring.RingSide.{RingSide}
 use Rattle.or_geom.specs.declared.shape.Rect.{Rect}
 use Rattle.or_geom.specs.Covered.{HasCellInSome}
 use Rattle.or_geom.proofs.ListLaws.{contains_first, contains_later}
@@ -25,7 +25,7 @@ by_bool true f g = f refl
 by_bool false f g = g refl
 
 -- a row has its ends
-ends_after : (sides rest : List Side) (y : ℤ) (ends : List End) → AreEndsBut sides rest y ends → (new : List End) × AreEnds sides y new
+ends_after : (sides rest : List RingSide) (y : ℤ) (ends : List End) → AreEndsBut sides rest y ends → (new : List End) × AreEnds sides y new
 ends_after sides [] y ends but = (ends, ends_all sides y ends but)
 ends_after sides (s ∷ rest) y ends but = by_bool (passes s y)
     (λ e. let t = toggle_some ends (record { x = s.a.x }) but.rise in ends_after sides rest y t.0 (ends_take sides (s ∷ rest) rest s (record { x = s.a.x }) y ends t.0 refl e refl t.1 but))

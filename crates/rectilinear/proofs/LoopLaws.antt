@@ -2,7 +2,7 @@
 use Rattle.std.proofs.Common.{◌≡◌, List, [], ◌∷◌, ◌++◌, ℤ, Bool, true, false, not, ◌&&◌, refl, ap, sym, subst, ◌∙◌, append_assoc}
 use Rattle.std.specs.Prelude.{int_le}
 use Rattle.rectilinear.specs.declared.ends.End.{End}
-use Rattle.rectilinear.specs.declared.ring.Side.{Side}
+use Rattle.rectilinear.specs.declared.ring.RingSide.{RingSide}
 use Rattle.or_geom.specs.declared.shape.Rect.{Rect}
 use Rattle.rectilinear.specs.Slabs.{xor, passes, is_odd_left}
 use Rattle.rectilinear.specs.Rows.{is_odd_to, is_odd, is_odd_passed, Rise, AreEnds, ArePairs, IsToggled}
@@ -10,12 +10,12 @@ use Rattle.rectilinear.proofs.RowLaws.{rises}
 use Rattle.rectilinear.proofs.ToggleLaws.{twice_not}
 
 -- the ends of the sides so far, and what is left
-pub record AreEndsBut (sides rest : List Side) (y : ℤ) (ends : List End) : Type 0 where
+pub record AreEndsBut (sides rest : List RingSide) (y : ℤ) (ends : List End) : Type 0 where
   pub rise : Rise ends
   pub even : xor (is_odd ends) (is_odd_passed rest y) ≡ is_odd_passed sides y
   pub same : (x : ℤ) → xor (is_odd_to ends x) (is_odd_left rest x y) ≡ is_odd_left sides x y
 
-pub ends_none : (sides : List Side) (y : ℤ) → AreEndsBut sides sides y []
+pub ends_none : (sides : List RingSide) (y : ℤ) → AreEndsBut sides sides y []
 ends_none sides y = record { rise = tt; even = refl; same = λ x. refl }
 
 xor_false : (a b : Bool) → xor a false ≡ b → a ≡ b
@@ -34,21 +34,21 @@ moved true true false = refl
 moved true false b = refl
 moved false a b = refl
 
-pub ends_all : (sides : List Side) (y : ℤ) (ends : List End) → AreEndsBut sides [] y ends → AreEnds sides y ends
+pub ends_all : (sides : List RingSide) (y : ℤ) (ends : List End) → AreEndsBut sides [] y ends → AreEnds sides y ends
 ends_all sides y ends but = record { rise = but.rise; even = xor_false _ _ but.even; same = λ x. xor_false _ _ (but.same x) }
 
-pub ends_pass : (sides rest others : List Side) (s : Side) (y : ℤ) (ends : List End) → rest ≡ s ∷ others → passes s y ≡ false → AreEndsBut sides rest y ends → AreEndsBut sides others y ends
+pub ends_pass : (sides rest others : List RingSide) (s : RingSide) (y : ℤ) (ends : List End) → rest ≡ s ∷ others → passes s y ≡ false → AreEndsBut sides rest y ends → AreEndsBut sides others y ends
 ends_pass sides rest others s y ends e out but =
-    let b = subst (λ (r : List Side). AreEndsBut sides r y ends) e but in
+    let b = subst (λ (r : List RingSide). AreEndsBut sides r y ends) e but in
     record {
       rise = b.rise;
       even = (λ i. xor (is_odd ends) (xor (sym out i) (is_odd_passed others y))) ∙ b.even;
       same = λ x. (λ i. xor (is_odd_to ends x) (xor (sym out i && int_le s.a.x x) (is_odd_left others x y))) ∙ b.same x;
     }
 
-pub ends_take : (sides rest others : List Side) (s : Side) (end : End) (y : ℤ) (old new : List End) → rest ≡ s ∷ others → passes s y ≡ true → end.x ≡ s.a.x → IsToggled old end new → AreEndsBut sides rest y old → AreEndsBut sides others y new
+pub ends_take : (sides rest others : List RingSide) (s : RingSide) (end : End) (y : ℤ) (old new : List End) → rest ≡ s ∷ others → passes s y ≡ true → end.x ≡ s.a.x → IsToggled old end new → AreEndsBut sides rest y old → AreEndsBut sides others y new
 ends_take sides rest others s end y old new e pass at t but =
-    let b = subst (λ (r : List Side). AreEndsBut sides r y old) e but in
+    let b = subst (λ (r : List RingSide). AreEndsBut sides r y old) e but in
     record {
       rise = t.rise;
       even = (λ i. xor (t.odd i) (is_odd_passed others y)) ∙ turned (is_odd old) (is_odd_passed others y) ∙ (λ i. xor (is_odd old) (xor (sym pass i) (is_odd_passed others y))) ∙ b.even;

@@ -8,7 +8,7 @@ use Rattle.or_geom.specs.declared.shape.Point.{Point}
 use Rattle.or_geom.proofs.ListLaws.{contains_none, contains_cases, contains_first, contains_later}
 use Rattle.rectilinear.specs.declared.changes.Change.{Change}
 use Rattle.rectilinear.specs.declared.ends.End.{End}
-use Rattle.rectilinear.specs.declared.ring.Side.{Side}
+use Rattle.rectilinear.specs.declared.ring.RingSide.{RingSide}
 use Rattle.rectilinear.specs.Ring.{sides_on, sides_of}
 use Rattle.rectilinear.specs.Slabs.{xor, is_odd_left, HasHeight}
 use Rattle.rectilinear.specs.Rows.{is_odd_passed, AreEnds}
@@ -55,13 +55,13 @@ passed_step true true false = refl
 passed_step true false r = refl
 passed_step false b r = refl
 
-changes_left : (ss : List Side) (x y : ℤ) → odd_of (λ c. int_le c.y y && int_le c.x x) (changes_of ss) ≡ is_odd_left ss x y
+changes_left : (ss : List RingSide) (x y : ℤ) → odd_of (λ c. int_le c.y y && int_le c.x x) (changes_of ss) ≡ is_odd_left ss x y
 changes_left [] x y = refl
 changes_left (s ∷ ss) x y =
     ap (λ (b : Bool). xor (int_le s.a.y y && int_le s.a.x x) (xor (int_le s.b.y y && int_le s.a.x x) b)) (changes_left ss x y)
     ∙ left_step (int_le s.a.y y) (int_le s.b.y y) (int_le s.a.x x) (is_odd_left ss x y)
 
-changes_passed : (ss : List Side) (y : ℤ) → odd_of (λ c. int_le c.y y) (changes_of ss) ≡ is_odd_passed ss y
+changes_passed : (ss : List RingSide) (y : ℤ) → odd_of (λ c. int_le c.y y) (changes_of ss) ≡ is_odd_passed ss y
 changes_passed [] y = refl
 changes_passed (s ∷ ss) y =
     ap (λ (b : Bool). xor (int_le s.a.y y) (xor (int_le s.b.y y) b)) (changes_passed ss y)

@@ -6,7 +6,7 @@ use Rattle.std.proofs.lemmas.Bool.{le-leb}
 use Rattle.std.specs.Int.{int_max, int_min}
 use Rattle.or_geom.specs.declared.shape.Point.{Point}
 use Rattle.or_geom.proofs.PlaceLaws.{same_point}
-use Rattle.rectilinear.specs.declared.ring.Side.{Side}
+use Rattle.rectilinear.specs.declared.ring.RingSide.{RingSide}
 use Rattle.rectilinear.specs.declared.simple.Extent.{Extent}
 use Rattle.rectilinear.specs.Ring.{sides_of}
 use Rattle.rectilinear.specs.Simple.{IsStraight, MeetAtMostThere, MeetAsNeighbours, AllMeet, PairsMeet, AllStraight, IsSimple}
@@ -40,7 +40,7 @@ point_decided p q = elim (both (p.x ≡ q.x) (p.y ≡ q.y) (number_decided p.x q
   | inr h ↦ inr (λ e. h (ap (λ (z : Point). z.x) e, ap (λ (z : Point). z.y) e))
 ]
 
-straight : (s : Side) → Decided (IsStraight s)
+straight : (s : RingSide) → Decided (IsStraight s)
 straight s =
     either ((s.a.x ≡ s.b.x) × (s.a.y ≢ s.b.y)) ((s.a.y ≡ s.b.y) × (s.a.x ≢ s.b.x))
     (both (s.a.x ≡ s.b.x) (s.a.y ≢ s.b.y) (number_decided s.a.x s.b.x) (not (s.a.y ≡ s.b.y) (number_decided s.a.y s.b.y)))
@@ -58,13 +58,13 @@ at_most e p =
       ]
     ]))
 
-extent_of : Side → Extent
+extent_of : RingSide → Extent
 extent_of s = record { low = record { x = int_min s.a.x s.b.x; y = int_min s.a.y s.b.y }; high = record { x = int_max s.a.x s.b.x; y = int_max s.a.y s.b.y } }
 
 common_of : Extent → Extent → Extent
 common_of e f = record { low = record { x = int_max e.low.x f.low.x; y = int_max e.low.y f.low.y }; high = record { x = int_min e.high.x f.high.x; y = int_min e.high.y f.high.y } }
 
-meet_there : (s t : Side) → Decided (MeetAtMostThere s t)
+meet_there : (s t : RingSide) → Decided (MeetAtMostThere s t)
 unfolding extent_of common_of
 meet_there s t =
     let e = extent_of s in
@@ -78,18 +78,18 @@ meet_there s t =
       | inr h ↦ inr (λ meet. h (at_most_both s t e f c es ft cs meet))
     ]
 
-neighbours : (s t : Side) → Decided (MeetAsNeighbours s t)
+neighbours : (s t : RingSide) → Decided (MeetAsNeighbours s t)
 neighbours s t = either (MeetAtMostThere s t) (MeetAtMostThere t s) (meet_there s t) (meet_there t s)
 
-all_meet : (s : Side) (ts : List Side) → Decided (AllMeet s ts)
+all_meet : (s : RingSide) (ts : List RingSide) → Decided (AllMeet s ts)
 all_meet s [] = inl tt
 all_meet s (t ∷ ts) = both (MeetAsNeighbours s t) (AllMeet s ts) (neighbours s t) (all_meet s ts)
 
-pairs_meet : (ss : List Side) → Decided (PairsMeet ss)
+pairs_meet : (ss : List RingSide) → Decided (PairsMeet ss)
 pairs_meet [] = inl tt
 pairs_meet (s ∷ ss) = both (AllMeet s ss) (PairsMeet ss) (all_meet s ss) (pairs_meet ss)
 
-all_straight : (ss : List Side) → Decided (AllStraight ss)
+all_straight : (ss : List RingSide) → Decided (AllStraight ss)
 all_straight [] = inl tt
 all_straight (s ∷ ss) = both (IsStraight s) (AllStraight ss) (straight s) (all_straight ss)
 
@@ -143,18 +143,18 @@ unfolding simple_test
 same_simple_test corners b f g = same_choice (decided_simple corners) b f g
 
 -- whether the sides are straight
-pub straight_test : List Side → Bool
+pub straight_test : List RingSide → Bool
 straight_test sides = choice (all_straight sides)
 
-pub test_straight : (sides : List Side) → straight_test sides ≡ true → AllStraight sides
+pub test_straight : (sides : List RingSide) → straight_test sides ≡ true → AllStraight sides
 unfolding straight_test
 test_straight sides is = test_true (all_straight sides) is
 
-pub straight_tested : (sides : List Side) → AllStraight sides → straight_test sides ≡ true
+pub straight_tested : (sides : List RingSide) → AllStraight sides → straight_test sides ≡ true
 unfolding straight_test
 straight_tested sides s = true_test (all_straight sides) s
 
-pub same_straight_test : (sides : List Side) (b : Bool) → (b ≡ true → AllStraight sides) → (AllStraight sides → b ≡ true) → b ≡ straight_test sides
+pub same_straight_test : (sides : List RingSide) (b : Bool) → (b ≡ true → AllStraight sides) → (AllStraight sides → b ≡ true) → b ≡ straight_test sides
 unfolding straight_test
 same_straight_test sides b f g = same_choice (all_straight sides) b f g
 
@@ -163,7 +163,7 @@ abbrev pub square : List Point
 square =
     record { x = pos 0; y = pos 0 } ∷ record { x = pos 4; y = pos 0 } ∷ record { x = pos 4; y = pos 4 } ∷ record { x = pos 0; y = pos 4 } ∷ []
 
-there : (s t : Side) → IsAtMostPoint (common_of (extent_of s) (extent_of t)) s.b → IsAtMostPoint (common_of (extent_of s) (extent_of t)) t.a → MeetAtMostThere s t
+there : (s t : RingSide) → IsAtMostPoint (common_of (extent_of s) (extent_of t)) s.b → IsAtMostPoint (common_of (extent_of s) (extent_of t)) t.a → MeetAtMostThere s t
 unfolding extent_of common_of
 there s t a b =
     both_at_most s t (extent_of s) (extent_of t) (common_of (extent_of s) (extent_of t)) (extent_law s (extent_of s) refl refl refl refl) (extent_law t (extent_of t) refl refl refl refl)

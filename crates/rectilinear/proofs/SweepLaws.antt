@@ -8,7 +8,7 @@ use Rattle.or_geom.specs.declared.shape.Rect.{Rect}
 use Rattle.or_geom.proofs.ListLaws.{contains_none}
 use Rattle.rectilinear.specs.declared.changes.Change.{Change}
 use Rattle.rectilinear.specs.declared.ends.End.{End}
-use Rattle.rectilinear.specs.declared.ring.Side.{Side}
+use Rattle.rectilinear.specs.declared.ring.RingSide.{RingSide}
 use Rattle.rectilinear.specs.Ring.{sides_of}
 use Rattle.rectilinear.specs.Slabs.{xor, HasHeight, IsSlab, AreDistinct, IsSlabList}
 use Rattle.rectilinear.specs.Rows.{is_odd, is_odd_to, AreEnds, ArePairs}
@@ -32,9 +32,9 @@ pub record Sweeps (corners : List Point) (all rest : List Change) (ends : List E
   pub past : (r : Rect) → Contains out r → HasChange rest r.y1 → ⊥
   pub distinct : AreDistinct out
 
-pub sweep_begins : (corners : List Point) (sides : List Side) (all : List Change) → sides ≡ sides_of corners → IsPermutation (changes_of sides) all → Climb all → Sweeps corners all all [] []
+pub sweep_begins : (corners : List Point) (sides : List RingSide) (all : List Change) → sides ≡ sides_of corners → IsPermutation (changes_of sides) all → Climb all → Sweeps corners all all [] []
 sweep_begins corners sides all e same climb =
-    let of = sweep_of corners all (subst (λ (ss : List Side). IsPermutation (changes_of ss) all) e same) in
+    let of = sweep_of corners all (subst (λ (ss : List RingSide). IsPermutation (changes_of ss) all) e same) in
     record {
       of = of;
       done = [];

@@ -2,12 +2,12 @@
 use Rattle.std.specs.Prelude.{◌≡◌, ◌≢◌, ◌⊎◌, ℤ, ◌≤ℤ◌, List, [], ◌∷◌, ◌++◌, Bool, false, not, int_le}
 use Rattle.rectilinear.specs.declared.changes.Change.{Change}
 use Rattle.rectilinear.specs.declared.ends.End.{End}
-use Rattle.rectilinear.specs.declared.ring.Side.{Side}
+use Rattle.rectilinear.specs.declared.ring.RingSide.{RingSide}
 use Rattle.rectilinear.specs.Slabs.{xor}
 use Rattle.rectilinear.specs.Rows.{is_odd, is_odd_to, Rise}
 
 -- each side begins at one height and ends at another
-abbrev pub changes_of : List Side → List Change
+abbrev pub changes_of : List RingSide → List Change
 changes_of [] = []
 changes_of (s ∷ ss) = record { y = s.a.y; x = s.a.x } ∷ record { y = s.b.y; x = s.a.x } ∷ changes_of ss
 

@@ -1,9 +1,9 @@
 -- Closed boxes that may be empty.
 use Rattle.std.specs.Prelude.{◌≡◌, ◌≤ℤ◌, List, [], ◌∷◌}
 use Rattle.or_geom.specs.declared.shape.Point.{Point}
-use Rattle.rectilinear.specs.declared.ring.Side.{Side}
+use Rattle.rectilinear.specs.declared.ring.RingSide.{RingSide}
 use Rattle.rectilinear.specs.declared.simple.Extent.{Extent}
-use Rattle.rectilinear.specs.Simple.{IsOn}
+use Rattle.rectilinear.specs.Simple.{LiesOnSide}
 
 pub record IsWithinExtent (e : Extent) (p : Point) : Type 0 where
   pub left : e.low.x ≤ℤ p.x
@@ -11,9 +11,9 @@ pub record IsWithinExtent (e : Extent) (p : Point) : Type 0 where
   pub low : e.low.y ≤ℤ p.y
   pub high : p.y ≤ℤ e.high.y
 
-pub record IsExtentOf (s : Side) (e : Extent) : Type 0 where
-  pub each : (p : Point) → IsOn s p → IsWithinExtent e p
-  pub only : (p : Point) → IsWithinExtent e p → IsOn s p
+pub record IsExtentOf (s : RingSide) (e : Extent) : Type 0 where
+  pub each : (p : Point) → LiesOnSide s p → IsWithinExtent e p
+  pub only : (p : Point) → IsWithinExtent e p → LiesOnSide s p
 
 pub record IsCommon (e f both : Extent) : Type 0 where
   pub each : (p : Point) → IsWithinExtent e p → IsWithinExtent f p → IsWithinExtent both p
@@ -33,6 +33,6 @@ pub record IsExtentAround (e f both : Extent) : Type 0 where
   pub second : (p : Point) → IsWithinExtent f p → IsWithinExtent both p
 
 -- each point of each side lies within
-abbrev pub HoldsSides : Extent → List Side → Type 0
+abbrev pub HoldsSides : Extent → List RingSide → Type 0
 HoldsSides e [] = Unit {0}
-HoldsSides e (s ∷ ss) = ((p : Point) → IsOn s p → IsWithinExtent e p) × HoldsSides e ss
+HoldsSides e (s ∷ ss) = ((p : Point) → LiesOnSide s p → IsWithinExtent e p) × HoldsSides e ss

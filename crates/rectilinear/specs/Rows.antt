@@ -2,7 +2,7 @@
 use Rattle.std.specs.Prelude.{◌≡◌, ℕ, zero, suc, ℤ, pos, ◌-ℤ◌, ◌≤ℤ◌, ◌<ℤ◌, List, [], ◌∷◌, Bool, true, false, not, int_le, ◌<◌, length, get_or}
 use Rattle.rectilinear.specs.declared.ends.End.{End}
 use Rattle.or_geom.specs.declared.shape.Rect.{Rect}
-use Rattle.rectilinear.specs.declared.ring.Side.{Side}
+use Rattle.rectilinear.specs.declared.ring.RingSide.{RingSide}
 use Rattle.rectilinear.specs.Slabs.{xor, passes, is_odd_left}
 
 -- an odd number of the ends lie at or left of x
@@ -15,7 +15,7 @@ is_odd [] = false
 is_odd (e ∷ es) = not (is_odd es)
 
 -- an odd number of the sides pass the row
-abbrev pub is_odd_passed : List Side → ℤ → Bool
+abbrev pub is_odd_passed : List RingSide → ℤ → Bool
 is_odd_passed [] y = false
 is_odd_passed (s ∷ ss) y = xor (passes s y) (is_odd_passed ss y)
 
@@ -29,7 +29,7 @@ Rise [] = Unit {0}
 Rise (e ∷ es) = RiseAbove e.x es
 
 -- each of the sides' ends in the row where the inside begins or ends, in order
-pub record AreEnds (sides : List Side) (y : ℤ) (ends : List End) : Type 0 where
+pub record AreEnds (sides : List RingSide) (y : ℤ) (ends : List End) : Type 0 where
   pub rise : Rise ends
   pub even : is_odd ends ≡ is_odd_passed sides y
   pub same : (x : ℤ) → is_odd_to ends x ≡ is_odd_left sides x y

@@ -3,7 +3,7 @@ use Rattle.std.specs.Prelude.{◌≡◌, ◌⊎◌, ◌↔◌, pos, ℤ, ◌-ℤ
 use Rattle.or_geom.specs.declared.shape.Point.{Point}
 use Rattle.or_geom.specs.declared.shape.Rect.{Rect}
 use Rattle.or_geom.specs.Covered.{HasCell}
-use Rattle.rectilinear.specs.declared.ring.Side.{Side}
+use Rattle.rectilinear.specs.declared.ring.RingSide.{RingSide}
 use Rattle.rectilinear.specs.Ring.{sides_of}
 
 abbrev pub xor : Bool → Bool → Bool
@@ -16,14 +16,14 @@ abbrev pub is_below : Point → ℤ → Bool
 is_below p y = int_le p.y y
 
 -- the side passes the row: one end lies at or below it, the other above
-abbrev pub passes : Side → ℤ → Bool
+abbrev pub passes : RingSide → ℤ → Bool
 passes s y = xor (is_below s.a y) (is_below s.b y)
 
-abbrev pub is_left_of : Side → ℤ → ℤ → Bool
+abbrev pub is_left_of : RingSide → ℤ → ℤ → Bool
 is_left_of s x y = passes s y && int_le s.a.x x
 
 -- an odd number of the sides pass the cell's row at its left
-abbrev pub is_odd_left : List Side → ℤ → ℤ → Bool
+abbrev pub is_odd_left : List RingSide → ℤ → ℤ → Bool
 is_odd_left [] x y = false
 is_odd_left (s ∷ ss) x y = xor (is_left_of s x y) (is_odd_left ss x y)
 

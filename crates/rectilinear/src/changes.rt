@@ -2,7 +2,7 @@ ghost use Rattle.std.specs.Prelude.{◌≡◌, IsPermutation, IfOk};
 ghost use Rattle.rectilinear.specs.Changes.{changes_of, Climb, Passes};
 ghost use Rattle.rectilinear.specs.Rows.{Rise};
 
-use crate::Side;
+use crate::RingSide;
 use crate::ends::{End, toggle};
 use crate::heights::Height;
 use or_geom::Memory;
@@ -16,7 +16,7 @@ pub struct Change {
 }
 
 /// Where the sides begin and end, from the lowest height up.
-pub fn changes_of(alloc: Global, sides: &[Side]) -> Result<Vec<Change>, Memory>
+pub fn changes_of(alloc: Global, sides: &[RingSide]) -> Result<Vec<Change>, Memory>
     ensures all { IfOk result (λ changes. IsPermutation (changes_of sides.now) changes.items) }
     ensures climb { IfOk result (λ changes. Climb changes.items) }
 {

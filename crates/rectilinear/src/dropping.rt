@@ -2,41 +2,41 @@ ghost use Rattle.std.specs.Prelude.{◌≡◌, ◌++◌, IfOk};
 ghost use Rattle.rectilinear.specs.Corners.{is_zero, is_up, is_down, is_right, is_left, is_run, steps, turns_after};
 ghost use Rattle.rectilinear.specs.Corners.{last_of, corners_of};
 
-use crate::ring::{Side, sides};
+use crate::ring::{RingSide, sides};
 use or_geom::{Memory, Point};
 use std::alloc::Global;
 
-fn is_still(side: Side) -> bool
+fn is_still(side: RingSide) -> bool
     ensures { result ≡ is_zero side }
 {
     side.a.x == side.b.x && side.a.y == side.b.y
 }
 
-fn goes_up(side: Side) -> bool
+fn goes_up(side: RingSide) -> bool
     ensures { result ≡ is_up side }
 {
     side.a.x == side.b.x && side.a.y < side.b.y
 }
 
-fn goes_down(side: Side) -> bool
+fn goes_down(side: RingSide) -> bool
     ensures { result ≡ is_down side }
 {
     side.a.x == side.b.x && side.b.y < side.a.y
 }
 
-fn goes_right(side: Side) -> bool
+fn goes_right(side: RingSide) -> bool
     ensures { result ≡ is_right side }
 {
     side.a.y == side.b.y && side.a.x < side.b.x
 }
 
-fn goes_left(side: Side) -> bool
+fn goes_left(side: RingSide) -> bool
     ensures { result ≡ is_left side }
 {
     side.a.y == side.b.y && side.b.x < side.a.x
 }
 
-fn goes_on(s: Side, t: Side) -> bool
+fn goes_on(s: RingSide, t: RingSide) -> bool
     ensures { result ≡ is_run s t }
 {
     if goes_up(s) {
@@ -66,7 +66,7 @@ pub fn corners(alloc: Global, points: &[Point]) -> Result<Vec<Point>, Memory>
     turning_points(alloc, last_side(*first, others), &moving)
 }
 
-fn last_side(first: Side, others: &[Side]) -> Side
+fn last_side(first: RingSide, others: &[RingSide]) -> RingSide
     ensures { result ≡ last_of first others.now }
 {
     let mut last = first;
@@ -78,7 +78,7 @@ fn last_side(first: Side, others: &[Side]) -> Side
     last
 }
 
-fn moving_sides(alloc: Global, sides: &[Side]) -> Result<Vec<Side>, Memory>
+fn moving_sides(alloc: Global, sides: &[RingSide]) -> Result<Vec<RingSide>, Memory>
     ensures { IfOk result (λ moving. moving.items ≡ steps sides.now) }
 {
     let mut moving = Vec::new(alloc);
@@ -93,7 +93,7 @@ fn moving_sides(alloc: Global, sides: &[Side]) -> Result<Vec<Side>, Memory>
     Ok(moving)
 }
 
-fn turning_points(alloc: Global, last: Side, sides: &[Side]) -> Result<Vec<Point>, Memory>
+fn turning_points(alloc: Global, last: RingSide, sides: &[RingSide]) -> Result<Vec<Point>, Memory>
     ensures { IfOk result (λ points. points.items ≡ turns_after last sides.now) }
 {
     let mut points = Vec::new(alloc);

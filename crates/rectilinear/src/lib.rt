@@ -13,5 +13,5 @@ mod simple;
 pub use cutting::slabs;
 pub use dropping::corners;
 pub use laws::{ring_is_closed, slabs_fill, slabs_stay_near};
-pub use ring::{Side, sides};
+pub use ring::{RingSide, sides};
 pub use simple::{is_simple, is_straight};

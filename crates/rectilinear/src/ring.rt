@@ -6,13 +6,13 @@ use std::alloc::Global;
 
 /// A side of a ring, from one corner to the next.
 #[derive(Clone, Copy, Debug, PartialEq, Eq)]
-pub struct Side {
+pub struct RingSide {
     pub a: Point,
     pub b: Point,
 }
 
 /// The sides of the ring that goes through these points in order, and from the last back to the first.
-pub fn sides(alloc: Global, points: &[Point]) -> Result<Vec<Side>, Memory>
+pub fn sides(alloc: Global, points: &[Point]) -> Result<Vec<RingSide>, Memory>
     ensures { IfOk result (λ sides. sides.items ≡ sides_of points.now) }
 {
     let mut sides = Vec::with_capacity(alloc, points.len())?;
@@ -22,10 +22,10 @@ pub fn sides(alloc: Global, points: &[Point]) -> Result<Vec<Side>, Memory>
     let mut from = *first;
     let mut rest = others;
     while let Some((next, after)) = rest.split_first() {
-        sides.push(Side { a: from, b: *next })?;
+        sides.push(RingSide { a: from, b: *next })?;
         from = *next;
         rest = after;
     }
-    sides.push(Side { a: from, b: *first })?;
+    sides.push(RingSide { a: from, b: *first })?;
     Ok(sides)
 }

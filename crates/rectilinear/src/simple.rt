@@ -3,7 +3,7 @@ ghost use Rattle.rectilinear.specs.Simple.{IsStraight, MeetAtMostThere, MeetAsNe
 ghost use Rattle.rectilinear.specs.Simple.{AllStraight, PairsMeet, IsSimple};
 ghost use Rattle.rectilinear.specs.Extents.{IsExtentOf, IsCommon, IsExtentAround, IsEmpty, HoldsSides, IsAtMostPoint};
 
-use crate::ring::{Side, sides};
+use crate::ring::{RingSide, sides};
 use or_geom::{Memory, Point};
 use std::alloc::Global;
 
@@ -15,7 +15,7 @@ struct Extent {
 }
 
 /// Whether the side is parallel to an axis and longer than zero.
-pub fn is_straight(side: Side) -> bool
+pub fn is_straight(side: RingSide) -> bool
     ensures { IsTrue result ↔ IsStraight side }
 {
     if side.a.x == side.b.x {
@@ -24,7 +24,7 @@ pub fn is_straight(side: Side) -> bool
     side.a.y == side.b.y
 }
 
-fn extent_of(side: Side) -> Extent
+fn extent_of(side: RingSide) -> Extent
     ensures { IsExtentOf side result }
 {
     Extent {
@@ -79,7 +79,7 @@ fn is_at_most(extent: Extent, point: Point) -> bool
     false
 }
 
-fn meet_at_most_there(s: Side, t: Side) -> bool
+fn meet_at_most_there(s: RingSide, t: RingSide) -> bool
     ensures { IsTrue result ↔ MeetAtMostThere s t }
 {
     let both = common(extent_of(s), extent_of(t));
@@ -89,7 +89,7 @@ fn meet_at_most_there(s: Side, t: Side) -> bool
     false
 }
 
-fn meet_as_neighbours(s: Side, t: Side) -> bool
+fn meet_as_neighbours(s: RingSide, t: RingSide) -> bool
     ensures { IsTrue result ↔ MeetAsNeighbours s t }
 {
     if meet_at_most_there(s, t) {
@@ -98,7 +98,7 @@ fn meet_as_neighbours(s: Side, t: Side) -> bool
     meet_at_most_there(t, s)
 }
 
-fn all_straight(sides: &[Side]) -> bool
+fn all_straight(sides: &[RingSide]) -> bool
     ensures { IsTrue result ↔ AllStraight sides.now }
 {
     let mut rest = sides;
@@ -128,7 +128,7 @@ fn around(e: Extent, f: Extent) -> Extent
 }
 
 /// The box round some sides.
-fn hull_of(first: Side, others: &[Side]) -> Extent
+fn hull_of(first: RingSide, others: &[RingSide]) -> Extent
     ensures { HoldsSides result (first ∷ others.now) }
 {
     let mut hull = extent_of(first);
@@ -146,7 +146,7 @@ fn is_empty(extent: Extent) -> bool
 
 /// Whether each of some sides meets each of others only as a neighbour. Sides whose boxes are apart don't meet; else
 /// the longer list is halved. Of a ring in its order most halves are soon apart.
-fn meet_across(sides: &[Side], others: &[Side]) -> bool
+fn meet_across(sides: &[RingSide], others: &[RingSide]) -> bool
     ensures { IsTrue result ↔ MeetAcross sides.now others.now }
 {
     let Some((side, after)) = sides.split_first() else {
@@ -170,7 +170,7 @@ fn meet_across(sides: &[Side], others: &[Side]) -> bool
 }
 
 /// Whether each two sides meet only as neighbours.
-fn pairs_meet(sides: &[Side]) -> bool
+fn pairs_meet(sides: &[RingSide]) -> bool
     ensures { IsTrue result ↔ PairsMeet sides.now }
 {
     if sides.len() < 2 {

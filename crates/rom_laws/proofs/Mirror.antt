@@ -12,7 +12,7 @@ use Rattle.cell_roles.specs.declared.role.Role.TheVariants.{Nand3}
 use Rattle.cell_roles.specs.declared.leaf_role.LeafRole.TheVariants.{Common}
 use Rattle.cell_roles.specs.LeafRoles.{leaf_act}
 use Rattle.cell_roles.specs.Acts.{Drive, Off, Act, low_if, strong_if}
-use Rattle.memory_laws.specs.Phase.{State, PortInputs, Gives, DrivesNet, JoinsNets, InGroup, AreLinked, IsDriven, IsPair, AreJoinEnds, act_at, bits}
+use Rattle.memory_laws.specs.Phase.{State, PortInputs, Gives, DrivesNet, JoinsNets, InGroup, AreJoinedThrough, IsDriven, IsPair, AreJoinEnds, act_at, bits}
 use Rattle.memory_laws.proofs.Direct.{role, looks, drives, joins, enable, direct, writable}
 use Rattle.memory_laws.proofs.Groups.{is_line}
 use Rattle.rom_laws.specs.RomRun.{IsRomPlan}
@@ -136,7 +136,7 @@ pair_lines p (MuxAt bank c) x y (b ∷ d ∷ bs) (inr (inl h)) = ends_lines _ _ 
 pair_lines p (MuxAt bank c) x y (b ∷ d ∷ bs) (inr (inr h)) = absurd h
 pair_lines p leaf x y bs h = absurd h
 
-linked_ends : (p : Organization) (t : State) (w : Net → Bool) (x : Net) (zs : List Net) (y : Net) → AreLinked (direct p) t w x zs y → (x ≡ y) ⊎ ((is_line x ≡ true) × (is_line y ≡ true))
+linked_ends : (p : Organization) (t : State) (w : Net → Bool) (x : Net) (zs : List Net) (y : Net) → AreJoinedThrough (direct p) t w x zs y → (x ≡ y) ⊎ ((is_line x ≡ true) × (is_line y ≡ true))
 linked_ends p t w x [] y e = inl e
 linked_ends p t w x (z ∷ zs) y e = by_rest (linked_ends p t w z zs y e.1)
   where
@@ -211,11 +211,11 @@ module _ (p : Organization) (ok : IsRomPlan p) (words : List ℕ) (s : State) (v
   }
   joined_back x y leaf there pair = absurd pair
 
-  linked_to : (x : Net) (zs : List Net) (y : Net) → AreLinked (direct p) t w x zs y → AreLinked (rom_direct p words) s v x zs y
+  linked_to : (x : Net) (zs : List Net) (y : Net) → AreJoinedThrough (direct p) t w x zs y → AreJoinedThrough (rom_direct p words) s v x zs y
   linked_to x [] y e = e
   linked_to x (z ∷ zs) y e = (joined_to x z e.0.leaf e.0.there e.0.pair, linked_to z zs y e.1)
 
-  linked_back : (x : Net) (zs : List Net) (y : Net) → AreLinked (rom_direct p words) s v x zs y → AreLinked (direct p) t w x zs y
+  linked_back : (x : Net) (zs : List Net) (y : Net) → AreJoinedThrough (rom_direct p words) s v x zs y → AreJoinedThrough (direct p) t w x zs y
   linked_back x [] y e = e
   linked_back x (z ∷ zs) y e = (joined_back x z e.0.leaf e.0.there e.0.pair, linked_back z zs y e.1)
 

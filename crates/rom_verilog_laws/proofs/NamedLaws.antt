@@ -10,7 +10,7 @@ use Rattle.memory_laws.specs.Run.{num_words}
 use Rattle.rom_laws.specs.RomRun.{AreWordsFor}
 use Rattle.sram_netlist.specs.Numbers.{ArePlanNumbers}
 use Rattle.rom_data.specs.Hex.{hex_digit_count, hex_digits}
-use Rattle.verilog_modules.specs.Names.{is_name, IsName, IsNamed, IsNamedSetting}
+use Rattle.verilog_modules.specs.Names.{is_name, IsName, HasLegalNames, IsNamedSetting}
 use Rattle.verilog_modules.specs.Legal.{IsLegal, IsLegalSetting}
 use Rattle.verilog_laws.proofs.NamedLaws.{Names, names, small, word_small, addr_small}
 use Rattle.verilog_laws.proofs.LegalLaws.{word_sized, addr_sized, depth_sized}
@@ -32,7 +32,7 @@ settings_named plan words is (suc count) k low = (
   settings_named plan words is count (k + 1) (omega (arith, low)),
 )
 
-pub rom_named : (plan : Plan) (name words : List ℕ) → ArePlanNumbers (numbers_of plan) → IsName name → IsNamed (rom_module plan name words)
+pub rom_named : (plan : Plan) (name words : List ℕ) → ArePlanNumbers (numbers_of plan) → IsName name → HasLegalNames (rom_module plan name words)
 rom_named plan name words is given = record {
   name = given;
   ports = (n.clk0_is, (n.csb0_is, (n.addr0_is, (n.dout0_is, tt))));

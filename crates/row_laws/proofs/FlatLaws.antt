@@ -8,7 +8,7 @@ use Rattle.spice_netlist.specs.declared.resolved.ResolvedSubckt.{ResolvedSubckt}
 use Rattle.spice_netlist.specs.declared.resolved.ResolvedInstance.{ResolvedInstance}
 use Rattle.spice_netlist.specs.Resolved.{subckt_name_at, ports_at, leaf_at}
 use Rattle.spice_netlist.specs.Walk.{FlatNet, local, FlatInstance, net_above, path_above, visit_above, visits_in, visits_by, first_bad, leaf_count}
-use Rattle.spice_netlist.specs.Pins.{LeafPin, NamedPin, pins_from, pins_in, pins_of, pin_row}
+use Rattle.spice_netlist.specs.Pins.{InstancePin, NamedPin, pins_from, pins_in, pins_of, pin_row}
 use Rattle.spice_netlist.proofs.BadLaws.{or_later, bad-append, bad-above}
 use Rattle.spice_netlist.proofs.PinLaws.{count-append, count-above}
 use Rattle.row_laws.specs.Flattens.{moved, rows_from, zip_rows, Flattens, path_in, see_in}
@@ -108,7 +108,7 @@ module _ {X : Type 0} (row_of : X → List NamedPin) (subckts : List ResolvedSub
       let own : pins_in subckts (moved above see me) ≡ [] = ap (λ (b : Bool). cond b (pins_from (above ++ p.name) k 0 (map (λ n. local (see n)) (map local p.nodes))) []) no_leaf in
       subst (λ (o : Option ℕ). Flattens row_of subckts above see (visits_in subckts f p o) xs) (sym there) (record {
         rows =
-            ap (λ (ps : List LeafPin). map (pin_row subckts) (ps ++ pins_of subckts (map (moved above see) (map (visit_above p (ports_at subckts k)) (f k))))) own
+            ap (λ (ps : List InstancePin). map (pin_row subckts) (ps ++ pins_of subckts (map (moved above see) (map (visit_above p (ports_at subckts k)) (f k))))) own
             ∙ ap (λ (vs : List FlatInstance). map (pin_row subckts) (pins_of subckts vs)) (moved_above above see p (ports_at subckts k) (f k))
             ∙ inner.rows;
         good =

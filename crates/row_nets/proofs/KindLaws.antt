@@ -17,7 +17,7 @@ use Rattle.sram_netlist.specs.BitCells.{BitCells}
 use Rattle.sram_netlist.specs.InstanceList.{leaf_instances}
 use Rattle.sram_netlist.specs.Membership.{IsOneOf}
 use Rattle.sram_rows.specs.Rows.{NetlistPin, macro_nets, port_pin, pins_with_nets, cell_at, leaf_pins, netlist_pins, label_of_pin, RowsEqual}
-use Rattle.row_nets.specs.Rows.{IsRowOf, IsRowOfPort, IsRowOfMacro}
+use Rattle.row_nets.specs.Rows.{IsNetlistRowOf, IsRowOfPort, IsRowOfMacro}
 use Rattle.row_nets.proofs.RowLaws.{mapped_at, unmapped_at}
 
 pub listed_at : {X : Type 0} (xs : List X) (x : X) → Contains xs x → (k : ℕ) × (slice_get xs k ≡ Some x)
@@ -55,7 +55,7 @@ from_pins path cell (n ∷ ns) (x ∷ xs) (suc k) pin h = let p = from_pins path
 
 module _ (plan : Organization) (cell : Role → List ℕ) (bits : BitCells) (rows : List RowPin) (equal : RowsEqual rows (netlist_pins plan cell bits)) where
   -- the row of a pin that stands where the row stands
-  row_is : (k : ℕ) (row : RowPin) (pin : NetlistPin) → slice_get rows k ≡ Some row → slice_get (netlist_pins plan cell bits) k ≡ Some pin → label_of_pin pin ≡ label_of_row row → IsRowOf plan cell bits rows pin.path pin.pin pin.net row
+  row_is : (k : ℕ) (row : RowPin) (pin : NetlistPin) → slice_get rows k ≡ Some row → slice_get (netlist_pins plan cell bits) k ≡ Some pin → label_of_pin pin ≡ label_of_row row → IsNetlistRowOf plan cell bits rows pin.path pin.pin pin.net row
   row_is k row pin there here same = record {
     place = k;
     there = there;
@@ -78,9 +78,9 @@ module _ (plan : Organization) (cell : Role → List ℕ) (bits : BitCells) (row
       elim (from_both (map (port_pin plan) (macro_nets plan)) (flat_map (leaf_pins plan cell bits) (leaf_instances plan)) at.0 found.0 found.1) [
         | inl macro ↦
             let port = unmapped_at (port_pin plan) (macro_nets plan) at.0 found.0 macro in
-            inl (port.0, record { place = at.0; on = port.1; is = subst (λ (p : NetlistPin). IsRowOf plan cell bits rows p.path p.pin p.net row) (sym port.2) is })
+            inl (port.0, record { place = at.0; on = port.1; is = subst (λ (p : NetlistPin). IsNetlistRowOf plan cell bits rows p.path p.pin p.net row) (sym port.2) is })
         | inr leaves ↦
             let leaf = from_lists (leaf_pins plan cell bits) (leaf_instances plan) leaves.0 found.0 leaves.1 in
             let p = from_pins (leaf_path plan leaf.0) (lower (cell_at plan cell bits leaf.0)) (role_ports (role plan leaf.0)) (ports plan leaf.0) leaf.2 found.0 leaf.3 in
-            inr (leaf.0, leaf.2, leaf.1, record { name = p.name; named = p.named; net = p.net; on = p.on; is = subst (λ (q : NetlistPin). IsRowOf plan cell bits rows q.path q.pin q.net row) p.is is })
+            inr (leaf.0, leaf.2, leaf.1, record { name = p.name; named = p.named; net = p.net; on = p.on; is = subst (λ (q : NetlistPin). IsNetlistRowOf plan cell bits rows q.path q.pin q.net row) p.is is })
       ]

@@ -14,7 +14,7 @@ use Rattle.or_geom.proofs.CoverLaws.{cell_among}
 use Rattle.shape_bins.specs.declared.filled.Filled.{Filled}
 use Rattle.or_geom.specs.Containing.{IsAround}
 use Rattle.shape_bins.specs.Layers.{rects_on}
-use Rattle.shape_bins.specs.Filled.{AreStacked, AreBeside, IsFilledBox, AreFilledBoxes, IsFilledBy, IsJoint, AddsFilled, AreJoinedOf, AreJoinedFrom}
+use Rattle.shape_bins.specs.Filled.{AreStacked, AreBeside, IsFilledBox, AreFilledBoxes, IsFilledBy, AreJoinedTo, AddsFilled, AreJoinedOf, AreJoinedFrom}
 use Rattle.shape_bins.proofs.CoverLaws.{on_rects, shape_over}
 
 pub stacked_covered : (a b r : Rect) → AreStacked a b → IsAround a b r → IsCovered r (a ∷ b ∷ [])
@@ -54,7 +54,7 @@ beside_covered a b r s i x y h =
     }))))
 
 -- what the shapes fill with two boxes they fill with the box of both
-pub joint_filled : (shapes : List Shape) (a b j : Filled) → IsJoint a b j → IsFilledBy shapes a → IsFilledBy shapes b → IsFilledBy shapes j
+pub joint_filled : (shapes : List Shape) (a b j : Filled) → AreJoinedTo a b j → IsFilledBy shapes a → IsFilledBy shapes b → IsFilledBy shapes j
 joint_filled shapes a b j is p q x y h = elim (is.covered x y h) [
   | inl here ↦ subst (λ (layer : ℕ). HasCellInSome (rects_on layer shapes) x y) is.first (p x y here)
   | inr more ↦ elim more [
@@ -99,7 +99,7 @@ adds_instead f last old popped new was is = record {
 }
 
 -- or joined with the last one
-pub adds_joint : (f last j : Filled) (old popped new : List Filled) → old ≡ popped ++ last ∷ [] → IsJoint last f j → new ≡ popped ++ j ∷ [] → AddsFilled f old new
+pub adds_joint : (f last j : Filled) (old popped new : List Filled) → old ≡ popped ++ last ∷ [] → AreJoinedTo last f j → new ≡ popped ++ j ∷ [] → AddsFilled f old new
 adds_joint f last j old popped new was joint is = record {
   few = rw (was, is) (rw (length-append, length-append) (omega arith));
   kept = λ shapes all own.

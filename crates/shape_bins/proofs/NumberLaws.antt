@@ -4,7 +4,7 @@ use Rattle.std.specs.Prelude.{Contains, Option, None, Some}
 use Rattle.std.proofs.lemmas.List.{length-set, length_push}
 use Rattle.std.proofs.lemmas.List.Elements.{Contains-append_left, Contains-push, Contains-push_cases}
 use Rattle.std.proofs.lemmas.Bool.{cases_eq}
-use Rattle.shape_bins.specs.Numbers.{IsOn, HasNumber, KeepsNumbers, unnumbered, GivesNumber, GivesAll}
+use Rattle.shape_bins.specs.Numbers.{IsGivenNumber, HasNumber, KeepsNumbers, unnumbered, GivesNumber, GivesAll}
 
 pub has_kept : (old new : List (Option ℕ)) (place : ℕ) → KeepsNumbers old new → HasNumber old place → HasNumber new place
 has_kept old new place kept h = record { number = h.number; is = kept place h.number h.is }
@@ -68,28 +68,28 @@ fewer (Some n ∷ rest) (suc place) number lt none = fewer rest place number (om
 pub gives_one : (place number : ℕ) (old new : List (Option ℕ)) (before after : List ℕ) → place < length old → get_or old place None ≡ None → new ≡ set old place (Some number) → after ≡ before ++ place ∷ []
     → GivesNumber (λ p. p ≡ place) number old new before after
 gives_one place number old new before after lt none is pushed =
-    let here : IsOn new place number = subst (λ (ns : List (Option ℕ)). IsOn ns place number) (sym is) (get_or-set_same old place (Some number) None lt) in
+    let here : IsGivenNumber new place number = subst (λ (ns : List (Option ℕ)). IsGivenNumber ns place number) (sym is) (get_or-set_same old place (Some number) None lt) in
     let last : Contains after place = subst (λ (l : List ℕ). Contains l place) (sym pushed) (Contains-push before place) in
     record {
       sized = ap length is ∙ length-set old place (Some number);
       kept = λ k n on. elim (cases_eq k place) [
         | inl e ↦
-            let there : IsOn old place n = subst (λ (p : ℕ). IsOn old p n) e on in
+            let there : IsGivenNumber old place n = subst (λ (p : ℕ). IsGivenNumber old p n) e on in
             let clash : ◌≡◌ {A = Option ℕ} None (Some n) = sym none ∙ there in
             absurd cc
-        | inr ne ↦ subst (λ (ns : List (Option ℕ)). IsOn ns k n) (sym is) (get_or-set_other old place k (Some number) None ne ∙ on)
+        | inr ne ↦ subst (λ (ns : List (Option ℕ)). IsGivenNumber ns k n) (sym is) (get_or-set_other old place k (Some number) None ne ∙ on)
       ];
       only = λ k n on. elim (cases_eq k place) [
         | inl e ↦
-            let there : IsOn new place n = subst (λ (p : ℕ). IsOn new p n) e on in
+            let there : IsGivenNumber new place n = subst (λ (p : ℕ). IsGivenNumber new p n) e on in
             let same : ◌≡◌ {A = Option ℕ} (Some n) (Some number) = sym there ∙ here in
             inr (record { is = cc; has = e; among = subst (λ (p : ℕ). Contains after p) (sym e) last })
-        | inr ne ↦ inl (sym (get_or-set_other old place k (Some number) None ne) ∙ subst (λ (ns : List (Option ℕ)). IsOn ns k n) is on)
+        | inr ne ↦ inl (sym (get_or-set_other old place k (Some number) None ne) ∙ subst (λ (ns : List (Option ℕ)). IsGivenNumber ns k n) is on)
       ];
       listed = λ k h. subst (λ (l : List ℕ). Contains l k) (sym pushed) (Contains-append_left before (place ∷ []) k h);
       from = λ k h. elim (Contains-push_cases before place k (subst (λ (l : List ℕ). Contains l k) pushed h)) [
         | inl earlier ↦ inl earlier
-        | inr e ↦ inr (sym e, subst (λ (p : ℕ). IsOn new p number) e here)
+        | inr e ↦ inr (sym e, subst (λ (p : ℕ). IsGivenNumber new p number) e here)
       ];
       counted =
           let less = fewer old place number lt none in
@@ -105,7 +105,7 @@ one_given place number old new before after lt none is pushed = record {
   gives = gives_one place number old new before after lt none is pushed;
   all = λ p e. record {
     number = number;
-    is = subst (λ (q : ℕ). IsOn new q number) (sym e) (subst (λ (ns : List (Option ℕ)). IsOn ns place number) (sym is) (get_or-set_same old place (Some number) None lt));
+    is = subst (λ (q : ℕ). IsGivenNumber new q number) (sym e) (subst (λ (ns : List (Option ℕ)). IsGivenNumber ns place number) (sym is) (get_or-set_same old place (Some number) None lt));
   };
 }
 

@@ -5,7 +5,7 @@ use Rattle.std.proofs.lemmas.List.Elements.{All-head, All-tail, All-push, All-sa
 use Rattle.or_geom.specs.declared.shape.Shape.{Shape}
 use Rattle.shape_bins.specs.declared.filled.Filled.{Filled}
 use Rattle.shape_bins.specs.declared.runs.Run.{Run}
-use Rattle.shape_bins.specs.Filled.{IsFilledBox, IsFilledBy, IsJoint}
+use Rattle.shape_bins.specs.Filled.{IsFilledBox, IsFilledBy, AreJoinedTo}
 use Rattle.shape_bins.specs.Runs.{FillRun, FillRuns, KeepsRun}
 use Rattle.shape_bins.proofs.FilledLaws.{joint_filled, own_filled}
 
@@ -14,7 +14,7 @@ pub single_filled : (shapes : List Shape) (s : Shape) (run : Run) → run.filled
 single_filled shapes s run is there = subst (λ (z : Shape). IsFilledBox shapes z) (sym is) (own_filled shapes s there)
 
 -- with a box of the shape alone a run is longer
-pub longer_filled : (shapes : List Shape) (s : Shape) (run alone : Run) (longer : Filled) → alone.filled.shape ≡ s → IsJoint run.filled alone.filled longer → Contains shapes s → FillRun shapes run → IsFilledBy shapes longer
+pub longer_filled : (shapes : List Shape) (s : Shape) (run alone : Run) (longer : Filled) → alone.filled.shape ≡ s → AreJoinedTo run.filled alone.filled longer → Contains shapes s → FillRun shapes run → IsFilledBy shapes longer
 longer_filled shapes s run alone longer is joint there fills =
     joint_filled shapes run.filled alone.filled longer joint fills (single_filled shapes s alone is there)
 

@@ -31,7 +31,7 @@ pub record AreBeside (a b : Rect) : Type 0 where
   pub before : a.x1 ≤ℤ b.x2
 
 -- two boxes of one layer cover the third
-pub record IsJoint (a b joint : Filled) : Type 0 where
+pub record AreJoinedTo (a b joint : Filled) : Type 0 where
   pub first : a.shape.layer ≡ joint.shape.layer
   pub second : b.shape.layer ≡ joint.shape.layer
   pub covered : IsCovered joint.shape.rect (a.shape.rect ∷ b.shape.rect ∷ [])

@@ -8,17 +8,17 @@ pub record NumberedShapes : Type 0 where
   pub given : List (Option ℕ)
 
 -- the shape at the place has this number
-abbrev pub IsOn : List (Option ℕ) → ℕ → ℕ → Type 0
-IsOn given place number = slice_index_or given place None ≡ Some number
+abbrev pub IsGivenNumber : List (Option ℕ) → ℕ → ℕ → Type 0
+IsGivenNumber given place number = slice_index_or given place None ≡ Some number
 
 -- it has one
 pub record HasNumber (given : List (Option ℕ)) (place : ℕ) : Type 0 where
   pub number : ℕ
-  pub is : IsOn given place number
+  pub is : IsGivenNumber given place number
 
 -- each shape that had a number still has it
 abbrev pub KeepsNumbers : List (Option ℕ) → List (Option ℕ) → Type 0
-KeepsNumbers old new = (place number : ℕ) → IsOn old place number → IsOn new place number
+KeepsNumbers old new = (place number : ℕ) → IsGivenNumber old place number → IsGivenNumber new place number
 
 -- how many shapes have no number
 abbrev pub unnumbered : List (Option ℕ) → ℕ
@@ -36,9 +36,9 @@ pub record IsListedWith (P : ℕ → Type 0) (number : ℕ) (listed : List ℕ) 
 pub record GivesNumber (P : ℕ → Type 0) (number : ℕ) (old new : List (Option ℕ)) (before after : List ℕ) : Type 0 where
   pub sized : length new ≡ length old
   pub kept : KeepsNumbers old new
-  pub only : (place n : ℕ) → IsOn new place n → IsOn old place n ⊎ IsListedWith P number after place n
+  pub only : (place n : ℕ) → IsGivenNumber new place n → IsGivenNumber old place n ⊎ IsListedWith P number after place n
   pub listed : (place : ℕ) → Contains before place → Contains after place
-  pub from : (place : ℕ) → Contains after place → Contains before place ⊎ (P place × IsOn new place number)
+  pub from : (place : ℕ) → Contains after place → Contains before place ⊎ (P place × IsGivenNumber new place number)
   pub counted : unnumbered new + length after ≡ unnumbered old + length before
 
 -- all that have P have a number now

@@ -1,6 +1,6 @@
 ghost use Rattle.std.specs.Prelude.{◌↔◌, ◌≤◌, [], ◌∷◌, length, IsTrue, IfOk, IfSome, OnOk};
 ghost use Rattle.or_geom.specs.Covered.{IsCovered};
-ghost use Rattle.shape_bins.specs.Filled.{AreFilledBoxes, AreStacked, AreBeside, IsJoint, AddsFilled, AddsBoxes};
+ghost use Rattle.shape_bins.specs.Filled.{AreFilledBoxes, AreStacked, AreBeside, AreJoinedTo, AddsFilled, AddsBoxes};
 ghost use Rattle.shape_bins.specs.Filled.{AreJoinedFrom, AreJoinedOf};
 
 use crate::runs::runs_of;
@@ -71,7 +71,7 @@ fn joint(a: Rect, b: Rect) -> Option<Rect>
 
 /// The box that two boxes of one layer fill together.
 pub fn both(a: Filled, b: Filled) -> Option<Filled>
-    ensures { IfSome result (IsJoint a b) }
+    ensures { IfSome result (AreJoinedTo a b) }
 {
     if a.shape.layer != b.shape.layer {
         return None;

@@ -6,7 +6,7 @@ use Rattle.spice_netlist.specs.declared.resolved.ResolvedSubckt.{ResolvedSubckt}
 use Rattle.spice_netlist.specs.declared.rows.RowList.{RowList}
 use Rattle.spice_netlist.specs.Resolved.{leaf_at}
 use Rattle.spice_netlist.specs.Walk.{FlatNet, local, FlatInstance}
-use Rattle.spice_netlist.specs.Pins.{LeafPin, pins_from, pins_in, pins_of, NamedPin, pin_row}
+use Rattle.spice_netlist.specs.Pins.{InstancePin, pins_from, pins_in, pins_of, NamedPin, pin_row}
 use Rattle.spice_netlist.specs.NetKeys.{net_key}
 use Rattle.spice_netlist.specs.NetTable.{table_nets}
 use Rattle.spice_netlist.specs.Numbers.{PinLabel, label_of_named, IsTableNumbering}
@@ -27,7 +27,7 @@ module _ (subckts : List ResolvedSubckt) where
       → map (pin_row subckts) (pins_from path of port (map own_key nets)) ≡ map keyed_row (map (pin_row subckts) (pins_from path of port nets))
   keyed_from path of port [] = refl
   keyed_from path of port (n ∷ ns) =
-      let me : LeafPin = record { path = path; of = of; port = port; net = own_key n } in
+      let me : InstancePin = record { path = path; of = of; port = port; net = own_key n } in
       ap (λ (rows : List NamedPin). pin_row subckts me ∷ rows) (keyed_from path of (port + 1) ns)
 
   keyed_in : (leaf : Bool) (x : FlatInstance)

@@ -6,13 +6,13 @@ use Rattle.spice_netlist.specs.declared.resolved.ResolvedSubckt.{ResolvedSubckt}
 use Rattle.spice_netlist.specs.declared.resolved.ResolvedInstance.{ResolvedInstance}
 use Rattle.spice_netlist.specs.Resolved.{leaf_at, ports_at}
 use Rattle.spice_netlist.specs.Walk.{FlatNet, local, FlatInstance, net_above, path_above, visit_above, visits_in, visits_by, leaf_count}
-use Rattle.spice_netlist.specs.Pins.{LeafPin, pins_from, pin_above, pins_in, pins_of}
+use Rattle.spice_netlist.specs.Pins.{InstancePin, pins_from, pin_above, pins_in, pins_of}
 
 from_above : (instance : ResolvedInstance) (ports : List (List ℕ)) (path : List ℕ) (of port : ℕ) (nets : List FlatNet) → pins_from (path_above instance path) of port (map (net_above instance ports) nets) ≡ map (pin_above instance ports) (pins_from path of port nets)
 from_above instance ports path of port [] = refl
 from_above instance ports path of port (net ∷ nets) =
-    let me : LeafPin = record { path = path_above instance path; of = of; port = port; net = net_above instance ports net } in
-    ap (λ (ps : List LeafPin). me ∷ ps) (from_above instance ports path of (port + 1) nets)
+    let me : InstancePin = record { path = path_above instance path; of = of; port = port; net = net_above instance ports net } in
+    ap (λ (ps : List InstancePin). me ∷ ps) (from_above instance ports path of (port + 1) nets)
 
 in_above : (instance : ResolvedInstance) (ports : List (List ℕ)) (leaf : Bool) (v : FlatInstance)
     → cond leaf (pins_from (path_above instance v.path) v.of 0 (map (net_above instance ports) v.nets)) [] ≡ map (pin_above instance ports) (cond leaf (pins_from v.path v.of 0 v.nets) [])
@@ -22,8 +22,8 @@ in_above instance ports false v = refl
 pub pins-above : (subckts : List ResolvedSubckt) (instance : ResolvedInstance) (ports : List (List ℕ)) (vs : List FlatInstance) → pins_of subckts (map (visit_above instance ports) vs) ≡ map (pin_above instance ports) (pins_of subckts vs)
 pins-above subckts instance ports [] = refl
 pins-above subckts instance ports (v ∷ vs) =
-    ap (λ (ps : List LeafPin). pins_in subckts (visit_above instance ports v) ++ ps) (pins-above subckts instance ports vs)
-    ∙ ap (λ (ps : List LeafPin). ps ++ map (pin_above instance ports) (pins_of subckts vs)) (in_above instance ports (leaf_at subckts v.of) v)
+    ap (λ (ps : List InstancePin). pins_in subckts (visit_above instance ports v) ++ ps) (pins-above subckts instance ports vs)
+    ∙ ap (λ (ps : List InstancePin). ps ++ map (pin_above instance ports) (pins_of subckts vs)) (in_above instance ports (leaf_at subckts v.of) v)
     ∙ sym (map-append (pin_above instance ports) (pins_in subckts v) (pins_of subckts vs))
 
 pub count-above : (subckts : List ResolvedSubckt) (instance : ResolvedInstance) (ports : List (List ℕ)) (vs : List FlatInstance) → leaf_count subckts (map (visit_above instance ports) vs) ≡ leaf_count subckts vs
@@ -51,7 +51,7 @@ module _ (subckts : List ResolvedSubckt) (f : ℕ → List FlatInstance) (p : Re
   pins_there k some =
       ap (pins_of subckts) (visits_there k some)
       ∙ flat_map-append (pins_in subckts) (visits_by subckts f front) (visits_in subckts f p (Some k))
-      ∙ ap (λ (ps : List LeafPin). pins_of subckts (visits_by subckts f front) ++ (cond (leaf_at subckts k) (pins_from p.name k 0 (map local p.nodes)) [] ++ ps)) (pins-above subckts p (ports_at subckts k) (f k))
+      ∙ ap (λ (ps : List InstancePin). pins_of subckts (visits_by subckts f front) ++ (cond (leaf_at subckts k) (pins_from p.name k 0 (map local p.nodes)) [] ++ ps)) (pins-above subckts p (ports_at subckts k) (f k))
       ∙ sym (append_assoc (pins_of subckts (visits_by subckts f front)) (cond (leaf_at subckts k) (pins_from p.name k 0 (map local p.nodes)) []) (map (pin_above p (ports_at subckts k)) (pins_of subckts (f k))))
 
   pub count_there : (k : ℕ) → p.index ≡ Some k → leaf_count subckts (visits_by subckts f (front ++ p ∷ [])) ≡ leaf_count subckts (visits_by subckts f front) + (cond (leaf_at subckts k) 1 0 + leaf_count subckts (f k))

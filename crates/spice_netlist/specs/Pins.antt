@@ -8,20 +8,20 @@ use Rattle.spice_netlist.specs.Walk.{FlatNet, local, FlatInstance, net_above, pa
 
 -- a pin of a leaf instance: the names of the instances down to the leaf, separated by /, the index of the leaf, its own
 -- among the leaf's ports, and its net
-pub record LeafPin : Type 0 where
+pub record InstancePin : Type 0 where
   pub path : List ℕ
   pub of : ℕ
   pub port : ℕ
   pub net : FlatNet
 
 -- pins from this port on, which are on the nets in their order
-abbrev pub pins_from : List ℕ → ℕ → ℕ → List FlatNet → List LeafPin
+abbrev pub pins_from : List ℕ → ℕ → ℕ → List FlatNet → List InstancePin
 pins_from path of port [] = []
 pins_from path of port (net ∷ nets) =
     record { path = path; of = of; port = port; net = net } ∷ pins_from path of (port + 1) nets
 
 -- a pin inside the instance, seen from outside
-abbrev pub pin_above : ResolvedInstance → List (List ℕ) → LeafPin → LeafPin
+abbrev pub pin_above : ResolvedInstance → List (List ℕ) → InstancePin → InstancePin
 pin_above instance ports p = record {
   path = path_above instance p.path;
   of = p.of;
@@ -30,11 +30,11 @@ pin_above instance ports p = record {
 }
 
 -- the pins of the instance, where it is one of a leaf
-abbrev pub pins_in : List ResolvedSubckt → FlatInstance → List LeafPin
+abbrev pub pins_in : List ResolvedSubckt → FlatInstance → List InstancePin
 pins_in subckts v = if leaf_at subckts v.of then pins_from v.path v.of 0 v.nets else []
 
 -- the pins of the leaf instances
-abbrev pub pins_of : List ResolvedSubckt → List FlatInstance → List LeafPin
+abbrev pub pins_of : List ResolvedSubckt → List FlatInstance → List InstancePin
 pins_of subckts visits = flat_map (pins_in subckts) visits
 
 -- a row before nets are numbered
@@ -49,7 +49,7 @@ abbrev pub port_row : List ℕ → NamedPin
 port_row port = record { path = []; leaf = []; pin = port; net = local port }
 
 -- a pin of a leaf instance
-abbrev pub pin_row : List ResolvedSubckt → LeafPin → NamedPin
+abbrev pub pin_row : List ResolvedSubckt → InstancePin → NamedPin
 pin_row subckts p = record {
   path = p.path;
   leaf = subckt_name_at subckts p.of;

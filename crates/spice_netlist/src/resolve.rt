@@ -13,7 +13,7 @@ use std::alloc::Global;
 
 /// A deck with its names resolved, and the index of the top; None where it isn't there.
 #[derive(Drop)]
-pub struct Design {
+pub struct ResolvedDeck {
     pub subckts: Items<ResolvedSubckt>,
     pub top: Option<usize>,
 }
@@ -115,7 +115,7 @@ pub fn resolve(
     subckts: &[Subckt],
     top: &Name,
     leaves: &[Name],
-) -> Result<Design, Memory>
+) -> Result<ResolvedDeck, Memory>
     ensures subckts { IfOk result (λ design. design.subckts ≡ resolved_subckts subckts.now top.now leaves.now) }
     ensures top { IfOk result (λ design. design.top ≡ index_of (names_of subckts.now) top.now) }
 {
@@ -125,5 +125,5 @@ pub fn resolve(
     let subckt_index = index_names(alloc, names.as_slice())?;
     let subckts = resolved_subckts(alloc, top, &leaves, &subckt_index, subckts)?;
     let top = subckt_index.find(top.as_bytes());
-    Ok(Design { subckts, top })
+    Ok(ResolvedDeck { subckts, top })
 }

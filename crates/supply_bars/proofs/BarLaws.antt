@@ -19,7 +19,7 @@ use Rattle.good_places.specs.Leaves.{Zone, LiesNear}
 use Rattle.good_places.proofs.NumberLaws.{banks_before}
 use Rattle.good_wires.specs.Drawn.{IsDrawnMemory, IsDrawnWire}
 use Rattle.good_wires.proofs.LevelLaws.{Sides, sides}
-use Rattle.supply_bars.specs.Heights.{Part, Height, part_of, low, bar_begin, HasBar, HasJoiner, trunk_by, is_power, IsAtHeight, IsBarAlong, IsJoinerAlong}
+use Rattle.supply_bars.specs.Heights.{Storey, Height, part_of, low, bar_begin, HasBar, HasJoiner, trunk_by, is_power, IsAtHeight, IsBarAlong, IsJoinerAlong}
 use Rattle.supply_bars.proofs.HeightLaws.{on_metal, a_bar, a_joiner}
 use Rattle.supply_bars.proofs.PartLaws.{rise_of, tall_of, same_rise, same_bars, LiesInPart, in_part, parts, trunks, bar_wide, joiner_begins}
 use Rattle.supply_bars.proofs.SideLaws.{IsAlikeLeft, IsAlikeRight}
@@ -77,7 +77,7 @@ module _ (plan other : Organization) (kit : LayoutKit) (wire : Wire) (tracks man
 
   -- the part's lower edge, moved
   low_moves : (h : Height) → pair.part ≡ part_of h → low g (part_of h) ≡ low f (part_of h) +ℤ ey
-  low_moves h at = subst (λ (p : Part). low g p ≡ low f p +ℤ ey) at (sym pair.low_there ∙ pair.moved.low ∙ ap (λ (z : ℤ). z +ℤ ey) pair.low_here)
+  low_moves h at = subst (λ (p : Storey). low g p ≡ low f p +ℤ ey) at (sym pair.low_there ∙ pair.moved.low ∙ ap (λ (z : ℤ). z +ℤ ey) pair.low_here)
 
   image_low : (h : Height) → pair.part ≡ part_of h → (b image : Shape) → IsAtHeight plan kit wire f h b → IsAtHeight other kit wire g h image → image.rect.y1 ≡ b.rect.y1 +ℤ ey
   image_low h at b image p q = moved_height image.rect.y1 b.rect.y1 (rise_of plan kit wire h) (rise_of other kit wire h) (low f (part_of h)) (low g (part_of h)) ey q.low p.low (same_rise plan other kit wire h pair.same) (low_moves h at)

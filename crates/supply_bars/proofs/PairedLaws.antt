@@ -14,7 +14,7 @@ use Rattle.good_places.specs.Seen.{IsMovedZone}
 use Rattle.good_wires.specs.Drawn.{IsDrawnMemory}
 use Rattle.good_wires.proofs.LevelLaws.{sides}
 use Rattle.supply_bars.proofs.HeightLaws as heights
-use Rattle.supply_bars.specs.Heights.{Part, LogicRow, Slices, Columns, Height, LogicLow, LogicHigh, WriteLow, WriteHigh, SenseLow, SenseHigh, ColumnLow, ColumnHigh, CellRow, PrechargeLow, PrechargeHigh, part_of, low, bar_begin, HasJoiner, precharge_rise}
+use Rattle.supply_bars.specs.Heights.{Storey, LogicRow, Slices, Columns, Height, LogicLow, LogicHigh, WriteLow, WriteHigh, SenseLow, SenseHigh, ColumnLow, ColumnHigh, CellRow, PrechargeLow, PrechargeHigh, part_of, low, bar_begin, HasJoiner, precharge_rise}
 use Rattle.supply_bars.proofs.PartLaws.{tall_of, banks_end, joiner_begins}
 use Rattle.supply_bars.proofs.SideLaws.{IsAlikeLeft, IsAlikeRight, IsBankSide, AreBankSides}
 
@@ -35,7 +35,7 @@ pub record AreJoinersAlike (plan other : Organization) (kit : LayoutKit) (f g : 
 -- zones of one part, so much further right and up, beside which bars and joiners of the part begin and end alike
 pub record ArePaired (plan other : Organization) (kit : LayoutKit) (wire : Wire) (f g : Floorplan) (reach ex ey : ℤ) (here there : Zone) : Type 0 where
   pub same : HaveOneLeftPart plan other
-  pub part : Part
+  pub part : Storey
   pub low_here : here.low ≡ low f part
   pub high_here : here.high ≡ low f part +ℤ tall_of plan kit part
   pub low_there : there.low ≡ low g part
@@ -158,7 +158,7 @@ module _ (plan other : Organization) (kit : LayoutKit) (wire : Wire) (tracks man
   below_there b lt = subst (λ (k : ℕ). b < power_of_two k) (sym same.bank_bits) lt
 
   -- what a bank's sides tell of bars and joiners
-  pub from_sides : (ex ey : ℤ) (b : ℕ) (part : Part) (here there : Zone) (rows columns end rows2 columns2 end2 : ℤ) → b < banks_of plan → (LogicRow ≡ part → ⊥) → here.low ≡ low f part → here.high ≡ low f part +ℤ tall_of plan kit part → there.low ≡ low g part → there.high ≡ low g part +ℤ tall_of other kit part
+  pub from_sides : (ex ey : ℤ) (b : ℕ) (part : Storey) (here there : Zone) (rows columns end rows2 columns2 end2 : ℤ) → b < banks_of plan → (LogicRow ≡ part → ⊥) → here.low ≡ low f part → here.high ≡ low f part +ℤ tall_of plan kit part → there.low ≡ low g part → there.high ≡ low g part +ℤ tall_of other kit part
       → IsMovedZone ex ey here there → IsBankSide plan kit f reach b here rows columns end → IsBankSide other kit g reach b there rows2 columns2 end2 → AreBankSides plan other kit f g reach ex b here there → ArePaired plan other kit wire f g reach ex ey here there
   from_sides ex ey b part here there rows columns end rows2 columns2 end2 lt upper lh hh lt2 ht moved side side2 sides = record {
     same = same;

@@ -17,20 +17,20 @@ use Rattle.good_wires.specs.Drawn.{IsDrawnMemory}
 use Rattle.good_wires.proofs.LevelLaws.{Levels, levels, Sides, sides}
 use Rattle.good_wires.proofs.ClearLaws.{write_high, column_high}
 use Rattle.supply_bars.proofs.HeightLaws as heights
-use Rattle.supply_bars.specs.Heights.{Part, LogicRow, Slices, Columns, Height, LogicLow, LogicHigh, WriteLow, WriteHigh, SenseLow, SenseHigh, ColumnLow, ColumnHigh, CellRow, PrechargeLow, PrechargeHigh, part_of, low, tall, array_rise, precharge_rise, rise, bar_begin, HasBar, HasJoiner, trunk_by, is_power}
+use Rattle.supply_bars.specs.Heights.{Storey, LogicRow, Slices, Columns, Height, LogicLow, LogicHigh, WriteLow, WriteHigh, SenseLow, SenseHigh, ColumnLow, ColumnHigh, CellRow, PrechargeLow, PrechargeHigh, part_of, low, tall, array_rise, precharge_rise, rise, bar_begin, HasBar, HasJoiner, trunk_by, is_power}
 
 -- Memories with the same left part have the same heights.
 
 abbrev pub rise_of : Organization → LayoutKit → Wire → Height → ℤ
 rise_of plan kit wire h = rise kit wire plan.col_bits plan.groups h
 
-abbrev pub tall_of : Organization → LayoutKit → Part → ℤ
+abbrev pub tall_of : Organization → LayoutKit → Storey → ℤ
 tall_of plan kit part = pos (tall kit plan.col_bits plan.groups part)
 
 pub same_rise : (plan other : Organization) (kit : LayoutKit) (wire : Wire) (h : Height) → HaveOneLeftPart plan other → rise_of other kit wire h ≡ rise_of plan kit wire h
 same_rise plan other kit wire h s = λ i. rise kit wire (s.col_bits i) (s.groups i) h
 
-pub same_tall : (plan other : Organization) (kit : LayoutKit) (part : Part) → HaveOneLeftPart plan other → tall_of other kit part ≡ tall_of plan kit part
+pub same_tall : (plan other : Organization) (kit : LayoutKit) (part : Storey) → HaveOneLeftPart plan other → tall_of other kit part ≡ tall_of plan kit part
 same_tall plan other kit part s = λ i. pos (tall kit (s.col_bits i) (s.groups i) part)
 
 pub same_bars : (plan other : Organization) (h : Height) → HaveOneLeftPart plan other → HasBar plan.groups h → HasBar other.groups h
@@ -124,7 +124,7 @@ module _ (plan : Organization) (kit : LayoutKit) (wire : Wire) (tracks : Tracks)
 
   -- Parts keep the wires' space.
 
-  abbrev pub IsBelow : Part → Part → Type 0
+  abbrev pub IsBelow : Storey → Storey → Type 0
   IsBelow p q = ((low f p +ℤ tall_of plan kit p) +ℤ wire.space) ≤ℤ low f q
 
   row_below : IsBelow LogicRow Slices
@@ -140,7 +140,7 @@ module _ (plan : Organization) (kit : LayoutKit) (wire : Wire) (tracks : Tracks)
     go : (w s c sp : ℤ) (h k : ℕ) → s ≡ w +ℤ pos h → ((s +ℤ pos k) +ℤ sp) ≤ℤ c → ((w +ℤ pos (h + k)) +ℤ sp) ≤ℤ c
     go w s c sp h k e le = omega (arith, ints, e, le)
 
-  pub parts : (p q : Part) → (p ≡ q) ⊎ (IsBelow p q ⊎ IsBelow q p)
+  pub parts : (p q : Storey) → (p ≡ q) ⊎ (IsBelow p q ⊎ IsBelow q p)
   parts LogicRow LogicRow = inl refl
   parts LogicRow Slices = inr (inl row_below)
   parts LogicRow Columns = inr (inl row_under)

@@ -23,7 +23,7 @@ use Rattle.tile_checker.specs.Minimum.{IsMinimum, HasMinimum}
 use Rattle.tile_checker.specs.Breaks.{AreNear, Breaks, IsGrown}
 use Rattle.tile_checker.specs.RuleReport.{IsLater, IsViolation}
 use Rattle.tile_checker.specs.Firsts.{IsAt, IsFrom, ArePlaces}
-use Rattle.tile_checker.specs.Tiles.{minimum, corner, Owns, HasCorners, AreTiles, IsViolationIn, IsFoundIn, IsFromIn, IsFromPlace, IsListed, AreFirstPlaces}
+use Rattle.tile_checker.specs.Tiles.{minimum, corner, Owns, HasCorners, AreTiles, IsViolationIn, IsFoundIn, IsFromIn, IsFromPlace, IsShapeListed, AreFirstPlaces}
 use Rattle.tile_checker.proofs.AloneLaws.{IsForOne}
 use Rattle.tile_checker.proofs.NearLaws.{near_meets}
 use Rattle.tile_checker.proofs.LayerLaws.{lesser, on_lesser}
@@ -82,7 +82,7 @@ rule_found number rule shapes tile firsts old new are a =
 abbrev pub AreListed : List Shape → ℕ → Rect → List ℕ → Type 0
 AreListed shapes layer area places = (place : ℕ) → IsNearShape shapes layer area place → Contains places place
 
-near_listed : (shapes : List Shape) (layer : ℕ) (area : Rect) (places : List ℕ) (a : Shape) → AreListed shapes layer area places → Contains shapes a → a.layer ≡ layer → Meet a.rect area → IsListed shapes places a
+near_listed : (shapes : List Shape) (layer : ℕ) (area : Rect) (places : List ℕ) (a : Shape) → AreListed shapes layer area places → Contains shapes a → a.layer ≡ layer → Meet a.rect area → IsShapeListed shapes places a
 near_listed shapes layer area places a hits h on meet =
     let p = place_of shapes a h in
     record { place = p.0; among = hits p.0 (record { shape = a; there = p.1; on = on; fits = meet }); there = p.1 }
@@ -124,7 +124,7 @@ corner_meets min a b tile area grown some near t g h =
     }
 
 width_each : (layer : ℕ) (min : ℤ) (shapes : List Shape) (tile : Rect) (places : List ℕ) → AreListed shapes layer tile places → (a : Shape) (b : Option Shape) → Contains shapes a → Breaks (Width layer min) shapes a b → Owns tile (Width layer min) a b
-    → IsListed shapes places a
+    → IsShapeListed shapes places a
 width_each layer min shapes tile places hits a None h breaks owned = near_listed shapes layer tile places a hits h breaks.on (own_meets tile a.rect owned)
 width_each layer min shapes tile places hits a (Some b) h breaks owned = absurd breaks
 
@@ -132,7 +132,7 @@ pub width_firsts : (layer : ℕ) (min : ℤ) (shapes : List Shape) (tile : Rect)
 width_firsts layer min shapes tile places are hits = record { inside = are; each = λ a b h later. width_each layer min shapes tile places hits a b h }
 
 enclose_each : (layer : ℕ) (by : List ℕ) (min : ℤ) (shapes : List Shape) (tile : Rect) (places : List ℕ) → AreListed shapes layer tile places → (a : Shape) (b : Option Shape) → Contains shapes a → Breaks (Enclose layer by min) shapes a b
-    → Owns tile (Enclose layer by min) a b → IsListed shapes places a
+    → Owns tile (Enclose layer by min) a b → IsShapeListed shapes places a
 enclose_each layer by min shapes tile places hits a None h breaks owned = near_listed shapes layer tile places a hits h breaks.on (own_meets tile a.rect owned)
 enclose_each layer by min shapes tile places hits a (Some b) h breaks owned = absurd breaks
 
@@ -146,7 +146,7 @@ grown_of min r some =
     (record { x1 = r.x1 -ℤ min; y1 = r.y1 -ℤ min; x2 = r.x2 +ℤ min; y2 = r.y2 +ℤ min; wide = omega (arith, ints, w, some); tall = omega (arith, ints, h, some) }, record { left = refl; right = refl; low = refl; high = refl })
 
 space_each : (layer other : ℕ) (min : ℤ) (shapes : List Shape) (tile area : Rect) (places : List ℕ) → pos 1 ≤ℤ min → IsGrown min tile area → AreListed shapes (lesser layer other) area places → (a : Shape) (b : Option Shape) → Contains shapes a
-    → IsLater shapes a b → Breaks (Space layer other min) shapes a b → Owns tile (Space layer other min) a b → IsListed shapes places a
+    → IsLater shapes a b → Breaks (Space layer other min) shapes a b → Owns tile (Space layer other min) a b → IsShapeListed shapes places a
 space_each layer other min shapes tile area places some t hits a None h later breaks owned = absurd breaks
 space_each layer other min shapes tile area places some t hits a (Some b) h later breaks owned =
     let g = grown_of min a.rect some in

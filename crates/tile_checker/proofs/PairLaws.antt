@@ -20,7 +20,7 @@ use Rattle.tech_rules.specs.declared.tech.Rule.TheVariants.{Space}
 use Rattle.shape_bins.specs.Layers.{rects_on}
 use Rattle.shape_bins.specs.Hits.{IsNearShape}
 use Rattle.tile_checker.specs.Breaks.{Breaks, IsGrown}
-use Rattle.tile_checker.specs.Found.{AreOn, IsSpaceFound}
+use Rattle.tile_checker.specs.Found.{AreOnLayersOf, IsSpaceFound}
 use Rattle.tile_checker.specs.RuleReport.{IsLater}
 use Rattle.tile_checker.specs.declared.violation.Violation.{Violation}
 use Rattle.tile_checker.specs.declared.space.SpaceRule.{SpaceRule}
@@ -37,17 +37,17 @@ abbrev kind : SpaceRule → Rule
 kind rule = Space rule.layer rule.other rule.min.value
 
 -- a partner's shapes, and no others, lie with the first on the rule's layers
-pub partner_on : (rule : SpaceRule) (a b : Shape) (partner : ℕ) → IsPartner rule a.layer partner → b.layer ≡ partner → AreOn rule a b
+pub partner_on : (rule : SpaceRule) (a b : Shape) (partner : ℕ) → IsPartner rule a.layer partner → b.layer ≡ partner → AreOnLayersOf rule a b
 partner_on rule a b partner (inl p) on = inl (p.0, on ∙ p.1)
 partner_on rule a b partner (inr p) on = inr (p.0, on ∙ p.1)
 
-on_partner : (rule : SpaceRule) (a b : Shape) (partner : ℕ) → IsPartner rule a.layer partner → AreOn rule a b → b.layer ≡ partner
+on_partner : (rule : SpaceRule) (a b : Shape) (partner : ℕ) → IsPartner rule a.layer partner → AreOnLayersOf rule a b → b.layer ≡ partner
 on_partner rule a b partner (inl p) (inl on) = on.1 ∙ sym p.1
 on_partner rule a b partner (inl p) (inr on) = on.1 ∙ (sym p.0 ∙ (on.0 ∙ sym p.1))
 on_partner rule a b partner (inr p) (inl on) = on.1 ∙ (sym p.0 ∙ (on.0 ∙ sym p.1))
 on_partner rule a b partner (inr p) (inr on) = on.1 ∙ sym p.1
 
-no_partner : (rule : SpaceRule) (a b : Shape) → HasNoPartner rule a.layer → AreOn rule a b → shape_order a b ≡ Less → ⊥
+no_partner : (rule : SpaceRule) (a b : Shape) → HasNoPartner rule a.layer → AreOnLayersOf rule a b → shape_order a b ≡ Less → ⊥
 no_partner rule a b none on less =
     let lesser = none b.layer on in
     let rises = layers_rise a b less in
@@ -134,10 +134,10 @@ pub partner_inside : (rule : SpaceRule) (shapes read : List Shape) (a : Shape) (
 partner_inside rule shapes read a place same p = subst (λ (l : List Shape). place < length l) (sym same) (slice_get_within shapes place p.shape p.there)
 
 -- what is read there
-pub partner_read : (rule : SpaceRule) (shapes read : List Shape) (a s : Shape) (place : ℕ) → read ≡ shapes → IsPartnerAt rule shapes a place → slice_get read place ≡ Some s → AreOn rule a s × (slice_get shapes place ≡ Some s)
+pub partner_read : (rule : SpaceRule) (shapes read : List Shape) (a s : Shape) (place : ℕ) → read ≡ shapes → IsPartnerAt rule shapes a place → slice_get read place ≡ Some s → AreOnLayersOf rule a s × (slice_get shapes place ≡ Some s)
 partner_read rule shapes read a s place same p at =
     let there : slice_get shapes place ≡ Some s = subst (λ (l : List Shape). slice_get l place ≡ Some s) same at in
-    (subst (λ (t : Shape). AreOn rule a t) (same_Some p.shape s (sym p.there ∙ there)) p.on, there)
+    (subst (λ (t : Shape). AreOnLayersOf rule a t) (same_Some p.shape s (sym p.there ∙ there)) p.on, there)
 
 -- a place has one shape, so one pair
 pub same_second : (rule : SpaceRule) (shapes : List Shape) (tile : Rect) (first : First) (place : ℕ) (s : Shape) (v : Violation) → slice_get shapes place ≡ Some s → IsPairAt rule shapes tile first place v

@@ -7,32 +7,32 @@ use Rattle.or_geom.specs.declared.shape.Rect.{Rect}
 use Rattle.tile_checker.specs.declared.frame.Frame.{Frame}
 use Rattle.tile_checker.specs.declared.strip.Strip.{Strip}
 use Rattle.tile_checker.specs.Frame.{HasBoxAt, point}
-use Rattle.tile_checker.specs.Strips.{HaveCell, HasCommonRows, CoversColumns, IsStripAt, IsWindow, IsLink, IsChain, AreRights, EndsBefore, NoBoxAt}
+use Rattle.tile_checker.specs.Strips.{HaveCell, HasCommonRows, CoversColumns, IsStripAt, IsWindow, IsLink, AreStripsUpTo, AreRights, EndsBefore, NoBoxAt}
 use Rattle.tile_checker.proofs.FrameLaws.{box_moved}
 use Rattle.tile_checker.proofs.StripLaws.{window_wider, no_room}
 
-pub chain_begins : (rects : List Rect) (f : Frame) (from to : ℤ) (strips : List Strip) → strips ≡ [] → from ≡ to → IsChain rects f from strips to
-chain_begins rects f from to strips e same = subst (λ (ss : List Strip). IsChain rects f from ss to) (sym e) same
+pub chain_begins : (rects : List Rect) (f : Frame) (from to : ℤ) (strips : List Strip) → strips ≡ [] → from ≡ to → AreStripsUpTo rects f from strips to
+chain_begins rects f from to strips e same = subst (λ (ss : List Strip). AreStripsUpTo rects f from ss to) (sym e) same
 
-pub chain_push : (rects : List Rect) (f : Frame) (from to : ℤ) (ss : List Strip) (s : Strip) → IsChain rects f from ss to → IsLink rects f to s → IsChain rects f from (ss ++ (s ∷ [])) s.right
+pub chain_push : (rects : List Rect) (f : Frame) (from to : ℤ) (ss : List Strip) (s : Strip) → AreStripsUpTo rects f from ss to → IsLink rects f to s → AreStripsUpTo rects f from (ss ++ (s ∷ [])) s.right
 chain_push rects f from to [] s e link = (subst (λ (x : ℤ). IsLink rects f x s) (sym e) link, refl)
 chain_push rects f from to (t ∷ ts) s c link = (c.0, chain_push rects f t.right to ts s c.1 link)
 
 -- what the last of some strips says
 record IsLast (rects : List Rect) (f : Frame) (from to : ℤ) (rest : List Strip) (last : Strip) : Type 0 where
-  pub chain : IsChain rects f from rest last.left
+  pub chain : AreStripsUpTo rects f from rest last.left
   pub each : (x : ℤ) → last.left <ℤ x → x ≤ℤ last.right → IsWindow rects f f.high.x x last.bottom last.top
   pub end : last.right ≡ to
 
-last_of : (rects : List Rect) (f : Frame) (from to : ℤ) (rest : List Strip) (last : Strip) → IsChain rects f from (rest ++ (last ∷ [])) to → IsLast rects f from to rest last
+last_of : (rects : List Rect) (f : Frame) (from to : ℤ) (rest : List Strip) (last : Strip) → AreStripsUpTo rects f from (rest ++ (last ∷ [])) to → IsLast rects f from to rest last
 last_of rects f from to [] last c = record { chain = sym c.0.left; each = c.0.each; end = c.1 }
 last_of rects f from to (t ∷ ts) last c = let l = last_of rects f t.right to ts last c.1 in record { chain = (c.0, l.chain); each = l.each; end = l.end }
 
 -- what ends the right strips
-pub rights_full : (rects : List Rect) (f : Frame) (strips : List Strip) (reach limit : ℤ) → IsChain rects f f.high.x strips reach → limit ≤ℤ reach → AreRights rects f strips limit
+pub rights_full : (rects : List Rect) (f : Frame) (strips : List Strip) (reach limit : ℤ) → AreStripsUpTo rects f f.high.x strips reach → limit ≤ℤ reach → AreRights rects f strips limit
 rights_full rects f strips reach limit chain full = record { reach = reach; chain = chain; ends = λ to y further within low high covers. omega (arith, ints, full, further, within) }
 
-pub rights_end : (rects : List Rect) (f : Frame) (strips : List Strip) (limit : ℤ) (window s both : Strip) → IsChain rects f f.high.x strips window.right → f.high.x ≤ℤ window.right → IsWindow rects f f.high.x window.right window.bottom window.top
+pub rights_end : (rects : List Rect) (f : Frame) (strips : List Strip) (limit : ℤ) (window s both : Strip) → AreStripsUpTo rects f f.high.x strips window.right → f.high.x ≤ℤ window.right → IsWindow rects f f.high.x window.right window.bottom window.top
     → IsStripAt rects f window.right s → HasCommonRows window s both → both.top <ℤ (both.bottom +ℤ f.height) → AreRights rects f strips limit
 rights_end rects f strips limit window s both chain after w st e few = record {
   reach = window.right;
@@ -57,7 +57,7 @@ link_of rects f window s both next after w st e left right bottom top = record {
 -- strips without a last one that begins no earlier than this column
 pub rights_less : (rects : List Rect) (f : Frame) (strips rest : List Strip) (last : Strip) (to : ℤ) → AreRights rects f strips to → strips ≡ rest ++ (last ∷ []) → to ≤ℤ last.left → AreRights rects f rest to
 rights_less rects f strips rest last to a e behind =
-    let l = last_of rects f f.high.x a.reach rest last (subst (λ (ss : List Strip). IsChain rects f f.high.x ss a.reach) e a.chain) in
+    let l = last_of rects f f.high.x a.reach rest last (subst (λ (ss : List Strip). AreStripsUpTo rects f f.high.x ss a.reach) e a.chain) in
     rights_full rects f rest last.left to l.chain behind
 
 pub rights_sooner : (rects : List Rect) (f : Frame) (strips : List Strip) (to sooner : ℤ) → sooner ≤ℤ to → AreRights rects f strips to → AreRights rects f strips sooner
@@ -96,17 +96,17 @@ columns_of rects f x y left right b l r i j from to low high = b.covered i j (om
 -- why no box stands at the window's left side
 pub none_reach : (rects : List Rect) (f : Frame) (strips : List Strip) (left : ℤ) → HaveCell f → f.low.x ≤ℤ left → left ≤ℤ f.high.x → AreRights rects f strips (left +ℤ f.width) → strips ≡ [] → NoBoxAt rects f left
 none_reach rects f strips left have from to a e y b =
-    let reach : f.high.x ≡ a.reach = subst (λ (ss : List Strip). IsChain rects f f.high.x ss a.reach) e a.chain in
+    let reach : f.high.x ≡ a.reach = subst (λ (ss : List Strip). AreStripsUpTo rects f f.high.x ss a.reach) e a.chain in
     a.ends (left +ℤ f.width) y (omega (arith, ints, reach, have.wide, from)) (omega (arith, ints)) b.low b.high (columns_of rects f left y f.high.x (left +ℤ f.width) b to (omega (arith, ints)))
 
 pub none_further : (rects : List Rect) (f : Frame) (strips rest : List Strip) (last : Strip) (left : ℤ) → left ≤ℤ f.high.x → AreRights rects f strips (left +ℤ f.width) → strips ≡ rest ++ (last ∷ []) → last.right <ℤ (left +ℤ f.width) → NoBoxAt rects f left
 none_further rects f strips rest last left to a e short y b =
-    let l = last_of rects f f.high.x a.reach rest last (subst (λ (ss : List Strip). IsChain rects f f.high.x ss a.reach) e a.chain) in
+    let l = last_of rects f f.high.x a.reach rest last (subst (λ (ss : List Strip). AreStripsUpTo rects f f.high.x ss a.reach) e a.chain) in
     a.ends (left +ℤ f.width) y (omega (arith, ints, l.end, short)) (omega (arith, ints)) b.low b.high (columns_of rects f left y f.high.x (left +ℤ f.width) b to (omega (arith, ints)))
 
 pub right_window : (rects : List Rect) (f : Frame) (strips rest : List Strip) (last : Strip) (to : ℤ) → AreRights rects f strips to → strips ≡ rest ++ (last ∷ []) → EndsBefore strips to → to ≤ℤ last.right → IsWindow rects f f.high.x to last.bottom last.top
 right_window rects f strips rest last to a e before within =
-    let l = last_of rects f f.high.x a.reach rest last (subst (λ (ss : List Strip). IsChain rects f f.high.x ss a.reach) e a.chain) in
+    let l = last_of rects f f.high.x a.reach rest last (subst (λ (ss : List Strip). AreStripsUpTo rects f f.high.x ss a.reach) e a.chain) in
     l.each to (before rest last e) within
 
 pub none_between : (rects : List Rect) (f : Frame) (strips rest : List Strip) (last window both : Strip) → HaveCell f → f.low.x ≤ℤ window.left → window.left ≤ℤ f.high.x → IsWindow rects f window.left f.high.x window.bottom window.top

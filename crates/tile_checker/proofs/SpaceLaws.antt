@@ -11,7 +11,7 @@ use Rattle.or_geom.specs.Span.{across, upward}
 use Rattle.or_geom.proofs.PlaceLaws.{same_rect}
 use Rattle.shape_bins.specs.Layers.{rects_on, IsCoveredBy}
 use Rattle.tile_checker.specs.Breaks.{AreNear, IsGapCovered}
-use Rattle.tile_checker.specs.Found.{AreOn, IsGapCoveredIn, IsSpaceFound}
+use Rattle.tile_checker.specs.Found.{AreOnLayersOf, IsGapCoveredIn, IsSpaceFound}
 use Rattle.tile_checker.specs.declared.space.SpaceRule.{SpaceRule}
 
 pub at_most : (a b : Rect) (d e : ℤ) → IsLeastDist2 a b d → IsLeastDist2 a b e → d ≤ℤ e
@@ -54,7 +54,7 @@ gap_box_once a b g h p q =
     same_rect g h x.low y.low x.high y.high
 
 -- where the layers fit and the shapes are near, it is the gap that decides
-pub space_found : (rule : SpaceRule) (rects : List Rect) (a b : Shape) (gap : Rect) (r : Bool) → AreOn rule a b → AreNear rule.min.value a.rect b.rect → a.layer ≡ b.layer → IsGapBox a.rect b.rect gap → (IsTrue r ↔ IsCovered gap rects)
+pub space_found : (rule : SpaceRule) (rects : List Rect) (a b : Shape) (gap : Rect) (r : Bool) → AreOnLayersOf rule a b → AreNear rule.min.value a.rect b.rect → a.layer ≡ b.layer → IsGapBox a.rect b.rect gap → (IsTrue r ↔ IsCovered gap rects)
     → IsTrue (not r) ↔ IsSpaceFound rule rects a b
 space_found rule rects a b gap true on near one is h = (λ f. absurd cc, λ s. absurd (s.bare (record { one_layer = one; gap = gap; is = is; covered = h.0 refl })))
 space_found rule rects a b gap false on near one is h = (
@@ -62,11 +62,11 @@ space_found rule rects a b gap false on near one is h = (
   λ s. refl,
 )
 
-own_layer : (rule : SpaceRule) (a b : Shape) → AreOn rule a b → a.layer ≡ b.layer → a.layer ≡ rule.layer
+own_layer : (rule : SpaceRule) (a b : Shape) → AreOnLayersOf rule a b → a.layer ≡ b.layer → a.layer ≡ rule.layer
 own_layer rule a b (inl on) one = on.0
 own_layer rule a b (inr on) one = one ∙ on.1
 
-pub gap_in : (rule : SpaceRule) (shapes : List Shape) (a b : Shape) → AreOn rule a b → IsGapCovered shapes a b → IsGapCoveredIn (rects_on rule.layer shapes) a b
+pub gap_in : (rule : SpaceRule) (shapes : List Shape) (a b : Shape) → AreOnLayersOf rule a b → IsGapCovered shapes a b → IsGapCoveredIn (rects_on rule.layer shapes) a b
 gap_in rule shapes a b on g = record {
   one_layer = g.one_layer;
   gap = g.gap;
@@ -74,7 +74,7 @@ gap_in rule shapes a b on g = record {
   covered = subst (λ (layer : ℕ). IsCoveredBy layer shapes g.gap) (own_layer rule a b on g.one_layer) g.covered;
 }
 
-pub gap_out : (rule : SpaceRule) (shapes : List Shape) (a b : Shape) → AreOn rule a b → IsGapCoveredIn (rects_on rule.layer shapes) a b → IsGapCovered shapes a b
+pub gap_out : (rule : SpaceRule) (shapes : List Shape) (a b : Shape) → AreOnLayersOf rule a b → IsGapCoveredIn (rects_on rule.layer shapes) a b → IsGapCovered shapes a b
 gap_out rule shapes a b on g = record {
   one_layer = g.one_layer;
   gap = g.gap;

@@ -8,7 +8,7 @@ use Rattle.or_geom.specs.Covered.{HasCell, HasCellInSome}
 use Rattle.or_geom.specs.Row.{IsFound}
 use Rattle.tile_checker.specs.declared.frame.Frame.{Frame}
 use Rattle.tile_checker.specs.declared.strip.Strip.{Strip}
-use Rattle.tile_checker.specs.Strips.{IsFrameHull, HaveCell, IsRaisedBy, IsLoweredBy, HasCommonRows, IsAlong, IsUpward, IsDownward, CoversColumns, IsStripAt, IsWindow}
+use Rattle.tile_checker.specs.Strips.{IsFrameHull, HaveCell, IsRaisedBy, IsLoweredBy, HasCommonRows, IsStripThrough, IsUpwardStrip, IsDownward, CoversColumns, IsStripAt, IsWindow}
 
 -- a cell with the same coordinates
 pub cell_moved : (rects : List Rect) (x y u v : ℤ) → x ≡ u → y ≡ v → HasCellInSome rects x y → HasCellInSome rects u v
@@ -22,8 +22,8 @@ pub falls_less : (a b bound : ℤ) → b <ℤ a → bound ≤ℤ b → unsigned_
 falls_less a b bound less within = omega (arith, ints, less, within)
 
 -- a strip goes on up by what covers the cell above it
-pub raised_along : (rects : List Rect) (hull : Rect) (x : ℤ) (old new : Strip) (cell : Point) (r : Rect) → IsAlong rects hull x old → cell.x ≡ x → cell.y ≡ old.top → old.top <ℤ hull.y2 → IsFound rects cell r → IsRaisedBy hull old r new
-    → IsAlong rects hull x new
+pub raised_along : (rects : List Rect) (hull : Rect) (x : ℤ) (old new : Strip) (cell : Point) (r : Rect) → IsStripThrough rects hull x old → cell.x ≡ x → cell.y ≡ old.top → old.top <ℤ hull.y2 → IsFound rects cell r → IsRaisedBy hull old r new
+    → IsStripThrough rects hull x new
 raised_along rects hull x old new cell r a at_x at_y more f e = record {
   left = omega (arith, ints, clamps, a.left, e.left);
   before = omega (arith, ints, clamps, a.before, e.left, f.holds.left);
@@ -40,8 +40,8 @@ raised_along rects hull x old new cell r a at_x at_y more f e = record {
 }
 
 -- and down by what covers the cell below it
-pub lowered_along : (rects : List Rect) (hull : Rect) (x : ℤ) (old new : Strip) (cell : Point) (r : Rect) → IsAlong rects hull x old → cell.x ≡ x → cell.y ≡ old.bottom -ℤ pos 1 → hull.y1 <ℤ old.bottom → IsFound rects cell r → IsLoweredBy hull old r new
-    → IsAlong rects hull x new
+pub lowered_along : (rects : List Rect) (hull : Rect) (x : ℤ) (old new : Strip) (cell : Point) (r : Rect) → IsStripThrough rects hull x old → cell.x ≡ x → cell.y ≡ old.bottom -ℤ pos 1 → hull.y1 <ℤ old.bottom → IsFound rects cell r → IsLoweredBy hull old r new
+    → IsStripThrough rects hull x new
 lowered_along rects hull x old new cell r a at_x at_y more f e = record {
   left = omega (arith, ints, clamps, a.left, e.left);
   before = omega (arith, ints, clamps, a.before, e.left, f.holds.left);
@@ -61,7 +61,7 @@ pub lower : (hull : Rect) (old new : Strip) (cell : Point) (r : Rect) → cell.y
 lower hull old new cell r at_y more h e = omega (arith, ints, clamps, e.bottom, h.low)
 
 -- what goes up and down from the high corner has all rows that a covered box has there
-pub strip_found : (rects : List Rect) (f : Frame) (hull : Rect) (x : ℤ) (cell : Point) (up s : Strip) → HaveCell f → IsFrameHull f hull → cell.x ≡ x → cell.y ≡ f.high.y → IsUpward rects hull cell up → IsDownward rects hull x up s → IsStripAt rects f x s
+pub strip_found : (rects : List Rect) (f : Frame) (hull : Rect) (x : ℤ) (cell : Point) (up s : Strip) → HaveCell f → IsFrameHull f hull → cell.x ≡ x → cell.y ≡ f.high.y → IsUpwardStrip rects hull cell up → IsDownward rects hull x up s → IsStripAt rects f x s
 strip_found rects f hull x cell up s have is on at u d = record {
   left = omega (arith, ints, is.left, d.along.left);
   before = d.along.before;
@@ -83,8 +83,8 @@ strip_found rects f hull x cell up s have is on at u d = record {
   );
 }
 
-pub along_at : (rects : List Rect) (hull : Rect) (x z : ℤ) (s : Strip) → x ≡ z → IsAlong rects hull x s → IsAlong rects hull z s
-along_at rects hull x z s e a = subst (λ (at : ℤ). IsAlong rects hull at s) e a
+pub along_at : (rects : List Rect) (hull : Rect) (x z : ℤ) (s : Strip) → x ≡ z → IsStripThrough rects hull x s → IsStripThrough rects hull z s
+along_at rects hull x z s e a = subst (λ (at : ℤ). IsStripThrough rects hull at s) e a
 
 pub down_at : (rects : List Rect) (hull : Rect) (x z : ℤ) (old new : Strip) → x ≡ z → IsDownward rects hull x old new → IsDownward rects hull z old new
 down_at rects hull x z old new e d = subst (λ (at : ℤ). IsDownward rects hull at old new) e d

@@ -11,7 +11,7 @@ use Rattle.or_geom.specs.Distance.{IsNear, IsReachable}
 use Rattle.or_geom.specs.Reachable.{AreReachable}
 use Rattle.or_geom.specs.Containing.{IsAround}
 use Rattle.or_geom.proofs.ListLaws.{below_or, contains_none, contains_cases, contains_first, contains_later, contained_at}
-use Rattle.tile_checker.specs.Tiles.{AreApart, HasCorners, IsTiling, AreCellRows, IsRowAdded}
+use Rattle.tile_checker.specs.Tiles.{AreDisjoint, HasCorners, IsTiling, AreCellRows, IsRowAdded}
 use Rattle.tile_checker.proofs.PlaceLaws.{place_of, reachable_in}
 
 -- one tile more
@@ -30,7 +30,7 @@ in_some_last : (tiles : List Rect) (t : Rect) (x y : ℤ) → HasCell t x y → 
 in_some_last [] t x y h = inl h
 in_some_last (s ∷ ss) t x y h = inr (in_some_last ss t x y h)
 
-apart_more : (tiles : List Rect) (t : Rect) → AreApart tiles → ((x y : ℤ) → HasCellInSome tiles x y → HasCell t x y → ⊥) → AreApart (tiles ++ t ∷ [])
+apart_more : (tiles : List Rect) (t : Rect) → AreDisjoint tiles → ((x y : ℤ) → HasCellInSome tiles x y → HasCell t x y → ⊥) → AreDisjoint (tiles ++ t ∷ [])
 apart_more [] t apart none = (λ x y h n. n, tt)
 apart_more (s ∷ ss) t apart none = (
   λ x y h k. elim (in_some_cases ss t x y k) [ inl i ↦ apart.0 x y h i | inr n ↦ none x y (inl h) n ],
@@ -50,7 +50,7 @@ pub record IsRowTo (area : Rect) (low high left : ℤ) (old now : List Rect) : T
   pub kept : (x y : ℤ) → HasCellInSome old x y → HasCellInSome now x y
   pub covered : (x y : ℤ) → area.x1 ≤ℤ x → x <ℤ left → low ≤ℤ y → y <ℤ high → HasCellInSome now x y
   pub only : (x y : ℤ) → HasCellInSome now x y → HasCellInSome old x y ⊎ ((x <ℤ left) × (y <ℤ high))
-  pub apart : ((x y : ℤ) → HasCellInSome old x y → y <ℤ low) → AreApart old → AreApart now
+  pub apart : ((x y : ℤ) → HasCellInSome old x y → y <ℤ low) → AreDisjoint old → AreDisjoint now
   pub reach : ((t : Rect) → Contains old t → IsReachable t) → (t : Rect) → Contains now t → IsReachable t
 
 pub row_begins : (area : Rect) (low high : ℤ) (old : List Rect) → IsRowTo area low high area.x1 old old
@@ -121,7 +121,7 @@ pub record AreRowsTo (area : Rect) (low : ℤ) (tiles : List Rect) : Type 0 wher
   pub to : low ≤ℤ area.y2
   pub covered : (x y : ℤ) → HasCell area x y → y <ℤ low → HasCellInSome tiles x y
   pub below : (x y : ℤ) → HasCellInSome tiles x y → y <ℤ low
-  pub apart : AreApart tiles
+  pub apart : AreDisjoint tiles
   pub reach : (t : Rect) → Contains tiles t → IsReachable t
 
 pub rows_begin : (area : Rect) → AreRowsTo area area.y1 []

@@ -11,7 +11,7 @@ use Rattle.or_geom.specs.Containing.{HoldsRect}
 use Rattle.tile_checker.specs.declared.violation.Violation.{Violation}
 use Rattle.tile_checker.specs.declared.space.SpaceRule.{SpaceRule}
 use Rattle.tile_checker.specs.Breaks.{AreNear}
-use Rattle.tile_checker.specs.Found.{AreOn, IsViolationOf}
+use Rattle.tile_checker.specs.Found.{AreOnLayersOf, IsViolationOf}
 use Rattle.tile_checker.specs.declared.first.First.{First}
 
 -- the shape stands at its place
@@ -35,7 +35,7 @@ HasNoPartner rule layer = (partner : ℕ) → IsPartner rule layer partner → p
 pub record IsPartnerAt (rule : SpaceRule) (shapes : List Shape) (a : Shape) (place : ℕ) : Type 0 where
   pub shape : Shape
   pub there : slice_get shapes place ≡ Some shape
-  pub on : AreOn rule a shape
+  pub on : AreOnLayersOf rule a shape
 
 abbrev pub ArePartners : SpaceRule → List Shape → Shape → List ℕ → Type 0
 ArePartners rule shapes a places = (place : ℕ) → Contains places place → IsPartnerAt rule shapes a place

@@ -18,12 +18,12 @@ pub record IsGapCoveredIn (rects : List Rect) (a b : Shape) : Type 0 where
   pub covered : IsCovered gap rects
 
 -- one of the shapes lies on each of the rule's layers
-abbrev pub AreOn : SpaceRule → Shape → Shape → Type 0
-AreOn rule a b = ((a.layer ≡ rule.layer) × (b.layer ≡ rule.other)) ⊎ ((a.layer ≡ rule.other) × (b.layer ≡ rule.layer))
+abbrev pub AreOnLayersOf : SpaceRule → Shape → Shape → Type 0
+AreOnLayersOf rule a b = ((a.layer ≡ rule.layer) × (b.layer ≡ rule.other)) ⊎ ((a.layer ≡ rule.other) × (b.layer ≡ rule.layer))
 
 -- two shapes break a space rule, where the rectangles are those of its first layer
 pub record IsSpaceFound (rule : SpaceRule) (rects : List Rect) (a b : Shape) : Type 0 where
-  pub on : AreOn rule a b
+  pub on : AreOnLayersOf rule a b
   pub near : AreNear rule.min.value a.rect b.rect
   pub bare : IsGapCoveredIn rects a b → ⊥
 

@@ -48,7 +48,7 @@ abbrev pub IsClear : List Rect → Strip → Type 0
 IsClear rects s = (i j : ℤ) → s.left ≤ℤ i → i <ℤ s.right → s.bottom ≤ℤ j → j <ℤ s.top → HasCellInSome rects i j
 
 -- the strip lies in the hull, holds the column, and is covered
-pub record IsAlong (rects : List Rect) (hull : Rect) (x : ℤ) (s : Strip) : Type 0 where
+pub record IsStripThrough (rects : List Rect) (hull : Rect) (x : ℤ) (s : Strip) : Type 0 where
   pub left : hull.x1 ≤ℤ s.left
   pub before : s.left ≤ℤ x
   pub after : x <ℤ s.right
@@ -59,14 +59,14 @@ pub record IsAlong (rects : List Rect) (hull : Rect) (x : ℤ) (s : Strip) : Typ
   pub clear : IsClear rects s
 
 -- and goes up from the cell as far as the cell's column is covered
-pub record IsUpward (rects : List Rect) (hull : Rect) (cell : Point) (s : Strip) : Type 0 where
-  pub along : IsAlong rects hull cell.x s
+pub record IsUpwardStrip (rects : List Rect) (hull : Rect) (cell : Point) (s : Strip) : Type 0 where
+  pub along : IsStripThrough rects hull cell.x s
   pub from : s.bottom ≡ cell.y
   pub ends : s.top <ℤ hull.y2 → HasCellInSome rects cell.x s.top → ⊥
 
 -- and goes as far down, and no less up, than the one before
 pub record IsDownward (rects : List Rect) (hull : Rect) (x : ℤ) (old new : Strip) : Type 0 where
-  pub along : IsAlong rects hull x new
+  pub along : IsStripThrough rects hull x new
   pub top : new.top ≡ old.top
   pub lower : new.bottom ≤ℤ old.bottom
   pub ends : hull.y1 <ℤ new.bottom → HasCellInSome rects x (new.bottom -ℤ pos 1) → ⊥
@@ -104,14 +104,14 @@ pub record IsLink (rects : List Rect) (f : Frame) (from : ℤ) (s : Strip) : Typ
   pub each : (to : ℤ) → s.left <ℤ to → to ≤ℤ s.right → IsWindow rects f f.high.x to s.bottom s.top
 
 -- such strips, one after another
-abbrev pub IsChain : List Rect → Frame → ℤ → List Strip → ℤ → Type 0
-IsChain rects f from [] to = from ≡ to
-IsChain rects f from (s ∷ ss) to = IsLink rects f from s × IsChain rects f s.right ss to
+abbrev pub AreStripsUpTo : List Rect → Frame → ℤ → List Strip → ℤ → Type 0
+AreStripsUpTo rects f from [] to = from ≡ to
+AreStripsUpTo rects f from (s ∷ ss) to = IsLink rects f from s × AreStripsUpTo rects f s.right ss to
 
 -- strips to the right of the frame's high corner: up to some column, behind which no box of the frame is covered that ends before the limit
 pub record AreRights (rects : List Rect) (f : Frame) (strips : List Strip) (limit : ℤ) : Type 0 where
   pub reach : ℤ
-  pub chain : IsChain rects f f.high.x strips reach
+  pub chain : AreStripsUpTo rects f f.high.x strips reach
   pub ends : (to y : ℤ) → reach <ℤ to → to ≤ℤ limit → f.low.y ≤ℤ y → y ≤ℤ f.high.y → CoversColumns rects f f.high.x to y → ⊥
 
 -- the last strip begins before this column

@@ -34,9 +34,9 @@ abbrev pub Owns : Rect → Rule → Shape → Option Shape → Type 0
 Owns tile rule a b = HasCell tile (corner (minimum rule) a b).x (corner (minimum rule) a b).y
 
 -- a unit cell lies in no two of the rectangles
-abbrev pub AreApart : List Rect → Type 0
-AreApart [] = Unit {0}
-AreApart (t ∷ ts) = ((x y : ℤ) → HasCell t x y → HasCellInSome ts x y → ⊥) × AreApart ts
+abbrev pub AreDisjoint : List Rect → Type 0
+AreDisjoint [] = Unit {0}
+AreDisjoint (t ∷ ts) = ((x y : ℤ) → HasCell t x y → HasCellInSome ts x y → ⊥) × AreDisjoint ts
 
 -- the area has the unit cells at the shapes' lower left corners
 abbrev pub HasCorners : Rect → List Shape → Type 0
@@ -45,7 +45,7 @@ HasCorners area shapes = (s : Shape) → Contains shapes s → HasCell area s.re
 -- rectangles that cover the area and are apart
 pub record IsTiling (area : Rect) (tiles : List Rect) : Type 0 where
   pub covered : IsCovered area tiles
-  pub apart : AreApart tiles
+  pub apart : AreDisjoint tiles
   pub reach : (t : Rect) → Contains tiles t → IsReachable t
 
 -- tiles over an area with the shapes' lower left corners
@@ -55,7 +55,7 @@ pub record AreTiles (shapes : List Shape) (tiles : List Rect) : Type 0 where
   pub tiling : IsTiling area tiles
 
 -- what a tile's side may be
-pub record IsSide (side : ℤ) : Type 0 where
+pub record IsTileSide (side : ℤ) : Type 0 where
   pub positive : pos 1 ≤ℤ side
   pub bounded : side ≤ℤ pos (2 ^ 41)
 
@@ -70,7 +70,7 @@ pub record IsRowAdded (area : Rect) (low high : ℤ) (old new : List Rect) : Typ
   pub kept : (x y : ℤ) → HasCellInSome old x y → HasCellInSome new x y
   pub covered : (x y : ℤ) → HasCell area x y → low ≤ℤ y → y <ℤ high → HasCellInSome new x y
   pub only : (x y : ℤ) → HasCellInSome new x y → HasCellInSome old x y ⊎ (y <ℤ high)
-  pub apart : ((x y : ℤ) → HasCellInSome old x y → y <ℤ low) → AreApart old → AreApart new
+  pub apart : ((x y : ℤ) → HasCellInSome old x y → y <ℤ low) → AreDisjoint old → AreDisjoint new
   pub reach : ((t : Rect) → Contains old t → IsReachable t) → (t : Rect) → Contains new t → IsReachable t
 
 -- a violation of the rule of this number that the tile owns
@@ -94,7 +94,7 @@ pub record IsFromPlace (number : ℕ) (rule : Rule) (shapes : List Shape) (tile 
   pub is : IsViolationIn number rule shapes tile v
 
 -- the place of a shape stands in the list
-pub record IsListed (shapes : List Shape) (places : List ℕ) (a : Shape) : Type 0 where
+pub record IsShapeListed (shapes : List Shape) (places : List ℕ) (a : Shape) : Type 0 where
   pub place : ℕ
   pub among : Contains places place
   pub there : slice_get shapes place ≡ Some a
@@ -102,7 +102,7 @@ pub record IsListed (shapes : List Shape) (places : List ℕ) (a : Shape) : Type
 -- The first shapes of all that breaks the rule and the tile owns stand at some of the places. Of two shapes the first is the one that comes before the other.
 pub record AreFirstPlaces (rule : Rule) (shapes : List Shape) (tile : Rect) (places : List ℕ) : Type 0 where
   pub inside : ArePlaces shapes places
-  pub each : (a : Shape) (b : Option Shape) → Contains shapes a → IsLater shapes a b → Breaks rule shapes a b → Owns tile rule a b → IsListed shapes places a
+  pub each : (a : Shape) (b : Option Shape) → Contains shapes a → IsLater shapes a b → Breaks rule shapes a b → Owns tile rule a b → IsShapeListed shapes places a
 
 -- what meets the rectangle so that the lower left corner of what both share lies in the tile meets the part as well
 abbrev pub IsPartIn : Rect → Rect → Rect → Type 0

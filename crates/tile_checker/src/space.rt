@@ -7,7 +7,7 @@ ghost use Rattle.or_geom.specs.Reachable.{AreReachable};
 ghost use Rattle.or_geom.specs.ShapeOrder.{shape_order};
 ghost use Rattle.shape_bins.specs.Layers.{rects_on};
 ghost use Rattle.tile_checker.specs.Breaks.{AreNear};
-ghost use Rattle.tile_checker.specs.Found.{AreOn, IsSpaceFound};
+ghost use Rattle.tile_checker.specs.Found.{AreOnLayersOf, IsSpaceFound};
 ghost use Rattle.tech_rules.specs.declared.tech.Rule.TheVariants as kind;
 ghost use Rattle.std.specs.Int.{int_max, int_min};
 ghost use Rattle.tile_checker.specs.Firsts.{IsAt, IsPartner, HasNoPartner, ArePartners, IsClearAround, ArePartnersIn};
@@ -59,7 +59,7 @@ fn partner_of(rule: SpaceRule, layer: u16) -> Option<u16>
 /// Whether two shapes of the rule's layers break it. Two shapes of one layer don't where that layer covers the gap
 /// between them.
 fn breaks_space(bins: &Bins, rule: SpaceRule, a: Shape, b: Shape) -> bool
-    requires on { AreOn rule a b }
+    requires on { AreOnLayersOf rule a b }
     requires first { IsReachable a.rect }
     requires second { IsReachable b.rect }
     ensures { IsTrue result ↔ IsSpaceFound rule (rects_on rule.layer bins.now) a b }

@@ -1,8 +1,8 @@
 ghost use Rattle.std.specs.Prelude.{◌≤ℤ◌, ◌<ℤ◌, ◌+ℤ◌};
 ghost use Rattle.or_geom.specs.Covered.{HasCell};
 ghost use Rattle.shape_bins.specs.Layers.{rects_on};
-ghost use Rattle.tile_checker.specs.Strips.{IsFrameHull, HaveCell, IsRaisedBy, IsLoweredBy, HasCommonRows, IsAlong};
-ghost use Rattle.tile_checker.specs.Strips.{IsUpward, IsDownward, IsStripAt};
+ghost use Rattle.tile_checker.specs.Strips.{IsFrameHull, HaveCell, IsRaisedBy, IsLoweredBy, HasCommonRows, IsStripThrough};
+ghost use Rattle.tile_checker.specs.Strips.{IsUpwardStrip, IsDownward, IsStripAt};
 
 use crate::frame::Frame;
 use or_geom::{Point, Rect};
@@ -57,7 +57,7 @@ pub fn within(a: Strip, b: Strip) -> Strip
 /// shapes cover.
 fn upward(bins: &Bins, layer: u16, hull: Rect, cell: Point) -> Strip
     requires { HasCell hull cell.x cell.y }
-    ensures { IsUpward (rects_on layer bins.now) hull cell result }
+    ensures { IsUpwardStrip (rects_on layer bins.now) hull cell result }
 {
     let mut strip = Strip {
         left: hull.x1,
@@ -80,7 +80,7 @@ fn upward(bins: &Bins, layer: u16, hull: Rect, cell: Point) -> Strip
 
 /// The strip, continued down as far as the column is covered.
 fn downward(bins: &Bins, layer: u16, hull: Rect, x: i64, above: Strip) -> Strip
-    requires { IsAlong (rects_on layer bins.now) hull x above }
+    requires { IsStripThrough (rects_on layer bins.now) hull x above }
     ensures { IsDownward (rects_on layer bins.now) hull x above result }
 {
     let mut strip = above;

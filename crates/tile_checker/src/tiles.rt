@@ -1,7 +1,7 @@
 ghost use Rattle.std.specs.Prelude.{◌<ℤ◌, ◌≤ℤ◌, IfOk, OnOk};
 ghost use Rattle.or_geom.specs.Distance.{IsNear, IsReachable};
 ghost use Rattle.or_geom.specs.Reachable.{AreReachable};
-ghost use Rattle.tile_checker.specs.Tiles.{IsSide, AreTiles, AreCellRows, IsRowAdded, IsTiling};
+ghost use Rattle.tile_checker.specs.Tiles.{IsTileSide, AreTiles, AreCellRows, IsRowAdded, IsTiling};
 
 use crate::extent::extent;
 use or_geom::{Memory, Rect, Shape};
@@ -31,7 +31,7 @@ fn mean_side(shapes: &[Shape]) -> u64 {
 
 /// The side of the tiles over an area that holds the shapes, in nanometres.
 fn tile_side(shapes: &[Shape], area: Rect) -> i64
-    ensures { IsSide result }
+    ensures { IsTileSide result }
 {
     let extent = area.x2.abs_diff(area.x1).max(area.y2.abs_diff(area.y1));
     let most_along = (shapes.len() as u64 / SHAPES_PER_TILE).isqrt() + 1;
@@ -43,7 +43,7 @@ fn tile_side(shapes: &[Shape], area: Rect) -> i64
 
 /// Where the next tile begins after one that begins here, or the area's end.
 fn next_line(at: i64, side: i64, end: i64) -> i64
-    requires side { IsSide side }
+    requires side { IsTileSide side }
     requires before { at <ℤ end }
     requires near { IsNear end }
     ensures later { at <ℤ result }
@@ -60,7 +60,7 @@ fn next_line(at: i64, side: i64, end: i64) -> i64
 /// `high`.
 fn add_row(area: Rect, low: i64, high: i64, side: i64, tiles: &mut Vec<Rect>) -> Result<(), Memory>
     requires reach { IsReachable area }
-    requires side { IsSide side }
+    requires side { IsTileSide side }
     requires rows { AreCellRows area low high }
     ensures { OnOk result (IsRowAdded area low high tiles.old.items tiles.new.items) }
 {
@@ -81,7 +81,7 @@ fn add_row(area: Rect, low: i64, high: i64, side: i64, tiles: &mut Vec<Rect>) ->
 /// Tiles with sides of this length, row by row; the last ones end where the area does.
 fn tiles_over(alloc: Global, area: Rect, side: i64) -> Result<Vec<Rect>, Memory>
     requires reach { IsReachable area }
-    requires side { IsSide side }
+    requires side { IsTileSide side }
     ensures { IfOk result (λ tiles. IsTiling area tiles.items) }
 {
     let mut tiles = Vec::new(alloc);

@@ -76,7 +76,7 @@ abbrev mutual
 abbrev pub IsNamedAlways : Always → Type 0
 IsNamedAlways a = IsName a.clock × IsNamedStatement a.body
 
-pub record IsNamed (m : Module) : Type 0 where
+pub record HasLegalNames (m : Module) : Type 0 where
   pub name : IsName m.name
   pub ports : AllByRecursion IsName m.ports
   pub parameters : AllByRecursion IsNamedParameter m.parameters
@@ -86,7 +86,7 @@ pub record IsNamed (m : Module) : Type 0 where
 
 -- the text spells the module: its tokens are the module's, whatever blanks stand between them
 pub record SpellsModule (m : Module) (text : List ℕ) : Type 0 where
-  pub named : IsNamed m
+  pub named : HasLegalNames m
   pub tokens : tokens_of text ≡ module_tokens m
 
 -- a text spells one module at most

@@ -26,7 +26,7 @@ use Rattle.leaf_shapes.specs.declared.fit.Fit.{Fit}
 use Rattle.leaf_shapes.specs.declared.fit.Fit.TheVariants.{Top, Bottom, TopAndBottom, Left, Right, LeftAndRight, Anywhere, LowerRail, UpperRail}
 use Rattle.leaf_shapes.specs.declared.pins.LeafPin.{LeafPin}
 use Rattle.leaf_shapes.specs.Demands.{PinDemand, draw, metal_layer, role_demands}
-use Rattle.leaf_shapes.specs.Fits.{IsAcross, IsUpward, FitsCell}
+use Rattle.leaf_shapes.specs.Fits.{IsAcross, IsWireHigh, FitsCell}
 use Rattle.leaf_tables.specs.declared.kit.Kit.{Kit}
 use Rattle.leaf_tables.specs.declared.kit.Leaf.{Leaf}
 use Rattle.leaf_tables.specs.Alignment.{height_in, width_in}
@@ -89,7 +89,7 @@ across_is Anywhere w size r on fits = absurd on
 across_is LowerRail w size r on fits = absurd on
 across_is UpperRail w size r on fits = absurd on
 
-upward_is : (fit : Fit) (w : ℤ) (size : CellSize) (r : Rect) → FitsMetal M3 fit → FitsCell fit w size r → IsUpward w r
+upward_is : (fit : Fit) (w : ℤ) (size : CellSize) (r : Rect) → FitsMetal M3 fit → FitsCell fit w size r → IsWireHigh w r
 upward_is Top w size r on fits = absurd on
 upward_is Bottom w size r on fits = absurd on
 upward_is TopAndBottom w size r on fits = absurd on

@@ -26,7 +26,7 @@ use Rattle.leaf_tables.specs.Kits.{IsKit, source_of}
 use Rattle.leaf_tables.specs.Leaves.{LeafSource, IsLeaf, cell_named_for, drawing_in, size_of}
 use Rattle.port_lists.specs.Cells.{named_cell, cell_in}
 use Rattle.floorplan.specs.LeafSides.{side_of, leaf_width, leaf_height}
-use Rattle.floorplan.specs.LayoutOfKit.{unit_square, shape_or_square, pin_shape, pin_on, port_name, layer_of_metal, shape_on}
+use Rattle.floorplan.specs.LayoutOfKit.{unit_square, shape_or_square, pin_shape, pin_on, port_name, layer_of_metal, pin_rect}
 use Rattle.view_cover.specs.Bits.{LiesWithin, LiesInCell}
 use Rattle.leaf_tables.proofs.RoleLaws.{role_there, layer_at, metal_listed, in_kit}
 use Rattle.floorplan.proofs.DemandLaws.{wire_there}
@@ -155,8 +155,8 @@ pub record IsFoundPin (kit : Kit) (is : IsKit kit) (role : Role) (metal : ℕ) (
 
 pub found_pin : (kit : Kit) (is : IsKit kit) (role : Role) (port metal : ℕ) (r : Rect) → pin_shape kit role port metal ≡ Some r → IsFoundPin kit is role metal r
 found_pin kit is role port metal r e =
-    let named = then_some (λ (name : List ℕ). option_and_then (shape_on (leaf_in kit.leaves role) name) (layer_of_metal kit.tech.wire metal)) (port_name role port) r e in
-    let layered = then_some (shape_on (leaf_in kit.leaves role) named.0) (layer_of_metal kit.tech.wire metal) r named.2 in
+    let named = then_some (λ (name : List ℕ). option_and_then (pin_rect (leaf_in kit.leaves role) name) (layer_of_metal kit.tech.wire metal)) (port_name role port) r e in
+    let layered = then_some (pin_rect (leaf_in kit.leaves role) named.0) (layer_of_metal kit.tech.wire metal) r named.2 in
     let leafed = then_some (λ (l : Leaf). option_map (λ (p : LeafPin). p.rect) (pin_on l.pins named.0 layered.0)) (leaf_in kit.leaves role) r layered.2 in
     let pinned = map_some (λ (p : LeafPin). p.rect) (pin_on leafed.0.pins named.0 layered.0) r leafed.2 in
     let found = found_at (λ (p : LeafPin). if bytes_eq p.pin named.0 then p.layer == layered.0 else false) leafed.0.pins pinned.0 pinned.1 in

@@ -4,7 +4,7 @@ use Rattle.std.specs.Prelude.{reverse, int_le}
 use Rattle.std.proofs.lemmas.List.{reverse-append}
 use Rattle.or_geom.specs.declared.shape.Point.{Point}
 use Rattle.or_geom.specs.declared.shape.Rect.{Rect}
-use Rattle.rectilinear.specs.declared.ring.Side.{Side}
+use Rattle.rectilinear.specs.declared.ring.RingSide.{RingSide}
 use Rattle.rectilinear.specs.Ring.{sides_of}
 use Rattle.rectilinear.specs.Simple.{IsStraight, AllStraight}
 use Rattle.rectilinear.specs.Slabs.{xor, is_below, passes, is_left_of, is_odd_left, HasHeight, IsSlab, IsSlabList}
@@ -35,7 +35,7 @@ xor_both : (a : Bool) → xor a a ≡ false
 xor_both true = refl
 xor_both false = refl
 
-odd_more : (ss : List Side) (s : Side) (x y : ℤ)
+odd_more : (ss : List RingSide) (s : RingSide) (x y : ℤ)
     → is_odd_left (ss ++ s ∷ []) x y ≡ xor (is_left_of s x y) (is_odd_left ss x y)
 odd_more [] s x y = refl
 odd_more (t ∷ ts) s x y =
@@ -44,12 +44,12 @@ odd_more (t ∷ ts) s x y =
     ∙ ap (λ (b : Bool). xor b (is_odd_left ts x y)) (xor_swap (is_left_of t x y) (is_left_of s x y))
     ∙ sym (xor_group (is_left_of s x y) (is_left_of t x y) (is_odd_left ts x y))
 
-odd_shifted : (ss : List Side) (x y : ℤ) → is_odd_left (shifted ss) x y ≡ is_odd_left ss x y
+odd_shifted : (ss : List RingSide) (x y : ℤ) → is_odd_left (shifted ss) x y ≡ is_odd_left ss x y
 odd_shifted [] x y = refl
 odd_shifted (s ∷ ss) x y = odd_more ss s x y
 
 -- a straight side passes the same cells from its end to its beginning
-left_flipped : (s : Side) (x y : ℤ) → IsStraight s → is_left_of (flipped s) x y ≡ is_left_of s x y
+left_flipped : (s : RingSide) (x y : ℤ) → IsStraight s → is_left_of (flipped s) x y ≡ is_left_of s x y
 left_flipped s x y (inl h) =
     λ i. xor_swap (is_below s.b y) (is_below s.a y) i && int_le (sym h.0 i) x
 left_flipped s x y (inr h) =
@@ -60,10 +60,10 @@ left_flipped s x y (inr h) =
 reverse_more : {X : Type 0} (x : X) (xs : List X) → reverse (x ∷ xs) ≡ reverse xs ++ x ∷ []
 reverse_more x xs = reverse-append (x ∷ []) xs
 
-odd_back : (ss : List Side) (x y : ℤ) → AllStraight ss → is_odd_left (reverse (map flipped ss)) x y ≡ is_odd_left ss x y
+odd_back : (ss : List RingSide) (x y : ℤ) → AllStraight ss → is_odd_left (reverse (map flipped ss)) x y ≡ is_odd_left ss x y
 odd_back [] x y h = refl
 odd_back (s ∷ ss) x y h =
-    ap (λ (l : List Side). is_odd_left l x y) (reverse_more (flipped s) (map flipped ss))
+    ap (λ (l : List RingSide). is_odd_left l x y) (reverse_more (flipped s) (map flipped ss))
     ∙ odd_more (reverse (map flipped ss)) (flipped s) x y
     ∙ (λ i. xor (left_flipped s x y h.0 i) (odd_back ss x y h.1 i))
 
@@ -112,7 +112,7 @@ same_shifted : (ps : List Point) → SameInside (shifted ps) ps
 same_shifted [] = record { heights = λ h. (λ has. has, λ has. has); odd = λ x y. refl }
 same_shifted (p ∷ ps) = record {
   heights = λ h. height_more ps p h;
-  odd = λ x y. ap (λ (l : List Side). is_odd_left l x y) (sides_shifted (p ∷ ps)) ∙ odd_shifted (sides_of (p ∷ ps)) x y;
+  odd = λ x y. ap (λ (l : List RingSide). is_odd_left l x y) (sides_shifted (p ∷ ps)) ∙ odd_shifted (sides_of (p ∷ ps)) x y;
 }
 
 other_heights : (ps : List Point) (h : ℤ) → HasHeight (other_way ps) h ↔ HasHeight ps h
@@ -126,7 +126,7 @@ other_heights (p ∷ ps) h =
 same_other_way : (ps : List Point) → AllStraight (sides_of ps) → SameInside (other_way ps) ps
 same_other_way ps straight = record {
   heights = λ h. other_heights ps h;
-  odd = λ x y. ap (λ (l : List Side). is_odd_left l x y) (sides_other_way ps) ∙ odd_back (sides_of ps) x y straight;
+  odd = λ x y. ap (λ (l : List RingSide). is_odd_left l x y) (sides_other_way ps) ∙ odd_back (sides_of ps) x y straight;
 }
 
 same_ring : (corners : List Point) → SameInside corners corners

@@ -1,7 +1,7 @@
 use Rattle.std.proofs.Common.{◌≡◌, List, subst}
 use Rattle.std.proofs.lemmas.List.{take_all}
 use Rattle.std.proofs.lemmas.Option.{slice_get-get_or}
-use Rattle.drawn_devices.specs.declared.drawn.Channel.{Channel}
+use Rattle.drawn_devices.specs.declared.drawn.DeviceChannel.{DeviceChannel}
 use Rattle.device_lvs.specs.ChannelEntries.{AreEntries}
 use Rattle.device_lvs.specs.Lookup.{table_names}
 use Rattle.device_lvs.proofs.EntryLaws.{contained_channel, entries_more, first_nameless, none_nameless}
@@ -28,5 +28,5 @@ pub returns : goal.returns
 returns c =
     let names = table_names c.args.table.now in
     let are : AreEntries c.args.devices.now names c.args.channels.now c.loop-place.entries =
-    subst (λ (l : List Channel). AreEntries c.args.devices.now names l c.loop-place.entries) (take_all c.loop-place.place c.args.channels.now c.loop-place-test.false) c.loop-place.invariant in
+    subst (λ (l : List DeviceChannel). AreEntries c.args.devices.now names l c.loop-place.entries) (take_all c.loop-place.place c.args.channels.now c.loop-place-test.false) c.loop-place.invariant in
     (none_nameless c.args.devices.now names c.args.channels.now c.loop-place.entries are, rw c.into_vec.ensures are)

@@ -2,7 +2,7 @@ use Rattle.std.proofs.Common.{◌≡◌, ℕ, ℤ, map, subst, to_z, of_z, w64, 
 use Rattle.std.specs.Prelude.{MatchOption}
 use Rattle.std.proofs.lemmas.Int.{ints}
 use Rattle.cell_hierarchy.specs.Plain.{plain_label}
-use Rattle.leaf_shapes.specs.declared.candidate.Wanted.TheVariants.{Fitting}
+use Rattle.leaf_shapes.specs.declared.candidate.WantedShape.TheVariants.{Fitting}
 use Rattle.leaf_shapes.specs.Candidates.{NoCandidate, IsFirstCandidate}
 use Rattle.leaf_shapes.specs.Wanted.{IsWanted}
 use Rattle.leaf_shapes.proofs.pins.demanded_shape.Goals as goal

@@ -1,7 +1,7 @@
 use Rattle.std.proofs.Common.{ℕ, map, refl, subst}
 use Rattle.std.specs.Prelude.{IsTrue, ◌↔◌}
 use Rattle.cell_hierarchy.specs.Plain.{plain_label}
-use Rattle.leaf_shapes.specs.declared.candidate.Wanted.TheVariants.{OnLayer}
+use Rattle.leaf_shapes.specs.declared.candidate.WantedShape.TheVariants.{OnLayer}
 use Rattle.leaf_shapes.specs.Candidates.{HasCandidate}
 use Rattle.leaf_shapes.specs.Demands.{metal_layer}
 use Rattle.leaf_shapes.specs.Wanted.{IsWanted}

@@ -5,7 +5,7 @@ use Rattle.command_steps.specs.File.{IsTechnologyFile}
 use Rattle.openram_cli.specs.Inputs.{IsLibraryFile, IsLayoutWith}
 use Rattle.command_steps.specs.Outcome.{WithoutRefusal}
 use Rattle.command_steps.proofs.OutcomeLaws.{read_on, read_ends}
-use Rattle.openram_cli.specs.declared.inputs.Layout.{Layout}
+use Rattle.openram_cli.specs.declared.inputs.LayoutInput.{LayoutInput}
 use Rattle.openram_cli.proofs.inputs.read_layout.Goals as goal
 
 pub returns-in_err-lib-clause-read : goal.returns-in_err-lib-clause-read
@@ -19,7 +19,7 @@ returns-in_err-lib-clause-read g c =
     let now = g.S.Store.state c.read_library.new.store in
     rw (p.1, p.2) (
     read_on (λ files. IsTechnologyFile files words.tech) (λ files. IsLayoutWith files words) tech (Err refusal) before mid now c.in_ok-tech.ensures.read
-    (read_ends (λ files. IsLibraryFile files words.gds) (λ files lib. WithoutRefusal (λ (layout : Layout). layout ≡ record { tech = tech; lib = lib; top = words.top })) refusal mid now c.in_err-lib.ensures.read)
+    (read_ends (λ files. IsLibraryFile files words.gds) (λ files lib. WithoutRefusal (λ (layout : LayoutInput). layout ≡ record { tech = tech; lib = lib; top = words.top })) refusal mid now c.in_err-lib.ensures.read)
     )
 
 pub returns-in_err-tech-clause-read : goal.returns-in_err-tech-clause-read

@@ -2,7 +2,7 @@ use Rattle.std.proofs.Common.{arith, sym, subst, List, ◌≤ℤ◌, ◌<ℤ◌,
 use Rattle.std.proofs.lemmas.Int.{ints, by_lt_z}
 use Rattle.shape_bins.specs.Layers.{rects_on}
 use Rattle.tile_checker.specs.declared.strip.Strip.{Strip}
-use Rattle.tile_checker.specs.Strips.{IsChain, IsLink}
+use Rattle.tile_checker.specs.Strips.{AreStripsUpTo, IsLink}
 use Rattle.tile_checker.proofs.StripLaws.{window_begins, rises_less}
 use Rattle.tile_checker.proofs.SideLaws.{chain_begins, chain_push, strip_moved, rights_full, rights_end, link_of, within_low}
 use Rattle.tile_checker.proofs.sides.right_strips.Goals as goal
@@ -47,7 +47,7 @@ loop-window-preserved c =
     let longer = link.longer in
     let after = c.loop-window.invariant.after in
     record {
-      chain = subst (λ (ss : List Strip). IsChain rects c.args.frame c.args.frame.high.x ss next.right) (sym c.in_ok-push.ensures.items)
+      chain = subst (λ (ss : List Strip). AreStripsUpTo rects c.args.frame c.args.frame.high.x ss next.right) (sym c.in_ok-push.ensures.items)
           (chain_push rects c.args.frame c.args.frame.high.x c.loop-window.window.right c.loop-window.strips.items next c.loop-window.invariant.chain link);
       after = omega (arith, ints, longer, after);
       window = link.each next.right longer (omega (arith, ints));

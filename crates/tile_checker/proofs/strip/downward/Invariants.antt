@@ -1,12 +1,12 @@
 use Rattle.std.proofs.Common.{◌≡◌, ◌-ℤ◌, ◌≤ℤ◌}
 use Rattle.std.specs.Prelude.{unsigned_abs}
 use Rattle.shape_bins.specs.Layers.{rects_on}
-use Rattle.tile_checker.specs.Strips.{IsAlong}
+use Rattle.tile_checker.specs.Strips.{IsStripThrough}
 use Rattle.tile_checker.proofs.strip.downward.Given as goal
 
 abbrev pub invariant-loop-strip : goal.invariant-loop-strip
 invariant-loop-strip l = record {
-  along : IsAlong (rects_on l.layer l.bins) l.fn.hull l.fn.x l.strip;
+  along : IsStripThrough (rects_on l.layer l.bins) l.fn.hull l.fn.x l.strip;
   top : l.strip.top ≡ l.fn.above.top;
   lower : l.strip.bottom ≤ℤ l.fn.above.bottom;
 }
