@@ -4,7 +4,7 @@ use Rattle.std.specs.Fmt.{decimal}
 use Rattle.std.specs.Str.{bytes_eq}
 use Rattle.command_steps.specs.Workers.{is_workers}
 use Rattle.build_command.specs.declared.words.BuildKind.{BuildKind}
-use Rattle.build_command.specs.declared.words.BuildKind.TheVariants as asked
+use Rattle.build_command.specs.declared.words.BuildKind.TheVariants as kind
 use Rattle.build_command.specs.declared.words.Making as declared
 
 -- the memory of the configuration in the file of this name; the demonstration with this number; or the read-only memory of a
@@ -46,9 +46,9 @@ AreNoMaking words = (m : Making) → ¬ IsMakingForm words m
 
 -- what is built, over plain data
 abbrev pub told_kind : BuildKind → Making
-told_kind (asked.Build config) = build config.now
-told_kind (asked.Demo number) = demo number
-told_kind (asked.Rom files) = rom files.config.now files.content.now
+told_kind (kind.Build config) = build config.now
+told_kind (kind.Demo number) = demo number
+told_kind (kind.Rom files) = rom files.config.now files.content.now
 
 -- how many workers may do it is no part of what is asked
 abbrev pub told_making : declared.Making → Making

@@ -8,6 +8,6 @@ use Rattle.main_channel.specs.declared.names.NetNumbers.{NetNumbers}
 abbrev pub found_number : NetNumbers → List ℕ → Option ℕ
 found_number p name = get_by (λ key. pointwise nat_eq name key.now) p.numbers
 
--- all numbers that are found_number are of so many nets
+-- all numbers that are found are of so many nets
 abbrev pub IsNetNumbering : ℕ → (List ℕ → Option ℕ) → Type 0
 IsNetNumbering nets look = (name : List ℕ) (net : ℕ) → look name ≡ Some net → net < nets

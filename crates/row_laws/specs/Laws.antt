@@ -29,7 +29,7 @@ abbrev pub InstancesFlatten : Type 0
 InstancesFlatten = (subckts : List ResolvedSubckt) (above : List ℕ) (see : FlatNet → List ℕ) (f : ℕ → List FlatInstance) (ps qs : List ResolvedInstance) (before after : List (List NamedPin))
     → AreGroups subckts above see (visits_by subckts f ps) before → AreGroups subckts above see (visits_by subckts f qs) after → AreGroups subckts above see (visits_by subckts f (ps ++ qs)) (before ++ after)
 
--- what counts of a deck is the same_name where some of its subcircuits are put in lower case
+-- what counts of a deck is the same where some of its subcircuits are put in lower case
 pub record AreResolvedAlike (deck deck' : List Subckt) (top : List ℕ) (leaves : List (List ℕ)) : Type 0 where
   pub subckts : resolved_subckts deck top leaves ≡ resolved_subckts deck' top leaves
   pub names : names_of deck ≡ names_of deck'
