@@ -13,7 +13,7 @@ use Rattle.rectilinear.specs.Extents.{HoldsSides}
 use Rattle.rectilinear.proofs.HullLaws.{apart_sides, pairs_parts}
 use Rattle.gds_library.specs.Values.{segments, segments_from, last_point}
 use Rattle.gds_library.proofs.TurnLaws.{Turning, AreTurning, corners_turn, nothing_dropped}
-use Rattle.gds_stream.specs.declared.side_pairs.Bounds.{Bounds}
+use Rattle.gds_stream.specs.declared.bounds.Bounds.{Bounds}
 use Rattle.gds_stream.specs.Bounds.{IsWithinBounds, AreCommonBounds, AreEmptyBounds, HoldsPoints, IsWidened}
 use Rattle.gds_stream.proofs.RotationLaws.{all_more}
 

@@ -1,9 +1,9 @@
 //! Reads and writes GDSII stream files.
 #![tactic(auto)]
 
+mod bounds;
 mod copy;
 mod limits;
-mod side_pairs;
 mod simple_ring;
 mod turning;
 mod writable;

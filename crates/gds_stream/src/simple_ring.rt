@@ -1,13 +1,13 @@
 ghost use Rattle.std.specs.Prelude.{◌≡◌, ◌∷◌, [], ◌++◌, ◌≤◌, ◌<◌, ◌↔◌, IsTrue, length};
 ghost use Rattle.rectilinear.specs.Ring.{side, sides_on};
-ghost use Rattle.rectilinear.specs.Corners.{is_up, is_down, is_right, is_left, is_run, corners_of};
+ghost use Rattle.rectilinear.specs.Corners.{is_run, corners_of};
 ghost use Rattle.rectilinear.specs.Simple.{MeetAcross, PairsMeet, AllStraight, IsSimple};
 ghost use Rattle.gds_library.specs.Values.{segments, last_point};
 ghost use Rattle.gds_library.proofs.TurnLaws.{Turning};
 
-use crate::side_pairs::{bounds_of, common, is_empty, meet_as_neighbours};
+use crate::bounds::{bounds_of, common, is_empty};
 use or_geom::Point;
-use rectilinear::{RingSide, is_straight};
+use rectilinear::{RingSide, goes_on, is_straight, meet_as_neighbours};
 
 /// Whether each segment of a run of points is parallel to an axis and longer than zero.
 pub(crate) fn are_straight(run: &[Point]) -> bool
@@ -96,49 +96,6 @@ fn last_side(first: Point, others: &[Point]) -> RingSide
         rest = after;
     }
     RingSide { a: last, b: first }
-}
-
-fn rises(side: RingSide) -> bool
-    ensures { result ≡ is_up side }
-{
-    side.a.x == side.b.x && side.a.y < side.b.y
-}
-
-fn falls(side: RingSide) -> bool
-    ensures { result ≡ is_down side }
-{
-    side.a.x == side.b.x && side.b.y < side.a.y
-}
-
-fn leads_right(side: RingSide) -> bool
-    ensures { result ≡ is_right side }
-{
-    side.a.y == side.b.y && side.a.x < side.b.x
-}
-
-fn leads_left(side: RingSide) -> bool
-    ensures { result ≡ is_left side }
-{
-    side.a.y == side.b.y && side.b.x < side.a.x
-}
-
-/// Whether the second side goes the way of the first.
-fn goes_on(s: RingSide, t: RingSide) -> bool
-    ensures { result ≡ is_run s t }
-{
-    if rises(s) {
-        return rises(t);
-    }
-    if falls(s) {
-        return falls(t);
-    }
-    if leads_right(s) {
-        return leads_right(t);
-    }
-    if leads_left(s) {
-        return leads_left(t);
-    }
-    false
 }
 
 /// Whether no side of a ring goes on as the one before it: of the side that comes back to the first corner, and those

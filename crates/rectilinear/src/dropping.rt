@@ -36,7 +36,8 @@ fn goes_left(side: RingSide) -> bool
     side.a.y == side.b.y && side.b.x < side.a.x
 }
 
-fn goes_on(s: RingSide, t: RingSide) -> bool
+/// Whether the second side goes the way of the first: up, down, right or left.
+pub fn goes_on(s: RingSide, t: RingSide) -> bool
     ensures { result ≡ is_run s t }
 {
     if goes_up(s) {

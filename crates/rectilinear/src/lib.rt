@@ -11,7 +11,7 @@ mod ring;
 mod simple;
 
 pub use cutting::slabs;
-pub use dropping::corners;
+pub use dropping::{corners, goes_on};
 pub use laws::{ring_is_closed, slabs_fill, slabs_stay_near};
 pub use ring::{RingSide, sides};
-pub use simple::{is_simple, is_straight};
+pub use simple::{is_simple, is_straight, meet_as_neighbours};

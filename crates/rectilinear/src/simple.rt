@@ -89,7 +89,8 @@ fn meet_at_most_there(s: RingSide, t: RingSide) -> bool
     false
 }
 
-fn meet_as_neighbours(s: RingSide, t: RingSide) -> bool
+/// Whether the sides meet only as neighbours, at the corner between them, or not at all.
+pub fn meet_as_neighbours(s: RingSide, t: RingSide) -> bool
     ensures { IsTrue result ↔ MeetAsNeighbours s t }
 {
     if meet_at_most_there(s, t) {

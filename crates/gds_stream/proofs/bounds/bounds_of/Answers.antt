@@ -1,5 +1,5 @@
 use Rattle.gds_stream.proofs.RunLaws.{holds_more}
-use Rattle.gds_stream.proofs.side_pairs.bounds_of.Goals as goal
+use Rattle.gds_stream.proofs.bounds.bounds_of.Goals as goal
 
 pub loop-point-preserved : goal.loop-point-preserved
 loop-point-preserved c =

@@ -1,7 +1,7 @@
 use Rattle.std.proofs.Common.{arith}
 use Rattle.std.proofs.lemmas.Int.{to_z-of_z}
 use Rattle.gds_stream.proofs.RunLaws.{widened}
-use Rattle.gds_stream.proofs.side_pairs.with_point.Goals as goal
+use Rattle.gds_stream.proofs.bounds.with_point.Goals as goal
 
 pub returns : goal.returns
 returns c =

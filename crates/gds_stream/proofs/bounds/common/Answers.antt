@@ -1,7 +1,7 @@
 use Rattle.std.proofs.Common.{arith}
 use Rattle.std.proofs.lemmas.Int.{to_z-of_z}
 use Rattle.rectilinear.proofs.SimpleLaws.{common_law}
-use Rattle.gds_stream.proofs.side_pairs.common.Goals as goal
+use Rattle.gds_stream.proofs.bounds.common.Goals as goal
 
 pub returns : goal.returns
 returns c =
