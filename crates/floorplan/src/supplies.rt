@@ -2,13 +2,12 @@ ghost use Rattle.std.specs.Prelude.{◌≡◌, ◌<◌, pos, ◌+ℤ◌, ◌<ℤ
 ghost use Rattle.or_geom.specs.Adds.{Adds};
 ghost use Rattle.tech_rules.specs.Facts.{AreSizes};
 ghost use Rattle.tech_rules.specs.Drawing.{IsBox, LeavesRoom};
-ghost use Rattle.sram_netlist.specs.Numbers.{ArePlanNumbers};
-ghost use Rattle.sram_plan.specs.PlanNumbers.{numbers_of, organization};
+ghost use Rattle.sram_plan.specs.PlanNumbers.{organization};
 ghost use Rattle.macro_layout.specs.LayoutKit.{LayoutKit};
 ghost use Rattle.macro_layout.specs.Wires.{IsPowerWire, IsGroundWire, trunk_x, ground_x};
-ghost use Rattle.floorplan.specs.Sides.{AreLeafSides, AreSidesOf};
-ghost use Rattle.floorplan.specs.FloorplanNumbers.{floorplan_of, IsNearFloorplan};
-ghost use Rattle.floorplan.specs.Trunks.{IsBehind};
+ghost use Rattle.floorplan.specs.Sides.{AreSidesOf};
+ghost use Rattle.floorplan.specs.FloorplanNumbers.{floorplan_of};
+ghost use Rattle.floorplan.specs.Trunks.{CanDrawSupply};
 
 use crate::joiners::columns_x;
 use crate::numbers::FloorplanNumbers;
@@ -47,13 +46,7 @@ pub fn add_power_wires(
     trunk: i64,
     shapes: &mut Vec<Shape>,
 ) -> Result<(), Memory>
-    requires plan { ArePlanNumbers (numbers_of plan.now) }
-    requires sides { AreLeafSides sides.now }
-    requires sizes { AreSizes wire.now }
-    requires metals { 1 < length wire.now.metals }
-    requires cuts { 0 < length wire.now.cuts }
-    requires near { IsNearFloorplan floorplan.now }
-    requires behind { IsBehind sides.now floorplan.now trunk }
+    requires { CanDrawSupply plan.now sides.now wire.now floorplan.now trunk }
     ensures { OnOk result ((kit : LayoutKit) → AreSidesOf (organization plan.now) kit sides.now
         → trunk ≡ trunk_x (organization plan.now) kit wire.now (floorplan_of floorplan.now)
         → Adds shapes.old.items shapes.new.items
@@ -106,13 +99,7 @@ pub fn add_ground_wires(
     trunk: i64,
     shapes: &mut Vec<Shape>,
 ) -> Result<(), Memory>
-    requires plan { ArePlanNumbers (numbers_of plan.now) }
-    requires sides { AreLeafSides sides.now }
-    requires sizes { AreSizes wire.now }
-    requires metals { 1 < length wire.now.metals }
-    requires cuts { 0 < length wire.now.cuts }
-    requires near { IsNearFloorplan floorplan.now }
-    requires behind { IsBehind sides.now floorplan.now trunk }
+    requires { CanDrawSupply plan.now sides.now wire.now floorplan.now trunk }
     ensures { OnOk result ((kit : LayoutKit) → AreSidesOf (organization plan.now) kit sides.now
         → trunk ≡ ground_x (organization plan.now) kit wire.now (floorplan_of floorplan.now)
         → Adds shapes.old.items shapes.new.items

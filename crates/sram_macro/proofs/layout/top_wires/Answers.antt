@@ -11,3 +11,9 @@ pub returns : goal.returns
 returns c kit of ends s =
     begun_as _ _ s _ _ c.into_vec-shapes.ensures (both_added _ _ _ (IsPowerWire (organization c.args.plan.now) kit c.args.wire.now (floorplan_of c.args.floorplan.now)) (IsGroundWire (organization c.args.plan.now) kit c.args.wire.now (floorplan_of c.args.floorplan.now))
     (c.in_ok-add_power_wires.ensures kit of (kept _ c.requires.ends.power_x (omega arith) ∙ ends.power_x)) (c.in_ok-add_ground_wires.ensures kit of (kept _ c.requires.ends.ground_x (omega arith) ∙ ends.ground_x)) s)
+
+pub add_power_wires-requires : goal.add_power_wires-requires
+add_power_wires-requires c = record { plan = c.requires.plan; sides = c.requires.sides; sizes = c.requires.sizes; metals = c.requires.metals; cuts = c.requires.cuts; near = c.requires.near; behind = c.requires.power }
+
+pub add_ground_wires-requires : goal.add_ground_wires-requires
+add_ground_wires-requires c = record { plan = c.requires.plan; sides = c.requires.sides; sizes = c.requires.sizes; metals = c.requires.metals; cuts = c.requires.cuts; near = c.requires.near; behind = c.requires.ground }
