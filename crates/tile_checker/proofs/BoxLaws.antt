@@ -1,6 +1,6 @@
 -- When a shape has a width.
 use Rattle.std.proofs.Common.{◌≡◌, ◌≤ℤ◌, ◌+ℤ◌, ℕ, ℤ, List, Option, None, subst, sym, arith}
-use Rattle.std.specs.Prelude.{Contains}
+use Rattle.std.specs.Prelude.{Contains, IfSome}
 use Rattle.std.specs.Int.{int_max}
 use Rattle.std.proofs.lemmas.Int.{ints, clamps}
 use Rattle.or_geom.specs.declared.shape.Point.{Point}
@@ -10,7 +10,11 @@ use Rattle.or_geom.specs.Covered.{IsCovered}
 use Rattle.or_geom.proofs.CoverLaws.{cell_among}
 use Rattle.shape_bins.specs.Layers.{rects_on}
 use Rattle.or_geom.specs.Containing.{HoldsRect}
+use Rattle.tile_checker.specs.ClearArea.{IsClearArea}
+use Rattle.tile_checker.specs.Seen.{AreTrueNotes}
 use Rattle.tile_checker.specs.WideArea.{IsWideArea, IsSeen}
+use Rattle.tile_checker.specs.declared.clear.ClearArea.{ClearArea}
+use Rattle.tile_checker.specs.declared.notes.Notes.{Notes}
 use Rattle.tile_checker.specs.declared.width.WideArea.{WideArea}
 use Rattle.tile_checker.specs.Breaks.{HasWidth, IsAsWide}
 use Rattle.tile_checker.specs.Frame.{IsFrame, point, HasBoxAt}
@@ -50,8 +54,11 @@ seen_width shapes layer min r a is on wide holds = record {
 }
 
 -- nothing is seen at first
-pub nothing_seen : (shapes : List Shape) (seen : Option WideArea) → seen ≡ None → IsSeen shapes seen
-nothing_seen shapes seen none = subst (λ (a : Option WideArea). IsSeen shapes a) (sym none) tt
+pub nothing_seen : (shapes : List Shape) (notes : Notes) → notes.wide ≡ None → notes.clear ≡ None → AreTrueNotes shapes notes
+nothing_seen shapes notes wide clear = record {
+  wide = subst (λ (a : Option WideArea). IsSeen shapes a) (sym wide) tt;
+  clear = subst (λ (a : Option ClearArea). IfSome a (IsClearArea shapes)) (sym clear) tt;
+}
 
 -- a covered box of the frame is such an area
 pub area_stands : (shapes : List Shape) (f : Frame) (corner : Point) (min : ℤ) (a : WideArea) → min ≤ℤ f.width → min ≤ℤ f.height → a.least ≡ min → a.rect.x1 ≡ corner.x → a.rect.y1 ≡ corner.y → a.rect.x2 ≡ corner.x +ℤ f.width → a.rect.y2 ≡ corner.y +ℤ f.height

@@ -12,12 +12,15 @@ use Rattle.or_geom.specs.Span.{across, upward}
 use Rattle.std.specs.Prelude.{Contains}
 use Rattle.or_geom.proofs.ListLaws.{one_at, contains_none}
 use Rattle.shape_bins.specs.declared.clear.ClearBox.{ClearBox}
-use Rattle.shape_bins.specs.Clear.{AreNearer}
+use Rattle.shape_bins.specs.Clear.{AreNearer, HasClearance}
 use Rattle.shape_bins.specs.declared.query.Query.TheVariants.{MeetsOutside}
 use Rattle.shape_bins.specs.Hits.{IsHit, IsNearShape}
+use Rattle.shape_bins.specs.Layers.{IsCoveredBy}
 use Rattle.or_geom.specs.Containing.{HoldsRect}
 use Rattle.tile_checker.specs.Breaks.{AreNear, IsGapCovered}
-use Rattle.tile_checker.specs.Firsts.{IsFilledAround, IsClearAround, LieInOneBox, ArePartnersIn}
+use Rattle.tile_checker.specs.Firsts.{IsFilledAround, IsClearAround, LiesClear, LieInOneBox, ArePartnersIn}
+use Rattle.tile_checker.specs.ClearArea.{IsClearArea}
+use Rattle.tile_checker.specs.declared.clear.ClearArea.{ClearArea}
 use Rattle.tile_checker.proofs.NearLaws.{near_gaps}
 use Rattle.tile_checker.proofs.PlaceLaws.{adds_all}
 
@@ -172,4 +175,15 @@ partners_clear min shapes layer a area box places some own empty around enough =
       let on : b.layer ≡ a.layer = subst (λ (s : Shape). s.layer ≡ a.layer) e (near.on ∙ own) in
       inr (λ close not. around.clear (omega (arith, ints, some, enough)) place b at on (clear_nearer min a.rect b.rect box some close around.around.holds enough)
       (λ held. not (record { one_layer = sym on; box = box.rect; first = around.around; second = held })));
+}
+
+-- a shape of the layer lies clear in a box that holds it and whose clearance isn't less than the minimum
+pub clear_seen : (min : ℤ) (shapes : List Shape) (a : Shape) (area : ClearArea) → IsClearArea shapes area → area.layer ≡ a.layer → min ≤ℤ area.filled.clearance → HoldsRect area.filled.rect a.rect → LiesClear min shapes a
+clear_seen min shapes a area is on enough holds = record {
+  box = area.filled;
+  around = record {
+    around = record { holds = holds; covered = subst (λ (l : ℕ). IsCoveredBy l shapes area.filled.rect) on is.covered };
+    clear = subst (λ (l : ℕ). HasClearance shapes l area.filled.rect area.filled.clearance) on is.clear;
+  };
+  enough = enough;
 }

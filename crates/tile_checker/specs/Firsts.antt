@@ -1,5 +1,5 @@
 -- What is found from one first shape.
-use Rattle.std.specs.Prelude.{◌≡◌, ◌⊎◌, ℕ, ◌<◌, ℤ, List, Contains, slice_get, length, Some}
+use Rattle.std.specs.Prelude.{◌≡◌, ◌⊎◌, ℕ, ◌<◌, ℤ, ◌≤ℤ◌, List, Contains, slice_get, length, Some}
 use Rattle.or_geom.specs.declared.shape.Rect.{Rect}
 use Rattle.or_geom.specs.declared.shape.Shape.{Shape}
 use Rattle.tech_rules.specs.declared.tech.Rule.{Rule}
@@ -52,6 +52,12 @@ pub record IsFilledAround (shapes : List Shape) (a : Shape) (box : Rect) : Type 
 pub record IsClearAround (shapes : List Shape) (a : Shape) (box : ClearBox) : Type 0 where
   pub around : IsFilledAround shapes a box.rect
   pub clear : HasClearance shapes a.layer box.rect box.clearance
+
+-- the shape lies in such a box whose clearance isn't less than the minimum
+pub record LiesClear (min : ℤ) (shapes : List Shape) (a : Shape) : Type 0 where
+  pub box : ClearBox
+  pub around : IsClearAround shapes a box
+  pub enough : min ≤ℤ box.clearance
 
 -- two shapes of one layer lie in a box that the layer covers
 pub record LieInOneBox (shapes : List Shape) (a b : Shape) : Type 0 where

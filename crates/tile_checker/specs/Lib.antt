@@ -10,4 +10,6 @@ pub mod Tiles
 pub mod Strips
 pub mod Share
 pub mod WideArea
+pub mod ClearArea
+pub mod Seen
 pub mod Earliest

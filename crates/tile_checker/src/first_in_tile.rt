@@ -7,7 +7,7 @@ ghost use Rattle.tile_checker.specs.Earliest.{IsEarliestWith};
 ghost use Rattle.tile_checker.specs.Firsts.{IsAt};
 ghost use Rattle.tile_checker.specs.Minimum.{HasMinimum};
 ghost use Rattle.tile_checker.specs.Tiles.{AreFirstPlaces, IsFromIn, IsViolationIn};
-ghost use Rattle.tile_checker.specs.WideArea.{IsSeen};
+ghost use Rattle.tile_checker.specs.Seen.{AreTrueNotes};
 
 use crate::earliest::{earliest_of, is_past, is_past_first};
 use crate::first::{First, shape_at};
@@ -33,8 +33,8 @@ fn first_of_shape(
     requires rises { IsStrictlySortedBy shape_order bins.now }
     requires reach { AreReachable bins.now }
     requires at { IsAt bins.now first }
-    requires seen { IsSeen bins.now notes.old.seen }
-    ensures seen { IsSeen bins.now notes.new.seen }
+    requires seen { AreTrueNotes bins.now notes.old }
+    ensures seen { AreTrueNotes bins.now notes.new }
     ensures first { IfOk result (IsEarliestWith kept (IsFromIn number rule.now bins.now tile first)) }
 {
     if is_past_first(kept, number, first.shape) {
@@ -60,8 +60,8 @@ fn first_of_places(
     requires rises { IsStrictlySortedBy shape_order bins.now }
     requires reach { AreReachable bins.now }
     requires places { AreFirstPlaces rule.now bins.now tile places.now }
-    requires seen { IsSeen bins.now notes.old.seen }
-    ensures seen { IsSeen bins.now notes.new.seen }
+    requires seen { AreTrueNotes bins.now notes.old }
+    ensures seen { AreTrueNotes bins.now notes.new }
     ensures first { IfOk result (IsEarliestWith kept (IsViolationIn number rule.now bins.now tile)) }
 {
     let shapes = bins.shapes();
@@ -90,8 +90,8 @@ pub fn first_of_rule(
     requires rises { IsStrictlySortedBy shape_order bins.now }
     requires reach { AreReachable bins.now }
     requires tile { IsReachable tile }
-    requires seen { IsSeen bins.now notes.old.seen }
-    ensures seen { IsSeen bins.now notes.new.seen }
+    requires seen { AreTrueNotes bins.now notes.old }
+    ensures seen { AreTrueNotes bins.now notes.new }
     ensures first { IfOk result (IsEarliestWith kept (IsViolationIn number rule.now bins.now tile)) }
 {
     if is_past(kept, number) {

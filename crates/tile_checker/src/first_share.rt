@@ -8,7 +8,7 @@ ghost use Rattle.tile_checker.specs.Earliest.{IsEarliestOf, IsEarliestWith};
 ghost use Rattle.tile_checker.specs.Minimum.{HasMinimum};
 ghost use Rattle.tile_checker.specs.Share.{IsOwn};
 ghost use Rattle.tile_checker.specs.Tiles.{AreTiles, IsFoundIn};
-ghost use Rattle.tile_checker.specs.WideArea.{IsSeen};
+ghost use Rattle.tile_checker.specs.Seen.{AreTrueNotes};
 
 use crate::first_in_tile::first_of_rule;
 use crate::notes::Notes;
@@ -33,8 +33,8 @@ fn first_of_tile(
     requires rises { IsStrictlySortedBy shape_order bins.now }
     requires reach { AreReachable bins.now }
     requires tile { IsReachable tile }
-    requires seen { IsSeen bins.now notes.old.seen }
-    ensures seen { IsSeen bins.now notes.new.seen }
+    requires seen { AreTrueNotes bins.now notes.old }
+    ensures seen { AreTrueNotes bins.now notes.new }
     ensures first { IfOk result (IsEarliestWith kept (IsFoundIn rules.now bins.now tile)) }
 {
     let mut least = kept;

@@ -9,7 +9,7 @@ ghost use Rattle.tech_rules.specs.declared.tech.Rule.TheVariants as kind;
 ghost use Rattle.tile_checker.specs.Minimum.{HasMinimum};
 ghost use Rattle.tile_checker.specs.Firsts.{IsAt, ArePlaces};
 ghost use Rattle.tile_checker.specs.Tiles.{AreFirstPlaces, IsFromIn, IsFromPlace, IsViolationIn};
-ghost use Rattle.tile_checker.specs.WideArea.{IsSeen};
+ghost use Rattle.tile_checker.specs.Seen.{AreTrueNotes};
 
 use crate::enclose::{EncloseRule, add_encloses, grown};
 use crate::first::{First, shape_at};
@@ -56,8 +56,8 @@ fn add_own_widths(
 ) -> Result<(), Memory>
     requires reach { AreReachable bins.now }
     requires at { IsAt bins.now first }
-    requires seen { IsSeen bins.now notes.old.seen }
-    ensures seen { IsSeen bins.now notes.new.seen }
+    requires seen { AreTrueNotes bins.now notes.old }
+    ensures seen { AreTrueNotes bins.now notes.new }
     ensures adds { OnOk result (Adds notes.old.found.items notes.new.found.items
         (IsFromIn rule.number (kind.Width rule.layer rule.min.value) bins.now tile first)) }
 {
@@ -100,8 +100,8 @@ pub fn add_violations(
     requires rises { IsStrictlySortedBy shape_order bins.now }
     requires reach { AreReachable bins.now }
     requires at { IsAt bins.now first }
-    requires seen { IsSeen bins.now notes.old.seen }
-    ensures seen { IsSeen bins.now notes.new.seen }
+    requires seen { AreTrueNotes bins.now notes.old }
+    ensures seen { AreTrueNotes bins.now notes.new }
     ensures adds { OnOk result (Adds notes.old.found.items notes.new.found.items
         (IsFromIn number rule.now bins.now tile first)) }
 {
@@ -121,7 +121,7 @@ pub fn add_violations(
                 other: *other,
                 min: Minimum { value: *min },
             };
-            add_spaces(bins, space, tile, first, &mut notes.near, &mut notes.found)
+            add_spaces(bins, space, tile, first, notes)
         }
         Rule::Enclose { layer, by, min } => {
             let enclose = EncloseRule {
@@ -148,8 +148,8 @@ fn add_of_firsts(
     requires rises { IsStrictlySortedBy shape_order bins.now }
     requires reach { AreReachable bins.now }
     requires firsts { ArePlaces bins.now firsts.now }
-    requires seen { IsSeen bins.now notes.old.seen }
-    ensures seen { IsSeen bins.now notes.new.seen }
+    requires seen { AreTrueNotes bins.now notes.old }
+    ensures seen { AreTrueNotes bins.now notes.new }
     ensures adds { OnOk result (Adds notes.old.found.items notes.new.found.items
         (SomeGives (IsFromPlace number rule.now bins.now tile) firsts.now)) }
 {
@@ -177,8 +177,8 @@ pub fn add_of_rule(
     requires rises { IsStrictlySortedBy shape_order bins.now }
     requires reach { AreReachable bins.now }
     requires tile { IsReachable tile }
-    requires seen { IsSeen bins.now notes.old.seen }
-    ensures seen { IsSeen bins.now notes.new.seen }
+    requires seen { AreTrueNotes bins.now notes.old }
+    ensures seen { AreTrueNotes bins.now notes.new }
     ensures adds { OnOk result (Adds notes.old.found.items notes.new.found.items
         (IsViolationIn number rule.now bins.now tile)) }
 {

@@ -1,5 +1,6 @@
 ghost use Rattle.std.specs.Prelude.{◌≡◌, [], None};
 
+use crate::clear::ClearArea;
 use crate::violation::Violation;
 use crate::width::WideArea;
 use std::alloc::Global;
@@ -15,20 +16,24 @@ pub struct Notes {
     /// The violations found: all of the worker's, or those of one shape where only the first violation is asked for.
     pub found: Vec<Violation>,
     /// The wide area found last: the next shapes often lie in it too.
-    pub seen: Option<WideArea>,
+    pub wide: Option<WideArea>,
+    /// The clear box found last, for the same reason.
+    pub clear: Option<ClearArea>,
 }
 
 impl Notes {
     /// Nothing yet.
     pub fn new(alloc: Global) -> Notes
         ensures found { result.found.items ≡ [] }
-        ensures seen { result.seen ≡ None }
+        ensures wide { result.wide ≡ None }
+        ensures clear { result.clear ≡ None }
     {
         Notes {
             alloc,
             near: Vec::new(alloc),
             found: Vec::new(alloc),
-            seen: None,
+            wide: None,
+            clear: None,
         }
     }
 }

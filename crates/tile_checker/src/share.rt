@@ -8,7 +8,7 @@ ghost use Rattle.tech_rules.specs.Facts.{IsTech};
 ghost use Rattle.tile_checker.specs.Minimum.{HasMinimum};
 ghost use Rattle.tile_checker.specs.Tiles.{IsFoundIn, AreTiles};
 ghost use Rattle.tile_checker.specs.Share.{IsShare};
-ghost use Rattle.tile_checker.specs.WideArea.{IsSeen};
+ghost use Rattle.tile_checker.specs.Seen.{AreTrueNotes};
 
 use crate::in_tile::add_of_rule;
 use crate::notes::Notes;
@@ -31,8 +31,8 @@ fn add_of_tile(
     requires rises { IsStrictlySortedBy shape_order bins.now }
     requires reach { AreReachable bins.now }
     requires tile { IsReachable tile }
-    requires seen { IsSeen bins.now notes.old.seen }
-    ensures seen { IsSeen bins.now notes.new.seen }
+    requires seen { AreTrueNotes bins.now notes.old }
+    ensures seen { AreTrueNotes bins.now notes.new }
     ensures adds { OnOk result (Adds notes.old.found.items notes.new.found.items (IsFoundIn rules.now bins.now tile)) }
 {
     for number in 0..rules.len() {

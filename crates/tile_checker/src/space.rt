@@ -10,16 +10,20 @@ ghost use Rattle.tile_checker.specs.Breaks.{AreNear};
 ghost use Rattle.tile_checker.specs.Found.{AreOnLayersOf, IsSpaceFound};
 ghost use Rattle.tech_rules.specs.declared.tech.Rule.TheVariants as kind;
 ghost use Rattle.std.specs.Int.{int_max, int_min};
-ghost use Rattle.tile_checker.specs.Firsts.{IsAt, IsPartner, HasNoPartner, ArePartners, IsClearAround, ArePartnersIn};
+ghost use Rattle.tile_checker.specs.Firsts.{IsAt, IsPartner, HasNoPartner, ArePartners, ArePartnersIn};
+ghost use Rattle.tile_checker.specs.ClearArea.{IsClearArea};
+ghost use Rattle.tile_checker.specs.Seen.{AreTrueNotes};
 ghost use Rattle.tile_checker.specs.Tiles.{IsFromIn, IsPairAt, IsPartIn};
 
+use crate::clear::{ClearArea, filled_around, lies_clear};
 use crate::enclose::grown;
 use crate::first::{First, shape_at};
 use crate::minimum::Minimum;
+use crate::notes::Notes;
 use crate::owner::owns_pair;
 use crate::violation::Violation;
-use or_geom::{Memory, Point, Rect, Shape, dist2, gap_box, holds, joined};
-use shape_bins::{Bins, ClearBox};
+use or_geom::{Memory, Rect, Shape, dist2, gap_box, joined};
+use shape_bins::Bins;
 
 /// A space rule with its number.
 #[derive(Clone, Copy)]
@@ -133,24 +137,10 @@ fn add_pairs(
     Ok(())
 }
 
-/// A box that the shape's layer covers and that holds the shape, if one is known, with its clearance.
-fn filled_around(bins: &Bins, shape: Shape) -> Option<ClearBox>
-    ensures { IfSome result (IsClearAround bins.now shape) }
-{
-    let corner = Point {
-        x: shape.rect.x1,
-        y: shape.rect.y1,
-    };
-    let filled = bins.filled_at(shape.layer, corner)?;
-    if holds(filled.rect, shape.rect) {
-        return Some(filled);
-    }
-    None
-}
-
 /// Lists the places of the partner's shapes that meet the area, but for some that break no rule of this minimum with
-/// the first shape. These lie with it in one box, so that their layer covers the gap between them, or are farther away
-/// than the minimum, as all shapes outside of a box are whose clearance isn't less.
+/// the first shape. These lie with it in one box, so that their layer covers the gap between them, or are no nearer than
+/// the minimum, as all shapes outside of a box are whose clearance isn't less. A box of such clearance is kept in `last`,
+/// since the next shapes often lie in it too. No other is: the bins may know a larger one round these.
 fn list_partners(
     bins: &Bins,
     partner: u16,
@@ -158,13 +148,23 @@ fn list_partners(
     first: Shape,
     area: Rect,
     near: &mut Vec<usize>,
+    last: &mut Option<ClearArea>,
 ) -> Result<(), Memory>
-    ensures { OnOk result (ArePartnersIn min.value bins.now partner first area near.new.items) }
+    requires seen { IfSome last.old (IsClearArea bins.now) }
+    ensures seen { IfSome last.new (IsClearArea bins.now) }
+    ensures partners { OnOk result (ArePartnersIn min.value bins.now partner first area near.new.items) }
 {
     near.clear();
     if partner == first.layer {
+        if lies_clear(bins, first, min, *last) {
+            return Ok(());
+        }
         if let Some(filled) = filled_around(bins, first) {
             if min.value <= filled.clearance {
+                *last = Some(ClearArea {
+                    layer: first.layer,
+                    filled,
+                });
                 return Ok(());
             }
             return bins.add_outside(partner, area, filled.rect, near);
@@ -173,26 +173,28 @@ fn list_partners(
     bins.add_near(partner, area, near)
 }
 
-/// Adds the pairs of shapes that break the rule, whose first is this one and which the tile owns. `near` is a list to
-/// use again.
+/// Adds the pairs of shapes that break the rule, whose first is this one and which the tile owns.
 pub fn add_spaces(
     bins: &Bins,
     rule: SpaceRule,
     tile: Rect,
     first: First,
-    near: &mut Vec<usize>,
-    out: &mut Vec<Violation>,
+    notes: &mut Notes,
 ) -> Result<(), Memory>
     requires rises { IsStrictlySortedBy shape_order bins.now }
     requires reach { AreReachable bins.now }
     requires at { IsAt bins.now first }
-    ensures { OnOk result (Adds out.old.items out.new.items
+    requires seen { AreTrueNotes bins.now notes.old }
+    ensures seen { AreTrueNotes bins.now notes.new }
+    ensures adds { OnOk result (Adds notes.old.found.items notes.new.found.items
         (IsFromIn rule.number (kind.Space rule.layer rule.other rule.min.value) bins.now tile first)) }
 {
     let Some(partner) = partner_of(rule, first.shape.layer) else {
         return Ok(());
     };
     let area = part_in(tile, grown(first.shape.rect, rule.min));
-    list_partners(bins, partner, rule.min, first.shape, area, near)?;
-    add_pairs(bins, rule, tile, first, near, out)
+    let near = &mut notes.near;
+    let last = &mut notes.clear;
+    list_partners(bins, partner, rule.min, first.shape, area, near, last)?;
+    add_pairs(bins, rule, tile, first, &notes.near, &mut notes.found)
 }

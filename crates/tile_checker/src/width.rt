@@ -9,6 +9,7 @@ ghost use Rattle.tile_checker.specs.Firsts.{IsAt, IsFrom};
 ghost use Rattle.tile_checker.specs.Strips.{IsFrameHull};
 ghost use Rattle.tile_checker.specs.Frame.{HasBoxAt};
 ghost use Rattle.tile_checker.specs.WideArea.{IsWideArea, IsSeen};
+ghost use Rattle.tile_checker.specs.Seen.{AreTrueNotes};
 
 use crate::first::First;
 use crate::frame::Frame;
@@ -140,8 +141,8 @@ pub fn add_widths(
 ) -> Result<(), Memory>
     requires reach { AreReachable bins.now }
     requires at { IsAt bins.now first }
-    requires seen { IsSeen bins.now notes.old.seen }
-    ensures seen { IsSeen bins.now notes.new.seen }
+    requires seen { AreTrueNotes bins.now notes.old }
+    ensures seen { AreTrueNotes bins.now notes.new }
     ensures adds { OnOk result (Adds notes.old.found.items notes.new.found.items
         (IsFrom rule.number (kind.Width rule.layer rule.min.value) bins.now first)) }
 {
@@ -149,7 +150,7 @@ pub fn add_widths(
         return Ok(());
     }
     let rect = first.shape.rect;
-    let seen = &mut notes.seen;
+    let seen = &mut notes.wide;
     if has_width(notes.alloc, bins, rule.layer, rect, rule.min, seen)? {
         return Ok(());
     }
