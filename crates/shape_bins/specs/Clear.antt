@@ -16,7 +16,7 @@ pub record AreNearer (reach : ℤ) (a b : Rect) : Type 0 where
   pub low : a.y1 <ℤ (b.y2 +ℤ reach)
   pub high : b.y1 <ℤ (a.y2 +ℤ reach)
 
--- no shape of the layer that the box doesn't hold comes nearer to it, where the clearance is positive
+-- no shape of the layer that the box doesn't hold comes nearer to it than the clearance, where that is positive
 abbrev pub HasClearance : List Shape → ℕ → Rect → ℤ → Type 0
 HasClearance shapes layer box clearance = pos 0 <ℤ clearance → (place : ℕ) (s : Shape) → slice_get shapes place ≡ Some s → s.layer ≡ layer → AreNearer clearance s.rect box → (HoldsRect box s.rect → ⊥) → ⊥
 

@@ -1,4 +1,4 @@
-ghost use Rattle.std.specs.Prelude.{◌≡◌, ◌↔◌, ◌≤◌, length, IsTrue, IfOk, IfSome, MatchOption, OnOk};
+ghost use Rattle.std.specs.Prelude.{◌≡◌, ◌↔◌, ◌<◌, ◌≤◌, ℕ, length, Contains, IsTrue, IfOk, IfSome, MatchOption, OnOk};
 ghost use Rattle.or_geom.specs.Adds.{Adds};
 ghost use Rattle.or_geom.specs.Covered.{HasCellInSome, IsCovered};
 ghost use Rattle.or_geom.specs.Row.{IsFound};
@@ -53,6 +53,14 @@ impl<'b> Bins<'b> {
         self.forest.shapes
     }
 
+    /// The places of all shapes, layer by layer, mostly so that near shapes of a layer come one after another. Only that
+    /// each shape's place is there is claimed.
+    pub fn near_order(&self) -> &[u32]
+        ensures { (place : ℕ) → place < length self.now → Contains result.now place }
+    {
+        self.forest.places
+    }
+
     /// The shapes with the trees over them.
     pub(crate) fn forest(&self) -> Forest<'b>
         ensures shapes { result.shapes.now ≡ self.now }
@@ -92,8 +100,9 @@ impl<'b> Bins<'b> {
         rect_at(self.forest, layer, cell)
     }
 
-    /// A box that the layer covers and that holds the unit cell with this lower left corner: the largest that is known.
-    /// None says nothing: only boxes are known that many shapes fill together.
+    /// A box that the layer covers and that holds the unit cell with this lower left corner: of those that are known the
+    /// largest is taken, though nothing is claimed of its size. None says nothing: only boxes are known that many shapes
+    /// fill together.
     pub fn filled_at(&self, layer: u16, cell: Point) -> Option<ClearBox>
         ensures { IfSome result (IsClearBox self.now layer cell) }
     {

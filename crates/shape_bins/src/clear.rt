@@ -42,20 +42,14 @@ fn gap(a: Rect, b: Rect) -> i64 {
 fn sum(a: i64, b: i64) -> Option<i64>
     ensures { IfSome result (λ s. s ≡ a +ℤ b) }
 {
-    match a.checked_add(b) {
-        Some(sum) => Some(sum),
-        None => None,
-    }
+    a.checked_add(b)
 }
 
 /// The difference, if it fits 64 bits.
 fn difference(a: i64, b: i64) -> Option<i64>
     ensures { IfSome result (λ d. d ≡ a -ℤ b) }
 {
-    match a.checked_sub(b) {
-        Some(difference) => Some(difference),
-        None => None,
-    }
+    a.checked_sub(b)
 }
 
 /// The rectangle, grown on all sides by one less than the clearance, if that is positive and all fits 64 bits: what
