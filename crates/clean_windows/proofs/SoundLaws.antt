@@ -20,7 +20,7 @@ use Rattle.kit_check.specs.Windows.{all_windows, plan_of, window_rows}
 use Rattle.kit_check.specs.Good.{IsGoodKit}
 use Rattle.kit_check.specs.Judged.{IsFaultlessMacro, IsSoundAnswer}
 use Rattle.kit_check.proofs.WindowLaws.{are_planned}
-use Rattle.kit_command.specs.Assembled.{IsAssembled}
+use Rattle.macro_maker.specs.Assembled.{IsAssembled}
 use Rattle.sram_netlist.proofs.InstanceLists.{place_in}
 use Rattle.kit_routes.proofs.FaultLaws.{too_wide, not_wide}
 use Rattle.kit_routes.proofs.ModelLaws.{rows_listed}

@@ -14,7 +14,7 @@ use Rattle.sram_macro.specs.declared.assembly.Macro.{Macro}
 use Rattle.sram_macro.specs.Macro.{IsMacro}
 use Rattle.kit_check.specs.Good.{IsGoodKit}
 use Rattle.kit_check.specs.Judged.{IsFaultlessMacro}
-use Rattle.kit_command.specs.Assembled.{IsAssembled}
+use Rattle.macro_maker.specs.Assembled.{IsAssembled}
 use Rattle.good_places.specs.Windows.{IsWindowOf}
 
 -- a macro of the memory, which is a window's: nothing is wrong with it

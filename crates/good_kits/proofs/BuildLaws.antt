@@ -17,7 +17,7 @@ use Rattle.command_steps.specs.Once.{IsLow}
 use Rattle.command_steps.specs.Outside.{IfTold}
 use Rattle.kit_check.specs.declared.weak.Weak.{Weak}
 use Rattle.kit_check.specs.Good.{IsGoodKit, IsWeakness}
-use Rattle.kit_command.specs.Assembled.{IsAssembled}
+use Rattle.macro_maker.specs.Assembled.{IsAssembled}
 use Rattle.kit_command.specs.WeakLines.{IsKitReplied, weak_reply}
 use Rattle.macro_build.specs.declared.built.BuildFault.{BuildFault}
 use Rattle.macro_build.specs.declared.built.BuildFault.TheVariants as build_fault

@@ -28,7 +28,7 @@ use Rattle.sram_macro.specs.Macro.{IsMacro}
 use Rattle.kit_rules.specs.Reach.{reach_with}
 use Rattle.kit_check.specs.Good.{IsGoodKit}
 use Rattle.kit_check.specs.Makers.{role_cells}
-use Rattle.kit_command.specs.Assembled.{IsAssembled}
+use Rattle.macro_maker.specs.Assembled.{IsAssembled}
 use Rattle.good_nets.specs.Parts.{AreSeen}
 use Rattle.good_reports.proofs.ReportLaws.{written_plan, some_written}
 use Rattle.clean_windows.specs.Sound.{IsWrittenOfRows}

@@ -19,7 +19,7 @@ use Rattle.floorplan.specs.LayoutOfKit.{layout_kit}
 use Rattle.floorplan.proofs.DemandLaws.{wire_there}
 use Rattle.kit_rules.specs.Reach.{IsOverhang, reach_with, greatest_minimum, minimum_of}
 use Rattle.kit_check.specs.Good.{IsGoodKit}
-use Rattle.kit_command.specs.Assembled.{IsAssembled}
+use Rattle.macro_maker.specs.Assembled.{IsAssembled}
 use Rattle.good_windows.specs.Short.{HasShortReach}
 use Rattle.good_windows.proofs.PassLaws.{shapes_pass_little, leaves_draw_inside}
 use Rattle.good_windows.proofs.ShortLaws.{good_kits_are_short}

@@ -24,7 +24,7 @@ use Rattle.sram_macro.specs.Leaves.{leaf_names}
 use Rattle.sram_macro.specs.Macro.{IsMacro, macro_bits}
 use Rattle.kit_check.specs.Good.{IsGoodKit}
 use Rattle.kit_check.specs.Makers.{role_cells}
-use Rattle.kit_command.specs.Assembled.{IsAssembled}
+use Rattle.macro_maker.specs.Assembled.{IsAssembled}
 use Rattle.good_places.specs.Windows.{with_bits, IsWrittenPlan}
 use Rattle.good_windows.proofs.ListedLaws.{IsSize, all_at_once, one_by_one}
 use Rattle.clean_windows.specs.Sound.{HasSoundWindow, IsWrittenOfRows}

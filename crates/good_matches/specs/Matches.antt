@@ -19,7 +19,7 @@ use Rattle.macro_build.specs.declared.built.BuildFault.TheVariants as build_faul
 use Rattle.macro_build.specs.Built.{IsBuildFault}
 use Rattle.kit_check.specs.Good.{IsGoodKit}
 use Rattle.kit_check.specs.Judged.{AreNetsAndRowsOf}
-use Rattle.kit_command.specs.Assembled.{IsAssembled}
+use Rattle.macro_maker.specs.Assembled.{IsAssembled}
 
 -- The labels of each macro of the kit and the plan under the name are joined exactly as its netlist says, so that none is refused for a
 -- difference.

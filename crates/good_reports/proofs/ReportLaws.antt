@@ -32,7 +32,7 @@ use Rattle.sram_macro.specs.declared.assembly.Macro.{Macro}
 use Rattle.sram_macro.specs.Macro.{IsMacro}
 use Rattle.kit_rules.specs.Reach.{IsOverhang, IsShortReach, reach_with}
 use Rattle.kit_check.specs.Good.{IsGoodKit}
-use Rattle.kit_command.specs.Assembled.{IsAssembled}
+use Rattle.macro_maker.specs.Assembled.{IsAssembled}
 use Rattle.good_places.specs.Windows.{IsWindowOf, IsWrittenPlan}
 use Rattle.good_windows.specs.Short.{HasShortReach}
 use Rattle.good_windows.proofs.ShortLaws.{good_kits_are_short}

@@ -16,7 +16,7 @@ use Rattle.leaf_tables.specs.Kits.{IsKit}
 use Rattle.macro_build.specs.declared.built.BuildFault.TheVariants as build_fault
 use Rattle.macro_build.specs.Built.{IsBuildFault}
 use Rattle.kit_check.specs.Good.{IsGoodKit}
-use Rattle.kit_command.specs.Assembled.{IsAssembled}
+use Rattle.macro_maker.specs.Assembled.{IsAssembled}
 
 -- The report of the flat shapes of each macro of the kit and the plan under the name is empty, so that none is refused for a broken
 -- rule.

@@ -1,2 +1,1 @@
-pub mod MakerLaws
 pub mod OneReplyLaws

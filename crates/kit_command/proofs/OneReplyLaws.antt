@@ -5,7 +5,7 @@ use Rattle.kit_check.specs.declared.weak.Weak.{Weak}
 use Rattle.kit_check.specs.Good.{IsWeakness}
 use Rattle.command_steps.specs.Once.{IsOnce}
 use Rattle.command_steps.proofs.OnceLaws.{on_gives}
-use Rattle.kit_command.specs.Assembled.{IsAssembled}
+use Rattle.macro_maker.specs.Assembled.{IsAssembled}
 use Rattle.kit_command.specs.WeakLines.{weak_reply, IsKitReplied, IsKitAnswered}
 
 -- what is found is what exactly that is

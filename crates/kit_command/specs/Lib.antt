@@ -1,3 +1,1 @@
-pub mod Assembled
-pub mod OneAssembled
 pub mod WeakLines

@@ -9,7 +9,7 @@ use Rattle.reply_lines.specs.declared.refusal.Refusal.{Refusal}
 use Rattle.reply_lines.specs.declared.reply.Reply.{Reply}
 use Rattle.reply_lines.specs.Lines.{reply_line}
 use Rattle.command_steps.specs.Outcome.{WithoutRefusal}
-use Rattle.kit_command.specs.Assembled.{IsAssembled}
+use Rattle.macro_maker.specs.Assembled.{IsAssembled}
 
 -- `Weak`, what the kit is weak in, and its fields in order
 abbrev pub weak_words : Weak → List (List ℕ)

@@ -3,11 +3,11 @@ ghost use Rattle.leaf_tables.specs.Kits.{IsKit};
 ghost use Rattle.command_steps.specs.Outcome.{UnlessMemory, is_read_failed, is_usage_outcome};
 ghost use Rattle.kit_command.specs.WeakLines.{IsKitAnswered};
 
-use crate::assembler::Assembler;
 use crate::lines::weak_reply;
 use kit_check::weakness;
 use leaf_tables::Kit;
 use macro_facts::{macros_are_whole, macros_have_rows, unused_names_are_free};
+use macro_maker::Assembler;
 use reply_lines::{Refusal, Reply};
 use std::alloc::Global;
 use std::thread::Threads;

@@ -2,8 +2,6 @@
 #![tactic(auto)]
 
 mod answer;
-mod assembler;
 mod lines;
 
 pub use answer::answer_kit;
-pub use assembler::Assembler;

@@ -43,7 +43,7 @@ use Rattle.kit_check.specs.Windows.{all_windows, plan_of}
 use Rattle.kit_check.specs.Judged.{IsSoundAnswer}
 use Rattle.kit_check.specs.Good.{IsGoodKit}
 use Rattle.kit_check.proofs.WindowLaws.{are_planned}
-use Rattle.kit_command.specs.Assembled.{IsAssembled}
+use Rattle.macro_maker.specs.Assembled.{IsAssembled}
 use Rattle.kit_routes.specs.Routes.{IsMacroRefused, AreNamesFree, IsWiderThanBit}
 use Rattle.spacing_laws.proofs.CloseLaws.{of_close, to_close}
 use Rattle.route_laws.proofs.ColumnLaws.{columns_apart}

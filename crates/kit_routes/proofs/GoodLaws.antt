@@ -24,7 +24,7 @@ use Rattle.bank_layout.specs.BankTaps.{AreTapsClose}
 use Rattle.sram_macro.specs.Layout.{IsMainFault}
 use Rattle.sram_macro.specs.Macro.{IsPartsFault}
 use Rattle.kit_check.specs.Good.{IsGoodKit}
-use Rattle.kit_command.specs.Assembled.{IsAssembled}
+use Rattle.macro_maker.specs.Assembled.{IsAssembled}
 use Rattle.kit_routes.specs.Routes.{IsMacroRefused, GoodKitsRoute}
 use Rattle.route_laws.proofs.KindLaws.{some_written}
 use Rattle.kit_routes.proofs.ModelLaws.{IsPlanned}

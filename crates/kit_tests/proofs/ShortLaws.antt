@@ -9,8 +9,8 @@ use Rattle.macro_facts.specs.Unused.{UnusedNamesAreFree}
 use Rattle.macro_facts.specs.Whole.{MacrosAreWhole, MacrosHaveRows}
 use Rattle.kit_check.specs.Makers.{IsGoodAnswer, IsGoodMaker}
 use Rattle.sram_plan.specs.declared.numbers.Plan.{Plan}
-use Rattle.kit_command.specs.Assembled.{IsAssembled}
-use Rattle.kit_command.proofs.MakerLaws.{assembling_is_good}
+use Rattle.macro_maker.specs.Assembled.{IsAssembled}
+use Rattle.macro_maker.proofs.MakerLaws.{assembling_is_good}
 use Rattle.kit_tests.specs.Short.{Made, IsShortAnswer}
 
 too_wide : (kit : Kit) (name : List ℕ) (answer : Made) → answer ≡ Err (part_fault.SliceTooNarrow (codes "sense")) → IsGoodAnswer kit name answer

@@ -8,8 +8,8 @@ use Rattle.leaf_tables.specs.declared.part.PartFault.{PartFault}
 use Rattle.leaf_tables.specs.declared.part.PartFault.TheVariants as part_fault
 use Rattle.leaf_tables.specs.Kits.{IsKit}
 use Rattle.sram_plan.specs.declared.numbers.Plan.{Plan}
-use Rattle.kit_command.specs.Assembled.{IsAssembled}
-use Rattle.kit_command.specs.OneAssembled.{one_assembled}
+use Rattle.macro_maker.specs.Assembled.{IsAssembled}
+use Rattle.macro_maker.specs.OneAssembled.{one_assembled}
 
 -- an answer of this kind
 abbrev pub Made : Type 0

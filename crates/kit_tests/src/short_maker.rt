@@ -1,6 +1,6 @@
 use gds_library::Library;
 use kit_check::Maker;
-use kit_command::Assembler;
+use macro_maker::Assembler;
 use leaf_tables::{Kit, PartFault};
 use netlist::Deck;
 use or_geom::Name;

@@ -1,4 +1,4 @@
-use Rattle.kit_command.proofs.MakerLaws.{assembling_is_good}
+use Rattle.macro_maker.proofs.MakerLaws.{assembling_is_good}
 use Rattle.kit_command.proofs.answer.answer_kit.Goals as goal
 
 pub weakness-requires-clause-maker : goal.weakness-requires-clause-maker

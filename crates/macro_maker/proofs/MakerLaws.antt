@@ -19,7 +19,7 @@ use Rattle.kit_check.specs.FreeName.{IsFreeName}
 use Rattle.kit_check.specs.Makers.{IsGoodMacro, IsGoodAnswer, IsGoodMaker}
 use Rattle.kit_check.specs.Windows.{plan_of}
 use Rattle.kit_check.proofs.WindowLaws.{are_planned}
-use Rattle.kit_command.specs.Assembled.{IsAssembled}
+use Rattle.macro_maker.specs.Assembled.{IsAssembled}
 
 unused : (kit : Kit) (name : List ℕ) → IsFreeName kit name → IsUnusedName kit name
 unused kit name free = record {

@@ -11,8 +11,8 @@ use std::alloc::Global;
 pub struct Assembler;
 
 impl Maker for Assembler {
-    ghost use Rattle.kit_command.specs.Assembled.{IsAssembled};
-    ghost use Rattle.kit_command.specs.OneAssembled.{one_assembled};
+    ghost use Rattle.macro_maker.specs.Assembled.{IsAssembled};
+    ghost use Rattle.macro_maker.specs.OneAssembled.{one_assembled};
 
     ghost answers = { λ maker kit plan name answer. IsAssembled kit plan name answer };
 

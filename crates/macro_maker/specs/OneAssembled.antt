@@ -11,7 +11,7 @@ use Rattle.sram_plan.specs.declared.numbers.Plan.{Plan}
 use Rattle.sram_macro.specs.declared.assembly.Macro.{Macro}
 use Rattle.macro_laws.proofs.OneMacroLaws.{one_macro}
 use Rattle.macro_laws.proofs.OnePartLaws.{one_part_fault, no_part_fault}
-use Rattle.kit_command.specs.Assembled.{IsAssembled}
+use Rattle.macro_maker.specs.Assembled.{IsAssembled}
 
 pub one_assembled : (kit : Kit) (plan : Plan) (name : List ℕ) (a b : Result (Library × Deck) PartFault) → IsKit kit → IsAssembled kit plan name a → IsAssembled kit plan name b → a ≡ b
 one_assembled kit plan name (Ok a) (Ok b) is p q =

@@ -2,7 +2,7 @@ use Rattle.std.proofs.Common.{sym, subst}
 use Rattle.std.proofs.lemmas.Result.{err_from_is_err_and}
 use Rattle.port_lists.specs.Held.Held.{Stored}
 use Rattle.sram_macro.specs.Macro.{IsMacroFault}
-use Rattle.kit_command.proofs.assembler.AssemblerMaker.make.Goals as goal
+use Rattle.macro_maker.proofs.assembler.AssemblerMaker.make.Goals as goal
 
 pub returns-in_err-lib-clause-fault : goal.returns-in_err-lib-clause-fault
 returns-in_err-lib-clause-fault c =
