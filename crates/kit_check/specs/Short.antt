@@ -1,6 +1,7 @@
 -- The short check of a kit: all windows are made and flattened, and no loose shape touches another outside, but rules and nets are looked at in windows of few bits alone.
 -- For macros as a build assembles them it suffices (short_checks).
-use Rattle.std.specs.Prelude.{◌≡◌, ◌⊎◌, ◌≤◌, ℕ, List, [], Result, Ok, Err}
+use Rattle.std.specs.Prelude.{◌≡◌, ◌⊎◌, ◌<◌, ◌≤◌, ℕ, Bool, true, List, [], Some, Result, Ok, Err, slice_get}
+use Rattle.or_geom.specs.declared.memory.Memory.{Memory}
 use Rattle.gds_library.specs.declared.library.Library.{Library}
 use Rattle.netlist.specs.declared.deck.Deck.{Deck}
 use Rattle.cell_hierarchy.specs.FlatLists.{AreFlatLists}
@@ -59,3 +60,15 @@ pub record PassesShortCheck (answers : Answers) (kit : Kit) : Type 0 where
   pub wires : AreWiresGood kit
   pub pins : HaveRightPins kit
   pub windows : AreWindowsShort answers kit
+
+-- the window at the index passes
+abbrev pub PassesAt : Answers → Kit → List ℕ → ℕ → Type 0
+PassesAt answers kit name index = (w : Window) → slice_get all_windows index ≡ Some w → PassesShortly answers kit name w
+
+-- the windows with these indices pass
+abbrev pub PassAmong : (ℕ → Type 0) → Answers → Kit → List ℕ → Type 0
+PassAmong Mine answers kit name = (index : ℕ) → Mine index → PassesAt answers kit name index
+
+-- each worker found that its windows pass
+abbrev pub AllFoundTrue : List (Result Bool Memory) → ℕ → Type 0
+AllFoundTrue found count = (worker : ℕ) (one : Result Bool Memory) → worker < count → slice_get found worker ≡ Some one → one ≡ Ok true

@@ -20,7 +20,7 @@ use std::alloc::Global;
 use std::thread::Threads;
 
 /// What the rules, the connections or the reach of the leaf cells lack.
-fn weak_wires(alloc: Global, kit: &Kit) -> Result<Option<Weak>, Memory>
+pub fn weak_wires(alloc: Global, kit: &Kit) -> Result<Option<Weak>, Memory>
     requires { IsKit kit.now }
     ensures { IfOk result (λ found. MatchOption found (AreWiresGood kit.now) (IsWireWeakness kit.now)) }
 {

@@ -43,7 +43,7 @@ pub struct Trial<'a, M: Maker> {
 }
 
 /// The flat shapes and labels of a made macro, in the arena.
-fn flat_of<'b>(
+pub fn flat_of<'b>(
     alloc: Global,
     bump: &'b Bump,
     kit: &Kit,
@@ -63,7 +63,7 @@ fn flat_of<'b>(
 }
 
 /// Whether a flat macro breaks a rule.
-fn breaks_rule<'b, R: Threads + Sync>(
+pub fn breaks_rule<'b, R: Threads + Sync>(
     rt: &R,
     alloc: Global,
     kit: &Kit,
@@ -82,7 +82,7 @@ fn breaks_rule<'b, R: Threads + Sync>(
 }
 
 /// Whether a flat macro's labels are joined otherwise than its netlist says.
-fn differs<'b, R: Threads + Sync>(
+pub fn differs<'b, R: Threads + Sync>(
     rt: &R,
     alloc: Global,
     kit: &Kit,
@@ -104,7 +104,7 @@ fn differs<'b, R: Threads + Sync>(
 }
 
 /// Whether a loose shape of a leaf cell touches a shape outside of its instance.
-fn touches_outside<'b, M: Maker>(
+pub fn touches_outside<'b, M: Maker>(
     alloc: Global,
     bump: &'b Bump,
     trial: &Trial<M>,

@@ -8,10 +8,14 @@ mod judge;
 mod maker;
 mod rows;
 mod share;
+mod short;
+mod short_check;
+mod short_share;
 mod weak;
 mod window;
 
 pub use first::weakness;
 pub use maker::Maker;
+pub use short_check::passes_short_check;
 pub use weak::Weak;
 pub use window::Window;
