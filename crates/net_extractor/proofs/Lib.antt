@@ -1,5 +1,6 @@
 pub mod AreaLaws
 pub mod PlaceLaws
+mod MappedLaws
 mod GivingLaws
 pub mod NetLaws
 mod LinkLaws
