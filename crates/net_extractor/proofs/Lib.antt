@@ -1,6 +1,6 @@
 pub mod AreaLaws
 pub mod PlaceLaws
-mod MappedLaws
+pub mod MappedLaws
 mod GivingLaws
 pub mod NetLaws
 mod LinkLaws
@@ -16,6 +16,7 @@ mod MixedLaws
 mod ConflictLaws
 mod MatchingLaws
 mod PathLaws
+mod StrangerLaws
 pub mod DifferenceLaws
 pub mod OneDifferenceLaws
 pub mod OneBindingLaws
