@@ -3,14 +3,16 @@ use Rattle.std.proofs.Common.{◌≡◌, inl, inr, ℕ, zero, suc, ◌+◌, ◌<
 use Rattle.std.specs.Prelude.{Contains, slice_get}
 use Rattle.std.specs.List.{position_from}
 use Rattle.std.proofs.lemmas.Bool.{cases_eq, cases_lt}
-use Rattle.std.proofs.lemmas.Option.{slice_get_within}
+use Rattle.std.proofs.lemmas.Option.{slice_get_within, slice_get-get_or}
 use Rattle.or_geom.specs.Gathering.{SomeHas}
 use Rattle.or_geom.proofs.GatheringLaws.{who_has}
 use Rattle.or_geom.proofs.ListLaws.{contained_at, contains_none, contains_cases, one_at}
 use Rattle.netlist.specs.declared.rows.RowPin.{RowPin}
+use Rattle.net_extractor.specs.declared.label.NetLabel.{NetLabel}
 use Rattle.net_extractor.specs.PlainNetLabel.{PlainNetLabel}
+use Rattle.net_extractor.specs.PlainNets.{plain_net}
 use Rattle.net_extractor.specs.Difference.{in_lower_case, IsLabelOf, IsLabelled}
-use Rattle.net_extractor.specs.PinNets.{IsElsewhere}
+use Rattle.net_extractor.specs.PinNets.{IsElsewhere, IsPinNet}
 use Rattle.net_extractor.specs.KeyPlaces.{same_bytes, first_place, path_name_key, label_key_with, label_key, pin_key, IsMixedAt, AreMixed, KeepsMarks, IsOnNetAt, IsFirstFor}
 use Rattle.or_geom.proofs.NamePlaceLaws.{same_self}
 use Rattle.net_extractor.proofs.PlaceLaws.{at_contained}
@@ -59,6 +61,19 @@ net_is_whole labels marks pin place net label mixed first at on unmarked some =
     let clash : ◌≡◌ {A = Option ℕ} (Some e.other) (Some net) = sym same ∙ on in
     let one : e.other ≡ net = cc in
     e.differ one
+
+-- the first label with the pin's key is bound and the pin's, and gives its net
+pub net_here : (entries : List NetLabel) (marks : List Bool) (pin : RowPin) (place net : ℕ) (d : NetLabel) → AreMixed (map plain_net entries) marks → first_place (map label_key (map plain_net entries)) (pin_key pin) ≡ Some place → place < length entries
+    → IsLabelOf pin (plain_net (get_or entries place d)) → (get_or entries place d).net ≡ Some net → IsPinNet (map plain_net entries) pin (record { rows = pin.net; layout = net; mixed = get_or marks place false })
+net_here entries marks pin place net d mixed first lt of on =
+    let labels = map plain_net entries in
+    let label = plain_net (get_or entries place d) in
+    let at = mapped_at plain_net entries place (get_or entries place d) (slice_get-get_or entries place d lt) in
+    record {
+      rows = refl;
+      layout = record { label = label; listed = contained_at labels place label at; of = of; on = on };
+      whole = λ unmarked. net_is_whole labels marks pin place net label mixed first at on unmarked;
+    }
 
 -- marks stay right while more are made
 pub mixed_kept : (labels : List PlainNetLabel) (old new : List Bool) (place : ℕ) → KeepsMarks old new → length new ≡ length old → IsMixedAt labels old place → IsMixedAt labels new place
