@@ -1,7 +1,6 @@
-use Rattle.std.proofs.Common.{◌∙◌, [], ◌∷◌, ◌++◌, List, length, map, refl, sym, ap, arith}
+use Rattle.std.proofs.Common.{◌∙◌, length, map, refl, sym, ap, arith}
 use Rattle.std.proofs.lemmas.Option.{get_or_from_slice_get}
 use Rattle.std.proofs.lemmas.List.{map-append}
-use Rattle.net_extractor.specs.declared.label.NetLabel.{NetLabel}
 use Rattle.net_extractor.specs.PlainNets.{plain_net}
 use Rattle.net_extractor.proofs.NumberLaws.{numbering_begins}
 use Rattle.net_extractor.proofs.EntryLaws.{entries_begin, entries_more, entries_all}
