@@ -15,10 +15,10 @@ use Rattle.tech_rules.proofs.LinkedLaws.{linked_next}
 use Rattle.element_drawing.specs.PlainLabel.{PlainLabel}
 use Rattle.cell_hierarchy.specs.Plain.{FlatLists}
 use Rattle.cell_hierarchy.specs.FlatSet.{IsMoved}
-use Rattle.net_extractor.specs.declared.label.Anchor.{Anchor}
+use Rattle.label_binding.specs.declared.anchor.Anchor.{Anchor}
 use Rattle.net_extractor.specs.PlainNetLabel.{PlainNetLabel}
-use Rattle.net_extractor.specs.Binding.{IsUnder, Binds}
-use Rattle.net_extractor.proofs.OneBindingLaws.{binds_some}
+use Rattle.label_binding.specs.Binding.{IsUnder, Binds}
+use Rattle.label_binding.proofs.OneBindingLaws.{binds_some}
 use Rattle.leaf_shapes.specs.Candidates.{anchor_at}
 use Rattle.sram_netlist.specs.Nets.{Net}
 use Rattle.sram_netlist.specs.Netlist.{role, ports}

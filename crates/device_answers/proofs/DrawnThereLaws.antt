@@ -18,8 +18,8 @@ use Rattle.tech_rules.specs.declared.tech.Tech.{Tech}
 use Rattle.tech_rules.proofs.LinkedLaws.{linked_end, linked_itself, linked_map}
 use Rattle.element_drawing.specs.PlainLabel.{PlainLabel}
 use Rattle.cell_hierarchy.specs.FlatLists.{point_order}
-use Rattle.net_extractor.specs.Binding.{Binds}
-use Rattle.net_extractor.specs.Difference.{in_lower_case}
+use Rattle.label_binding.specs.Binding.{Binds}
+use Rattle.label_binding.specs.LowerCase.{in_lower_case}
 use Rattle.drawn_devices.specs.declared.drawn.DeviceChannel.{DeviceChannel}
 use Rattle.drawn_devices.specs.declared.drawn.Flow.{Flow}
 use Rattle.drawn_devices.specs.declared.drawn.NetName.{NetName}

@@ -4,7 +4,7 @@ use Rattle.std.specs.Prelude.{Contains, slice_get}
 use Rattle.std.proofs.lemmas.Bool.{cases_lt}
 use Rattle.or_geom.proofs.ListLaws.{contained_at, contains_cases, contains_first, contains_later, contains_none, one_at}
 use Rattle.net_extractor.specs.FirstDifference.{IsFirst}
-use Rattle.net_extractor.proofs.PlaceLaws.{at_contained}
+use Rattle.label_binding.proofs.PlaceLaws.{at_contained}
 use Rattle.tech_rules.specs.Linked.{LeadsBy, AreLinked}
 use Rattle.tech_rules.proofs.LinkedLaws.{linked_end, linked_next, linked_on}
 use Rattle.flat_answers.proofs.DecisionLaws.{Decided, decide_as, decide_both, decide_either}

@@ -12,7 +12,7 @@ use Rattle.or_geom.specs.Least.{name_order}
 use Rattle.or_geom.proofs.ListLaws.{contains_first, contains_later}
 use Rattle.tech_rules.specs.declared.tech.Device.{Device}
 use Rattle.spice_text.specs.Words.{lower}
-use Rattle.net_extractor.proofs.PlaceLaws.{at_contained}
+use Rattle.label_binding.proofs.PlaceLaws.{at_contained}
 use Rattle.drawn_devices.specs.declared.drawn.DeviceChannel.{DeviceChannel}
 use Rattle.drawn_devices.specs.declared.drawn.NetName.{NetName}
 use Rattle.drawn_devices.specs.declared.drawn.Terminals.{Terminals}

@@ -21,7 +21,7 @@ use Rattle.tech_rules.proofs.LinkedLaws.{linked_itself}
 use Rattle.net_extractor.specs.ShapeNets.{AreShapeNets}
 use Rattle.net_extractor.specs.FirstAppearance.{AppearFrom}
 use Rattle.net_extractor.proofs.ExtractLaws.{earlier_less}
-use Rattle.net_extractor.proofs.PlaceLaws.{at_contained}
+use Rattle.label_binding.proofs.PlaceLaws.{at_contained}
 use Rattle.drawn_devices.specs.Cells.{ShareSide}
 use Rattle.drawn_devices.specs.ChannelBoxes.{AreChannelShapes, AreChannelBoxes, AreChannelGroups, low_cell}
 use Rattle.drawn_devices.specs.Channels.{IsChannelCell, ChannelOf}

@@ -16,12 +16,12 @@ use Rattle.cell_hierarchy.specs.Plain.{plain_label}
 use Rattle.element_drawing.specs.PlainLabel.{PlainLabel}
 use Rattle.tech_rules.specs.declared.tech.Device.{Device}
 use Rattle.tech_rules.specs.declared.tech.Tech.{Tech}
-use Rattle.net_extractor.specs.declared.label.Anchor.{Anchor}
-use Rattle.net_extractor.specs.Binding.{IsUnder, Binds, BindsNone}
-use Rattle.net_extractor.specs.Bound.{IsBoundAt}
-use Rattle.net_extractor.specs.Difference.{in_lower_case}
+use Rattle.label_binding.specs.declared.anchor.Anchor.{Anchor}
+use Rattle.label_binding.specs.Binding.{IsUnder, Binds, BindsNone}
+use Rattle.label_binding.specs.Bound.{IsBoundAt}
+use Rattle.label_binding.specs.LowerCase.{in_lower_case}
 use Rattle.net_extractor.proofs.ExtractLaws.{bound_there, earlier_less}
-use Rattle.net_extractor.proofs.PlaceLaws.{at_contained}
+use Rattle.label_binding.proofs.PlaceLaws.{at_contained}
 use Rattle.drawn_devices.specs.declared.cut_cell.CutCell.{CutCell}
 use Rattle.drawn_devices.specs.declared.drawn.NetName.{NetName}
 use Rattle.drawn_devices.specs.CutCell.{IsCutCell}

@@ -10,7 +10,7 @@ use Rattle.or_geom.proofs.ListLaws.{one_at, contained_at}
 use Rattle.shape_bins.specs.declared.query.Query.TheVariants.{Overlaps}
 use Rattle.shape_bins.specs.Hits.{IsHit, NoHitFrom, IsNearShape}
 use Rattle.shape_bins.specs.Meets.{Overlap}
-use Rattle.net_extractor.proofs.PlaceLaws.{at_contained, each_more}
+use Rattle.label_binding.proofs.PlaceLaws.{at_contained, each_more}
 use Rattle.drawn_devices.specs.NetsOver.{IsOverAt, NoNetOver, IsNetOver, IsNetOfAll, HasNetIfOver, HaveNetIfOver}
 use Rattle.drawn_devices.proofs.SideLaws.{overlap_shares, shares_overlap}
 

@@ -13,7 +13,7 @@ use Rattle.shape_bins.specs.Hits.{IsHit, NoHitFrom}
 use Rattle.shape_bins.specs.Layers.{rects_on}
 use Rattle.shape_bins.specs.Meets.{Overlap}
 use Rattle.shape_bins.proofs.CoverLaws.{shape_over}
-use Rattle.net_extractor.proofs.PlaceLaws.{at_contained}
+use Rattle.label_binding.proofs.PlaceLaws.{at_contained}
 use Rattle.tech_rules.specs.declared.tech.Tech.{Tech}
 use Rattle.tech_rules.specs.Touch.{ShareArea}
 use Rattle.drawn_devices.specs.declared.drawn.Flow.{Flow}

@@ -16,7 +16,7 @@ use Rattle.shape_bins.proofs.CoverLaws.{shape_over}
 use Rattle.tech_rules.specs.declared.tech.Device.{Device}
 use Rattle.tech_rules.specs.declared.tech.Tech.{Tech}
 use Rattle.tech_rules.proofs.LinkedLaws.{linked_itself, linked_map}
-use Rattle.net_extractor.proofs.PlaceLaws.{at_contained}
+use Rattle.label_binding.proofs.PlaceLaws.{at_contained}
 use Rattle.drawn_devices.specs.declared.cut_cell.CutCell.{CutCell}
 use Rattle.drawn_devices.specs.declared.drawn.Flow.{Flow}
 use Rattle.drawn_devices.specs.declared.drawn.Side.{Side}

@@ -10,7 +10,7 @@ use crate::cut_cell::CutCell;
 use crate::diffusion::is_active;
 use crate::drawn::NetName;
 use cell_hierarchy::Label;
-use net_extractor::{Anchor, bound_shape};
+use label_binding::{Anchor, bound_shape};
 use or_geom::{Items, Memory, Name};
 use std::alloc::Global;
 

@@ -8,7 +8,7 @@ use Rattle.tech_rules.specs.declared.tech.Connect.{Connect}
 use Rattle.tech_rules.specs.Touch.{Touch}
 use Rattle.tech_rules.specs.Net.{AreOnOneNet}
 use Rattle.net_extractor.specs.PlainNetLabel.{PlainNetLabel}
-use Rattle.net_extractor.specs.Binding.{Binds}
+use Rattle.label_binding.specs.Binding.{Binds}
 use Rattle.net_extractor.specs.Extraction.{anchor_of, AreNetsUnder}
 use Rattle.net_extractor.specs.Difference.{AreAlike}
 use Rattle.good_nets.proofs.NetLaws.{nets_on, net_back, net_further}

@@ -5,8 +5,8 @@ use Rattle.std.proofs.lemmas.Bool.{cases_eq}
 use Rattle.or_geom.specs.declared.shape.Shape.{Shape}
 use Rattle.or_geom.proofs.ListLaws.{contained_at}
 use Rattle.element_drawing.specs.PlainLabel.{PlainLabel}
-use Rattle.net_extractor.specs.Binding.{Binds}
-use Rattle.net_extractor.specs.Difference.{in_lower_case}
+use Rattle.label_binding.specs.Binding.{Binds}
+use Rattle.label_binding.specs.LowerCase.{in_lower_case}
 use Rattle.leaf_shapes.specs.declared.fault.PinFault.{PinFault}
 use Rattle.leaf_shapes.specs.declared.fault.PinFault.TheVariants.{PinMissing, PinLayer, EdgePin, Memory}
 use Rattle.leaf_shapes.specs.declared.pins.LeafPin.{LeafPin}

@@ -12,8 +12,8 @@ use Rattle.or_geom.specs.Joined.{IsIn}
 use Rattle.or_geom.specs.ShapeOrder.{shape_order}
 use Rattle.or_geom.proofs.ListLaws.{contained_at}
 use Rattle.or_geom.proofs.PlaceLaws.{same_rect}
-use Rattle.net_extractor.specs.declared.label.Anchor.{Anchor}
-use Rattle.net_extractor.specs.Binding.{Binds, IsUnder}
+use Rattle.label_binding.specs.declared.anchor.Anchor.{Anchor}
+use Rattle.label_binding.specs.Binding.{Binds, IsUnder}
 use Rattle.leaf_shapes.specs.declared.fit.CellSize.{CellSize}
 use Rattle.leaf_shapes.specs.declared.fit.Fit.{Fit}
 use Rattle.leaf_shapes.specs.declared.fit.Fit.TheVariants.{Top, Bottom, TopAndBottom, Left, Right, LeftAndRight, Anywhere, LowerRail, UpperRail}

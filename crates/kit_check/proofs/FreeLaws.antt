@@ -11,7 +11,7 @@ use Rattle.or_geom.proofs.AddsLaws.{adds_none, adds_one, adds_both}
 use Rattle.or_geom.proofs.GatheringLaws.{giver, gives_some}
 use Rattle.gds_library.specs.declared.library.Structure.{Structure}
 use Rattle.netlist.specs.declared.deck.Subckt.{Subckt}
-use Rattle.net_extractor.specs.Difference.{in_lower_case}
+use Rattle.label_binding.specs.LowerCase.{in_lower_case}
 use Rattle.sram_plan.specs.Config.{is_name_char, is_output_name}
 use Rattle.sram_plan.specs.Keywords.{is_keyword}
 use Rattle.sram_plan.proofs.KeywordLaws.{long_is_no_keyword}

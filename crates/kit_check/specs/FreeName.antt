@@ -3,7 +3,7 @@ use Rattle.std.specs.Prelude.{◌≡◌, ◌⊎◌, ◌↔◌, ℕ, ◌++◌, �
 use Rattle.or_geom.specs.Gathering.{SomeGives}
 use Rattle.gds_library.specs.declared.library.Structure.{Structure}
 use Rattle.netlist.specs.declared.deck.Subckt.{Subckt}
-use Rattle.net_extractor.specs.Difference.{in_lower_case}
+use Rattle.label_binding.specs.LowerCase.{in_lower_case}
 use Rattle.sram_plan.specs.Config.{is_output_name}
 use Rattle.leaf_tables.specs.declared.kit.Kit.{Kit}
 use Rattle.kit_check.specs.Digits.{IsNumberIn, IsNumberedName}

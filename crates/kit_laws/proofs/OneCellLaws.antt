@@ -7,14 +7,14 @@ use Rattle.or_geom.specs.ShapeOrder.{shape_order}
 use Rattle.or_geom.proofs.ListLaws.{contained_at, one_at}
 use Rattle.std.proofs.lemmas.Option.{slice_get_within}
 use Rattle.element_drawing.specs.PlainLabel.{PlainLabel}
-use Rattle.net_extractor.specs.Binding.{Binds, IsUnder}
+use Rattle.label_binding.specs.Binding.{Binds, IsUnder}
 use Rattle.leaf_shapes.specs.declared.fault.PinFault.TheVariants.{PinMissing, PinLayer, EdgePin, Memory}
 use Rattle.leaf_shapes.specs.declared.pins.LeafPin.{LeafPin}
 use Rattle.leaf_shapes.specs.Candidates.{anchor_at, BindsPinAt, IsFirstCandidate}
 use Rattle.leaf_shapes.specs.Demands.{PinDemand}
 use Rattle.kit_laws.specs.OneCell.{OutlinesAreUnique, LeafPinsAreUnique, PinFaultsAreUnique, PinFaultsExcludePins}
 use Rattle.leaf_shapes.specs.Pins.{CellDrawing, IsDemanded, IsMet, IsPinFor, AreLeafPins, IsFirstUnmet, FirstLacks, IsUnbound, IsOffLayer}
-use Rattle.net_extractor.specs.declared.label.Anchor.{Anchor}
+use Rattle.label_binding.specs.declared.anchor.Anchor.{Anchor}
 use Rattle.tech_rules.specs.Drawing.{IsBox}
 use Rattle.leaf_shapes.proofs.PlaceLaws.{at_contained, sorted_at}
 use Rattle.leaf_shapes.proofs.PinLaws.{exists_at, pin_meets}

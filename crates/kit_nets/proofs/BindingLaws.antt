@@ -12,12 +12,12 @@ use Rattle.tech_rules.specs.Net.{AreOnOneNet}
 use Rattle.element_drawing.specs.PlainLabel.{PlainLabel}
 use Rattle.cell_hierarchy.specs.Plain.{FlatLists}
 use Rattle.cell_hierarchy.specs.FlatSet.{IsFlatLabel, IsMoved}
-use Rattle.net_extractor.specs.declared.label.Anchor.{Anchor}
+use Rattle.label_binding.specs.declared.anchor.Anchor.{Anchor}
 use Rattle.net_extractor.specs.PlainNetLabel.{PlainNetLabel}
-use Rattle.net_extractor.specs.Binding.{Binds}
+use Rattle.label_binding.specs.Binding.{Binds}
 use Rattle.net_extractor.specs.Extraction.{label_of, anchor_of, AreNetsUnder}
-use Rattle.net_extractor.specs.Difference.{in_lower_case}
-use Rattle.net_extractor.proofs.OneBindingLaws.{binds_some}
+use Rattle.label_binding.specs.LowerCase.{in_lower_case}
+use Rattle.label_binding.proofs.OneBindingLaws.{binds_some}
 use Rattle.leaf_shapes.specs.Candidates.{IsLabelOfPin, anchor_at}
 use Rattle.sram_netlist.specs.Instances.{LeafInstance}
 use Rattle.sram_netlist.specs.Netlist.{role}

@@ -15,7 +15,7 @@ use Rattle.leaf_shapes.specs.declared.demand.Metal.TheVariants.{M1, M2, M3, M4}
 use Rattle.leaf_shapes.specs.declared.fit.Fit.TheVariants.{Top, Bottom, TopAndBottom, Left, Right, LeftAndRight, Anywhere, LowerRail, UpperRail}
 use Rattle.leaf_shapes.specs.declared.pins.LeafPin.{LeafPin}
 use Rattle.element_drawing.specs.PlainLabel.{PlainLabel}
-use Rattle.net_extractor.specs.Binding.{Binds}
+use Rattle.label_binding.specs.Binding.{Binds}
 use Rattle.leaf_shapes.specs.Candidates.{IsLabelOfPin, anchor_at}
 use Rattle.leaf_shapes.specs.Demands.{PinDemand, draw, metal_layer, role_demands}
 use Rattle.leaf_shapes.specs.Pins.{CellDrawing, AreLeafPins}

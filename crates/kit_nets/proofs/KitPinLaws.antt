@@ -8,7 +8,7 @@ use Rattle.cell_roles.specs.Roles.{all_roles}
 use Rattle.cell_hierarchy.specs.Plain.{FlatLists}
 use Rattle.cell_hierarchy.proofs.OneListsLaws.{one_pair}
 use Rattle.cell_hierarchy.specs.FlatLists.{AreFlatLists}
-use Rattle.net_extractor.specs.Binding.{Binds}
+use Rattle.label_binding.specs.Binding.{Binds}
 use Rattle.leaf_shapes.specs.declared.demand.Metal.{Metal}
 use Rattle.leaf_shapes.specs.declared.fit.Fit.{Fit}
 use Rattle.leaf_shapes.specs.declared.fit.CellSize.{CellSize}

@@ -9,12 +9,12 @@ use Rattle.tech_rules.specs.declared.tech.Connect.{Connect}
 use Rattle.element_drawing.specs.PlainLabel.{PlainLabel}
 use Rattle.cell_hierarchy.specs.Plain.{FlatLists}
 use Rattle.cell_hierarchy.specs.FlatSet.{IsFlatLabel, IsMoved, path_under}
-use Rattle.net_extractor.specs.declared.label.Anchor.{Anchor}
+use Rattle.label_binding.specs.declared.anchor.Anchor.{Anchor}
 use Rattle.net_extractor.specs.PlainNetLabel.{PlainNetLabel}
-use Rattle.net_extractor.specs.Binding.{IsUnder, Binds}
+use Rattle.label_binding.specs.Binding.{IsUnder, Binds}
 use Rattle.net_extractor.specs.Extraction.{label_of, anchor_of, AreNetsUnder}
-use Rattle.net_extractor.specs.Difference.{in_lower_case}
-use Rattle.net_extractor.proofs.OneBindingLaws.{binds_some}
+use Rattle.label_binding.specs.LowerCase.{in_lower_case}
+use Rattle.label_binding.proofs.OneBindingLaws.{binds_some}
 use Rattle.sram_netlist.specs.Netlist.{role}
 use Rattle.sram_netlist.specs.Names.{leaf_path}
 use Rattle.good_nets.specs.Seen.{IsLabelledAt}

@@ -11,11 +11,11 @@ use Rattle.tech_rules.specs.declared.tech.Connect.{Connect}
 use Rattle.tech_rules.specs.Net.{AreOnOneNet}
 use Rattle.element_drawing.specs.PlainLabel.{PlainLabel}
 use Rattle.cell_hierarchy.specs.Plain.{FlatLists}
-use Rattle.net_extractor.specs.declared.label.Anchor.{Anchor}
+use Rattle.label_binding.specs.declared.anchor.Anchor.{Anchor}
 use Rattle.net_extractor.specs.PlainNetLabel.{PlainNetLabel}
-use Rattle.net_extractor.specs.Binding.{Binds}
+use Rattle.label_binding.specs.Binding.{Binds}
 use Rattle.net_extractor.specs.Extraction.{anchor_of}
-use Rattle.net_extractor.specs.Difference.{in_lower_case}
+use Rattle.label_binding.specs.LowerCase.{in_lower_case}
 use Rattle.leaf_shapes.specs.Candidates.{IsLabelOfPin}
 use Rattle.sram_netlist.specs.Nets.{Net}
 use Rattle.sram_netlist.specs.Netlist.{role, ports}

@@ -10,7 +10,8 @@ use Rattle.cell_hierarchy.specs.Plain.{FlatLists}
 use Rattle.cell_hierarchy.specs.FlatSet.{IsMoved}
 use Rattle.net_extractor.specs.PlainNetLabel.{PlainNetLabel}
 use Rattle.net_extractor.specs.Extraction.{AreNetsUnder}
-use Rattle.net_extractor.specs.Difference.{in_lower_case, AreAlike}
+use Rattle.label_binding.specs.LowerCase.{in_lower_case}
+use Rattle.net_extractor.specs.Difference.{AreAlike}
 use Rattle.sram_netlist.specs.Nets.{Net}
 use Rattle.sram_netlist.specs.Instances.{LeafInstance}
 use Rattle.sram_netlist.specs.Netlist.{role, ports}

@@ -10,9 +10,9 @@ use Rattle.or_geom.proofs.ListLaws.{one_at, contained_at}
 use Rattle.or_geom.proofs.OneListLaws.{not_both}
 use Rattle.or_geom.proofs.ShapeOrderLaws.{shape_total}
 use Rattle.element_drawing.specs.PlainLabel.{PlainLabel}
-use Rattle.net_extractor.specs.declared.label.Anchor.{Anchor}
-use Rattle.net_extractor.specs.Binding.{Binds}
-use Rattle.net_extractor.specs.Bound.{IsBoundAt}
+use Rattle.label_binding.specs.declared.anchor.Anchor.{Anchor}
+use Rattle.label_binding.specs.Binding.{Binds}
+use Rattle.label_binding.specs.Bound.{IsBoundAt}
 use Rattle.leaf_shapes.specs.Candidates.{anchor_at}
 use Rattle.leaf_shapes.proofs.PlaceLaws.{at_contained, sorted_at}
 use Rattle.leaf_nets.specs.Numbers.{GivesNet}

@@ -5,7 +5,7 @@ use Rattle.std.proofs.lemmas.List.Elements.{Contains-append_left, Contains-push,
 use Rattle.or_geom.specs.declared.shape.Shape.{Shape}
 use Rattle.or_geom.proofs.ListLaws.{contains_none}
 use Rattle.element_drawing.specs.PlainLabel.{PlainLabel}
-use Rattle.net_extractor.specs.Binding.{BindsNone}
+use Rattle.label_binding.specs.Binding.{BindsNone}
 use Rattle.leaf_shapes.specs.Candidates.{IsLabelOfPin, anchor_at}
 use Rattle.leaf_nets.specs.declared.pin.PinBinding.{PinBinding}
 use Rattle.leaf_nets.specs.declared.pin.PinBinding.TheVariants.{Unlabelled, On, Wrong}

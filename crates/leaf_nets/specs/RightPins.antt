@@ -4,7 +4,7 @@ use Rattle.or_geom.specs.declared.shape.Shape.{Shape}
 use Rattle.tech_rules.specs.declared.tech.Connect.{Connect}
 use Rattle.tech_rules.specs.Net.{AreOnOneNet}
 use Rattle.element_drawing.specs.PlainLabel.{PlainLabel}
-use Rattle.net_extractor.specs.Binding.{Binds, BindsNone}
+use Rattle.label_binding.specs.Binding.{Binds, BindsNone}
 use Rattle.cell_hierarchy.specs.Plain.{FlatLists}
 use Rattle.leaf_shapes.specs.Candidates.{IsLabelOfPin, anchor_at}
 

@@ -6,7 +6,7 @@ ghost use Rattle.leaf_shapes.specs.Candidates.{IsLabelOfPin};
 ghost use Rattle.leaf_nets.specs.Numbers.{IsNetNumberOf};
 
 use cell_hierarchy::Label;
-use net_extractor::{Anchor, bound_shape};
+use label_binding::{Anchor, bound_shape};
 use shape_bins::Bins;
 
 /// Whether the label is one of the pin's and stands in the cell itself.

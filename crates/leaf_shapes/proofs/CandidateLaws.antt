@@ -15,8 +15,8 @@ use Rattle.shape_bins.specs.Hits.{IsFirstHit, NoHitFrom}
 use Rattle.cell_hierarchy.specs.declared.flat.Label.{Label}
 use Rattle.cell_hierarchy.specs.Plain.{plain_label}
 use Rattle.element_drawing.specs.PlainLabel.{PlainLabel}
-use Rattle.net_extractor.specs.declared.label.Anchor.{Anchor}
-use Rattle.net_extractor.specs.Binding.{IsUnder, Binds, BindsNone}
+use Rattle.label_binding.specs.declared.anchor.Anchor.{Anchor}
+use Rattle.label_binding.specs.Binding.{IsUnder, Binds, BindsNone}
 use Rattle.leaf_shapes.specs.declared.candidate.WantedShape.{WantedShape}
 use Rattle.leaf_shapes.specs.Candidates.{anchor_at, NoCandidate, IsFirstCandidate}
 use Rattle.leaf_shapes.specs.Wanted.{IsWanted, GivesShape, GivesNone}

@@ -2,9 +2,9 @@
 use Rattle.std.specs.Prelude.{◌≡◌, ℕ, ◌<◌, List, [], slice_get, Some}
 use Rattle.or_geom.specs.declared.shape.Shape.{Shape}
 use Rattle.element_drawing.specs.PlainLabel.{PlainLabel}
-use Rattle.net_extractor.specs.declared.label.Anchor.{Anchor}
-use Rattle.net_extractor.specs.Binding.{Binds}
-use Rattle.net_extractor.specs.Difference.{in_lower_case}
+use Rattle.label_binding.specs.declared.anchor.Anchor.{Anchor}
+use Rattle.label_binding.specs.Binding.{Binds}
+use Rattle.label_binding.specs.LowerCase.{in_lower_case}
 
 abbrev pub anchor_at : PlainLabel → Anchor
 anchor_at label = record { layer = label.layer; at = label.at }

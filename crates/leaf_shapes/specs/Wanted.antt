@@ -4,7 +4,7 @@ use Rattle.or_geom.specs.declared.shape.Shape.{Shape}
 use Rattle.leaf_shapes.specs.declared.candidate.WantedShape.{WantedShape}
 use Rattle.leaf_shapes.specs.declared.candidate.WantedShape.TheVariants.{Any, OnLayer, Fitting}
 use Rattle.element_drawing.specs.PlainLabel.{PlainLabel}
-use Rattle.net_extractor.specs.Binding.{Binds}
+use Rattle.label_binding.specs.Binding.{Binds}
 use Rattle.leaf_shapes.specs.Candidates.{anchor_at, IsLabelOfPin}
 use Rattle.leaf_shapes.specs.Fits.{FitsCell}
 

@@ -4,7 +4,7 @@ ghost use Rattle.or_geom.specs.ShapeOrder.{shape_order};
 ghost use Rattle.cell_hierarchy.specs.Plain.{plain_label};
 ghost use Rattle.leaf_shapes.specs.Candidates.{anchor_at, HasCandidate, IsFirstCandidate, IsLabelOfPin, NoCandidate};
 ghost use Rattle.leaf_shapes.specs.Wanted.{GivesNone, GivesShape, IsWanted};
-ghost use Rattle.net_extractor.specs.Binding.{Binds, BindsNone};
+ghost use Rattle.label_binding.specs.Binding.{Binds, BindsNone};
 
 use crate::fit::{CellSize, Fit};
 use cell_hierarchy::Label;

@@ -6,7 +6,8 @@ use Rattle.std.proofs.lemmas.Bool.{cases_eq, cases_lt}
 use Rattle.std.proofs.lemmas.Option.{same_Some, slice_get_within}
 use Rattle.or_geom.proofs.ListLaws.{below_or, one_at}
 use Rattle.netlist.specs.declared.rows.RowPin.{RowPin}
-use Rattle.net_extractor.specs.Difference.{in_lower_case, IsLabelOf, HasNet, IsLabelled, IsWhole, Agree, slash, IsAbove, IsOnOnePath, IsPlacedBy}
+use Rattle.label_binding.specs.LowerCase.{in_lower_case}
+use Rattle.net_extractor.specs.Difference.{IsLabelOf, HasNet, IsLabelled, IsWhole, Agree, slash, IsAbove, IsOnOnePath, IsPlacedBy}
 use Rattle.net_extractor.specs.Difference.{IsStranger, AreAlike}
 use Rattle.net_extractor.specs.FirstDifference.{IsFirst, AreLabelled, AreRightBefore, IsTorn, AreOpen}
 use Rattle.net_extractor.specs.FirstDifference.{AreShort}
@@ -15,7 +16,7 @@ use Rattle.net_extractor.specs.FirstDifference.{IsFirstDifference}
 use Rattle.net_extractor.specs.declared.difference.NetDiff.{NetDiff}
 use Rattle.net_extractor.specs.declared.difference.NetDiff.TheVariants.{Unlabelled, Stranger, Open, Short}
 use Rattle.net_extractor.specs.PlainNetLabel.{PlainNetLabel}
-use Rattle.net_extractor.proofs.PlaceLaws.{at_contained}
+use Rattle.label_binding.proofs.PlaceLaws.{at_contained}
 use Rattle.flat_answers.proofs.DecisionLaws.{Decided, decide_as, decide_both, decide_either, decide_name, decide_not}
 use Rattle.flat_answers.proofs.ListedLaws.{Listed, decide_all, decide_some, listed_as, listed_none, listed_one, listed_over, listed_where}
 use Rattle.flat_answers.proofs.ListedLaws.{some_or_none}

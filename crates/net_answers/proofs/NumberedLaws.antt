@@ -10,10 +10,10 @@ use Rattle.tech_rules.specs.Net.{AreOnOneNet}
 use Rattle.tech_rules.specs.Touch.{Touch}
 use Rattle.tech_rules.proofs.LinkedLaws.{linked_itself, linked_on}
 use Rattle.element_drawing.specs.PlainLabel.{PlainLabel}
-use Rattle.net_extractor.specs.Binding.{Binds, BindsNone}
+use Rattle.label_binding.specs.Binding.{Binds, BindsNone}
 use Rattle.net_extractor.specs.Extraction.{label_of, anchor_of, AreNetsUnder}
 use Rattle.net_extractor.specs.FirstAppearance.{AppearFrom}
-use Rattle.net_extractor.specs.declared.label.Anchor.{Anchor}
+use Rattle.label_binding.specs.declared.anchor.Anchor.{Anchor}
 use Rattle.net_extractor.specs.PlainNetLabel.{PlainNetLabel}
 use Rattle.net_answers.specs.NetAnswers.{NetsAreThere}
 use Rattle.net_answers.proofs.ToldLaws.{decide_net, net_back, bound_or_none, one_bound}

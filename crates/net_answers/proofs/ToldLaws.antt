@@ -18,10 +18,10 @@ use Rattle.tech_rules.specs.Linked.{LeadsBy}
 use Rattle.tech_rules.specs.Net.{AreOnOneNet}
 use Rattle.tech_rules.specs.Touch.{IsConductor, Joins, Touch}
 use Rattle.tech_rules.proofs.LinkedLaws.{linked_back, linked_further, linked_itself, linked_next, linked_on}
-use Rattle.net_extractor.specs.Binding.{IsUnder, Binds, BindsNone}
-use Rattle.net_extractor.specs.declared.label.Anchor.{Anchor}
+use Rattle.label_binding.specs.Binding.{IsUnder, Binds, BindsNone}
+use Rattle.label_binding.specs.declared.anchor.Anchor.{Anchor}
 use Rattle.net_extractor.proofs.ExtractLaws.{touch_turned}
-use Rattle.net_extractor.proofs.OneBindingLaws.{binds_some}
+use Rattle.label_binding.proofs.OneBindingLaws.{binds_some}
 use Rattle.good_nets.proofs.PortLaws.{touches_itself}
 use Rattle.told_nets.proofs.TellLaws.{told_conductor, told_net}
 use Rattle.flat_answers.proofs.DecisionLaws.{Decided, decide_as, decide_at_most, decide_both, decide_either}

@@ -14,7 +14,7 @@ use Rattle.net_extractor.specs.declared.difference.PinName.{PinName}
 use Rattle.net_extractor.specs.Difference.{HasNet, Agree, AreAlike}
 use Rattle.net_extractor.specs.FirstDifference.{IsUnlabelledAt, IsStrangerAt, AreLabelled, AreRightBefore, AreOpen, AreShort, IsTornAt, IsWrongAt, name_of_pin, name_of_label, ArePaired, FirstUnlabelled, FirstStranger, FirstTorn, FirstWrong, IsFirstDifference}
 use Rattle.net_extractor.specs.Conflicts.{IsConflict, AreConflictPins, ArePinNames, IsDifferenceOf}
-use Rattle.net_extractor.proofs.PlaceLaws.{at_contained}
+use Rattle.label_binding.proofs.PlaceLaws.{at_contained}
 
 turned : (labels : List PlainNetLabel) (q p : RowPin) → Agree labels q p → Agree labels p q
 turned labels q p a m n has_m has_n = (λ e. sym ((a n m has_n has_m).0 (sym e)), λ e. sym ((a n m has_n has_m).1 (sym e)))

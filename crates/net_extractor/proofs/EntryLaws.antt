@@ -11,12 +11,12 @@ use Rattle.tech_rules.specs.declared.tech.Connect.{Connect}
 use Rattle.cell_hierarchy.specs.declared.flat.Label.{Label}
 use Rattle.cell_hierarchy.specs.Plain.{plain_label}
 use Rattle.element_drawing.specs.PlainLabel.{PlainLabel}
-use Rattle.net_extractor.specs.declared.label.Anchor.{Anchor}
+use Rattle.label_binding.specs.declared.anchor.Anchor.{Anchor}
 use Rattle.net_extractor.specs.PlainNetLabel.{PlainNetLabel}
 use Rattle.net_extractor.specs.declared.numbering.Numbering.{Numbering}
 use Rattle.tech_rules.specs.Net.{AreOnOneNet}
-use Rattle.net_extractor.specs.Binding.{Binds, BindsNone}
-use Rattle.net_extractor.specs.Bound.{IsBoundAt}
+use Rattle.label_binding.specs.Binding.{Binds, BindsNone}
+use Rattle.label_binding.specs.Bound.{IsBoundAt}
 use Rattle.shape_bins.specs.Numbers.{IsGivenNumber}
 use Rattle.net_extractor.specs.Numbering.{IsNumbering}
 use Rattle.net_extractor.specs.FirstAppearance.{AppearFrom}

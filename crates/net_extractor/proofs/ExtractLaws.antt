@@ -11,11 +11,11 @@ use Rattle.or_geom.specs.ShapeOrder.{shape_order}
 use Rattle.or_geom.proofs.OneListLaws.{not_both}
 use Rattle.or_geom.proofs.ShapeOrderLaws.{shape_total}
 use Rattle.tech_rules.specs.declared.tech.Connect.{Connect}
-use Rattle.net_extractor.specs.declared.label.Anchor.{Anchor}
+use Rattle.label_binding.specs.declared.anchor.Anchor.{Anchor}
 use Rattle.tech_rules.specs.Touch.{IsConductor, Touch}
-use Rattle.net_extractor.specs.Binding.{Binds}
-use Rattle.net_extractor.specs.Bound.{IsBoundAt}
-use Rattle.net_extractor.proofs.PlaceLaws.{at_contained}
+use Rattle.label_binding.specs.Binding.{Binds}
+use Rattle.label_binding.specs.Bound.{IsBoundAt}
+use Rattle.label_binding.proofs.PlaceLaws.{at_contained}
 
 -- in a list in strict order, what stands earlier comes before what stands later
 pub earlier_less : {X : Type 0} (cmp : X → X → Ordering) (xs : List X) (i j : ℕ) (x y : X) → IsStrictlySortedBy cmp xs → i < j → slice_get xs i ≡ Some x → slice_get xs j ≡ Some y → cmp x y ≡ Less

@@ -1,11 +1,9 @@
 pub mod AreaLaws
-pub mod PlaceLaws
 pub mod MappedLaws
 mod GivingLaws
 pub mod NetLaws
 mod LinkLaws
 mod FloodLaws
-mod BindLaws
 mod NumberLaws
 pub mod ExtractLaws
 mod EntryLaws
@@ -19,5 +17,4 @@ mod PathLaws
 mod StrangerLaws
 pub mod DifferenceLaws
 pub mod OneDifferenceLaws
-pub mod OneBindingLaws
 pub mod OneNetLaws

@@ -11,11 +11,12 @@ use Rattle.netlist.specs.declared.rows.RowPin.{RowPin}
 use Rattle.net_extractor.specs.declared.label.NetLabel.{NetLabel}
 use Rattle.net_extractor.specs.PlainNetLabel.{PlainNetLabel}
 use Rattle.net_extractor.specs.PlainNets.{plain_net}
-use Rattle.net_extractor.specs.Difference.{in_lower_case, IsLabelOf, IsLabelled}
+use Rattle.label_binding.specs.LowerCase.{in_lower_case}
+use Rattle.net_extractor.specs.Difference.{IsLabelOf, IsLabelled}
 use Rattle.net_extractor.specs.PinNets.{IsElsewhere, IsPinNet}
 use Rattle.net_extractor.specs.KeyPlaces.{same_bytes, first_place, path_name_key, label_key_with, label_key, pin_key, IsMixedAt, AreMixed, KeepsMarks, IsOnNetAt, IsFirstFor}
 use Rattle.or_geom.proofs.NamePlaceLaws.{same_self}
-use Rattle.net_extractor.proofs.PlaceLaws.{at_contained}
+use Rattle.label_binding.proofs.PlaceLaws.{at_contained}
 use Rattle.net_extractor.proofs.MappedLaws.{mapped_at}
 
 -- a bound label of a pin has its key

@@ -11,7 +11,7 @@ use Rattle.tech_rules.specs.Linked.{LeadsBy}
 use Rattle.tech_rules.specs.Net.{AreOnOneNet}
 use Rattle.tech_rules.proofs.LinkedLaws.{linked_itself, linked_on, linked_further, linked_back}
 use Rattle.net_extractor.specs.Flood.{IsSpread}
-use Rattle.net_extractor.proofs.PlaceLaws.{at_contained}
+use Rattle.label_binding.proofs.PlaceLaws.{at_contained}
 use Rattle.net_extractor.proofs.ExtractLaws.{touch_turned, distinct}
 
 pub net_of_itself : (connections : List Connect) (shapes : List Shape) (s : Shape) → AreOnOneNet connections shapes s s

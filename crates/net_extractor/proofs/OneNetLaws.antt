@@ -7,13 +7,13 @@ use Rattle.or_geom.proofs.ListLaws.{contained_at}
 use Rattle.or_geom.proofs.NumberingLaws.{one_by, Follows, one_number}
 use Rattle.element_drawing.specs.PlainLabel.{PlainLabel}
 use Rattle.tech_rules.specs.declared.tech.Connect.{Connect}
-use Rattle.net_extractor.specs.declared.label.Anchor.{Anchor}
+use Rattle.label_binding.specs.declared.anchor.Anchor.{Anchor}
 use Rattle.net_extractor.specs.PlainNetLabel.{PlainNetLabel}
-use Rattle.net_extractor.specs.Binding.{Binds, BindsNone}
+use Rattle.label_binding.specs.Binding.{Binds, BindsNone}
 use Rattle.net_extractor.specs.Extraction.{label_of, anchor_of, AreNetsUnder}
 use Rattle.net_extractor.specs.FirstAppearance.{AppearFrom}
 use Rattle.net_extractor.specs.OneAnswer.{NetsAreUnique}
-use Rattle.net_extractor.proofs.OneBindingLaws.{binds_some}
+use Rattle.label_binding.proofs.OneBindingLaws.{binds_some}
 
 -- the place has this number
 abbrev HasNumber : List (Option ℕ) → ℕ → ℕ → Type 0

@@ -7,10 +7,11 @@ use Rattle.or_geom.proofs.GatheringLaws.{some_has, who_has}
 use Rattle.netlist.specs.declared.rows.RowPin.{RowPin}
 use Rattle.net_extractor.specs.declared.label.NetLabel.{NetLabel}
 use Rattle.net_extractor.specs.PlainNets.{plain_net}
-use Rattle.net_extractor.specs.Difference.{in_lower_case, IsPlacedBy, IsStranger}
+use Rattle.label_binding.specs.LowerCase.{in_lower_case}
+use Rattle.net_extractor.specs.Difference.{IsPlacedBy, IsStranger}
 use Rattle.net_extractor.specs.FirstDifference.{AreNoStrangers, IsStrangerAt}
 use Rattle.net_extractor.proofs.MappedLaws.{mapped_at, unmapped_at}
-use Rattle.net_extractor.proofs.PlaceLaws.{each_more}
+use Rattle.label_binding.proofs.PlaceLaws.{each_more}
 
 -- no label before the place is a stranger
 abbrev pub AreNoneBefore : List NetLabel → List RowPin → ℕ → Type 0

@@ -1,11 +1,8 @@
 -- When labels and rows do not differ.
-use Rattle.std.specs.Prelude.{◌≡◌, ◌≢◌, ◌↔◌, ◌⊎◌, ℕ, List, [], ◌∷◌, ◌++◌, Contains, Some, map}
-use Rattle.std.specs.Char.{to_ascii_lowercase}
+use Rattle.std.specs.Prelude.{◌≡◌, ◌≢◌, ◌↔◌, ◌⊎◌, ℕ, List, [], ◌∷◌, ◌++◌, Contains, Some}
 use Rattle.netlist.specs.declared.rows.RowPin.{RowPin}
+use Rattle.label_binding.specs.LowerCase.{in_lower_case}
 use Rattle.net_extractor.specs.PlainNetLabel.{PlainNetLabel}
-
-abbrev pub in_lower_case : List ℕ → List ℕ
-in_lower_case text = map to_ascii_lowercase text
 
 -- the label has, in lower case, the pin's path and name
 pub record IsLabelOf (pin : RowPin) (label : PlainNetLabel) : Type 0 where

@@ -3,11 +3,11 @@ use Rattle.std.specs.Prelude.{◌≡◌, ℕ, List, Option, Some, None}
 use Rattle.or_geom.specs.declared.shape.Shape.{Shape}
 use Rattle.element_drawing.specs.PlainLabel.{PlainLabel}
 use Rattle.tech_rules.specs.declared.tech.Connect.{Connect}
-use Rattle.net_extractor.specs.declared.label.Anchor.{Anchor}
+use Rattle.label_binding.specs.declared.anchor.Anchor.{Anchor}
 use Rattle.net_extractor.specs.PlainNetLabel.{PlainNetLabel}
 use Rattle.net_extractor.specs.declared.numbering.Numbering.{Numbering}
-use Rattle.net_extractor.specs.Binding.{BindsNone}
-use Rattle.net_extractor.specs.Bound.{IsBoundAt}
+use Rattle.label_binding.specs.Binding.{BindsNone}
+use Rattle.label_binding.specs.Bound.{IsBoundAt}
 use Rattle.net_extractor.specs.Numbering.{Numbers}
 
 -- the label with its net

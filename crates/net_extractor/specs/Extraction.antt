@@ -4,9 +4,9 @@ use Rattle.or_geom.specs.declared.shape.Shape.{Shape}
 use Rattle.tech_rules.specs.declared.tech.Connect.{Connect}
 use Rattle.tech_rules.specs.declared.tech.Tech.{Tech}
 use Rattle.element_drawing.specs.PlainLabel.{PlainLabel}
-use Rattle.net_extractor.specs.declared.label.Anchor.{Anchor}
+use Rattle.label_binding.specs.declared.anchor.Anchor.{Anchor}
 use Rattle.net_extractor.specs.PlainNetLabel.{PlainNetLabel}
-use Rattle.net_extractor.specs.Binding.{Binds, BindsNone}
+use Rattle.label_binding.specs.Binding.{Binds, BindsNone}
 use Rattle.net_extractor.specs.FirstAppearance.{AreNumberedInOrder}
 use Rattle.tech_rules.specs.Net.{AreOnOneNet}
 

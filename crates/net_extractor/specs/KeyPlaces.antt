@@ -6,7 +6,7 @@ use Rattle.indexmap.specs.IndexMap.{get_by}
 use Rattle.netlist.specs.declared.rows.RowPin.{RowPin}
 use Rattle.net_extractor.specs.declared.key_places.KeyPlaces.{KeyPlaces}
 use Rattle.net_extractor.specs.PlainNetLabel.{PlainNetLabel}
-use Rattle.net_extractor.specs.Difference.{in_lower_case}
+use Rattle.label_binding.specs.LowerCase.{in_lower_case}
 
 -- they are of the same bytes
 abbrev pub same_bytes : List ℕ → List ℕ → Bool

@@ -1,13 +1,11 @@
 pub mod PlainNetLabel
 pub mod PlainNets
-pub mod Binding
 pub mod FirstAppearance
 pub mod Extraction
 pub mod ShapeNets
 pub mod Contacts
 pub mod Links
 pub mod Flood
-pub mod Bound
 pub mod Numbering
 pub mod Entries
 pub mod Difference

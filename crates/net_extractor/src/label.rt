@@ -1,12 +1,5 @@
 use cell_hierarchy::Label;
-use or_geom::{Items, Point};
-
-/// Where a label stands: the index of its layer in the technology's list, and its point in nanometres.
-#[derive(Clone, Copy)]
-pub struct Anchor {
-    pub layer: u16,
-    pub at: Point,
-}
+use or_geom::Items;
 
 /// A label of the flat layout and its net, if it binds a shape. The label stays where it lies: a layout has millions.
 #[derive(Clone, Copy, Debug)]

@@ -1,7 +1,6 @@
 //! Which shapes and labels of a layout are on one net, and what labels and a netlist differ in.
 #![tactic(auto)]
 
-mod bind;
 mod comparison;
 mod conflicts;
 mod difference;
@@ -17,10 +16,9 @@ mod numbering;
 mod pins;
 mod strangers;
 
-pub use bind::bound_shape;
 pub use comparison::compare;
 pub use difference::{NetDiff, PinName};
-pub use label::{Anchor, NetLabel, Nets};
+pub use label::{NetLabel, Nets};
 pub use laws::{differences_are_unique, differences_exclude_alike, nets_are_unique};
 pub use net_numbers::shape_nets;
 pub use nets::extract;

@@ -7,11 +7,11 @@ ghost use Rattle.net_extractor.specs.Extraction.{AreNets, AreNetsUnder};
 ghost use Rattle.net_extractor.specs.Numbering.{IsNumbering};
 ghost use Rattle.net_extractor.specs.PlainNets.{plain_net};
 
-use crate::bind::bound_shape;
 use crate::flood::Scratch;
-use crate::label::{Anchor, NetLabel, Nets};
+use crate::label::{NetLabel, Nets};
 use crate::numbering::{Numbering, number_at};
 use cell_hierarchy::{Flat, Label};
+use label_binding::{Anchor, bound_shape};
 use or_geom::{Items, Memory};
 use shape_bins::{Bins, ShapeNumbers};
 use std::alloc::Global;

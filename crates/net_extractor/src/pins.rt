@@ -1,6 +1,7 @@
 ghost use Rattle.std.specs.Prelude.{◌≡◌, ◌↔◌, ℕ, List, map, Some, IsTrue, IfOk, MatchOption};
 ghost use Rattle.or_geom.specs.Gathering.{SomeHas};
-ghost use Rattle.net_extractor.specs.Difference.{in_lower_case, HasNet, IsLabelOf, IsLabelled};
+ghost use Rattle.label_binding.specs.LowerCase.{in_lower_case};
+ghost use Rattle.net_extractor.specs.Difference.{HasNet, IsLabelOf, IsLabelled};
 ghost use Rattle.net_extractor.specs.KeyPlaces.{AreMixed, first_place, label_key, pin_key, place_under};
 ghost use Rattle.net_extractor.specs.PinNets.{IsElsewhere, IsPinNet, IsPinNets};
 ghost use Rattle.net_extractor.specs.PlainNets.{plain_net};

@@ -1,5 +1,6 @@
 ghost use Rattle.std.specs.Prelude.{◌≡◌, ◌≢◌, ◌++◌, ◌↔◌, ℕ, List, map, IsTrue, IfOk, MatchOption};
-ghost use Rattle.net_extractor.specs.Difference.{in_lower_case, IsAbove, IsOnOnePath};
+ghost use Rattle.label_binding.specs.LowerCase.{in_lower_case};
+ghost use Rattle.net_extractor.specs.Difference.{IsAbove, IsOnOnePath};
 ghost use Rattle.net_extractor.specs.FirstDifference.{AreNoStrangers, IsStrangerAt};
 ghost use Rattle.net_extractor.specs.PlainNets.{plain_net};
 ghost use Rattle.net_extractor.specs.Strangers.{IsLeafPath};

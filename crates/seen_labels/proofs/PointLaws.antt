@@ -6,8 +6,8 @@ use Rattle.or_geom.specs.declared.shape.Shape.{Shape}
 use Rattle.or_geom.specs.Joined.{IsIn}
 use Rattle.tech_rules.specs.declared.tech.Connect.{Connect}
 use Rattle.tech_rules.specs.Touch.{IsConductor, Touch}
-use Rattle.net_extractor.specs.declared.label.Anchor.{Anchor}
-use Rattle.net_extractor.specs.Binding.{IsUnder, Binds}
+use Rattle.label_binding.specs.declared.anchor.Anchor.{Anchor}
+use Rattle.label_binding.specs.Binding.{IsUnder, Binds}
 use Rattle.told_nets.proofs.PointLaws.{west_first, both_west, both_east}
 
 -- What a label binds begins no further east than whatever lies under it.

@@ -17,7 +17,7 @@ use Rattle.tech_rules.proofs.LinkedLaws.{linked_next}
 use Rattle.element_drawing.specs.PlainLabel.{PlainLabel}
 use Rattle.cell_hierarchy.specs.Plain.{FlatLists}
 use Rattle.cell_hierarchy.specs.FlatSet.{IsMoved}
-use Rattle.net_extractor.specs.Binding.{Binds}
+use Rattle.label_binding.specs.Binding.{Binds}
 use Rattle.leaf_shapes.specs.Candidates.{IsLabelOfPin, anchor_at}
 use Rattle.sram_netlist.specs.Nets.{Net}
 use Rattle.sram_netlist.specs.Netlist.{role, ports}

@@ -16,9 +16,9 @@ use Rattle.tech_rules.specs.Touch.{Touch}
 use Rattle.element_drawing.specs.PlainLabel.{PlainLabel}
 use Rattle.cell_hierarchy.specs.Plain.{FlatLists}
 use Rattle.cell_hierarchy.specs.FlatSet.{IsMoved}
-use Rattle.net_extractor.specs.declared.label.Anchor.{Anchor}
-use Rattle.net_extractor.specs.Binding.{Binds}
-use Rattle.net_extractor.proofs.OneBindingLaws.{binds_some}
+use Rattle.label_binding.specs.declared.anchor.Anchor.{Anchor}
+use Rattle.label_binding.specs.Binding.{Binds}
+use Rattle.label_binding.proofs.OneBindingLaws.{binds_some}
 use Rattle.leaf_shapes.specs.Candidates.{IsLabelOfPin, anchor_at}
 use Rattle.local_report.specs.Moved as moved
 use Rattle.good_places.specs.Beside.{moved_place}

@@ -12,9 +12,9 @@ use Rattle.tech_rules.specs.Net.{AreOnOneNet}
 use Rattle.cell_hierarchy.specs.Plain.{FlatLists}
 use Rattle.channel_router.specs.Wires.{track_y}
 use Rattle.channel_router.proofs.PinLaws.{pin_right}
-use Rattle.net_extractor.specs.declared.label.Anchor.{Anchor}
-use Rattle.net_extractor.specs.Binding.{Binds}
-use Rattle.net_extractor.proofs.OneBindingLaws.{binds_some}
+use Rattle.label_binding.specs.declared.anchor.Anchor.{Anchor}
+use Rattle.label_binding.specs.Binding.{Binds}
+use Rattle.label_binding.proofs.OneBindingLaws.{binds_some}
 use Rattle.sram_netlist.specs.Nets.{Net, Vdd, Gnd}
 use Rattle.macro_layout.specs.Floorplan.{upper_y}
 use Rattle.macro_layout.specs.Pins.{port_nets}

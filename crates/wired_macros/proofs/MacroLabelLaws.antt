@@ -14,10 +14,10 @@ use Rattle.cell_builder.specs.declared.cell.PlacedLabel.{PlacedLabel}
 use Rattle.cell_hierarchy.specs.Plain.{FlatLists}
 use Rattle.cell_hierarchy.specs.FlatSet.{path_under}
 use Rattle.channel_router.specs.Wires.{track_y}
-use Rattle.net_extractor.specs.declared.label.Anchor.{Anchor}
+use Rattle.label_binding.specs.declared.anchor.Anchor.{Anchor}
 use Rattle.net_extractor.specs.PlainNetLabel.{PlainNetLabel}
-use Rattle.net_extractor.specs.Binding.{Binds}
-use Rattle.net_extractor.specs.Difference.{in_lower_case}
+use Rattle.label_binding.specs.Binding.{Binds}
+use Rattle.label_binding.specs.LowerCase.{in_lower_case}
 use Rattle.net_extractor.specs.Extraction.{label_of, anchor_of, AreNetsUnder}
 use Rattle.sram_netlist.specs.Nets.{Net, Vdd, Gnd}
 use Rattle.sram_netlist.specs.Names.{net_name, leaf_path}

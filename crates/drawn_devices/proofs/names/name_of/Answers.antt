@@ -5,7 +5,7 @@ use Rattle.std.proofs.lemmas.List.{nil_from_length}
 use Rattle.std.proofs.lemmas.Option.{slice_get_within, slice_get-get_or}
 use Rattle.cell_hierarchy.specs.Plain.{plain_label}
 use Rattle.tech_rules.specs.declared.tech.Device.{Device}
-use Rattle.net_extractor.specs.Difference.{in_lower_case}
+use Rattle.label_binding.specs.LowerCase.{in_lower_case}
 use Rattle.drawn_devices.specs.Diffusion.{IsActive}
 use Rattle.drawn_devices.proofs.NameLaws.{no_name, unbound_name, bound_name}
 use Rattle.drawn_devices.proofs.names.name_of.Goals as goal

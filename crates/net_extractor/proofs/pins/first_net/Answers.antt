@@ -4,7 +4,7 @@ use Rattle.net_extractor.specs.PlainNetLabel.{PlainNetLabel}
 use Rattle.net_extractor.specs.PlainNets.{plain_net}
 use Rattle.net_extractor.specs.Difference.{IsLabelOf}
 use Rattle.net_extractor.proofs.MappedLaws.{unmapped_at}
-use Rattle.net_extractor.proofs.PlaceLaws.{at_contained}
+use Rattle.label_binding.proofs.PlaceLaws.{at_contained}
 use Rattle.net_extractor.proofs.pins.first_net.Goals as goal
 
 pub returns : goal.returns

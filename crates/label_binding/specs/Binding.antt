@@ -4,7 +4,7 @@ use Rattle.std.specs.declared.cmp.Ordering.TheVariants.{Less}
 use Rattle.or_geom.specs.declared.shape.Shape.{Shape}
 use Rattle.or_geom.specs.Joined.{IsIn}
 use Rattle.or_geom.specs.ShapeOrder.{shape_order}
-use Rattle.net_extractor.specs.declared.label.Anchor.{Anchor}
+use Rattle.label_binding.specs.declared.anchor.Anchor.{Anchor}
 
 -- the shape is on the label's layer, and its closed box contains the label's point
 pub record IsUnder (label : Anchor) (shape : Shape) : Type 0 where

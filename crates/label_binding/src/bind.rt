@@ -1,8 +1,8 @@
 ghost use Rattle.std.specs.Prelude.{MatchOption};
-ghost use Rattle.net_extractor.specs.Binding.{BindsNone};
-ghost use Rattle.net_extractor.specs.Bound.{IsBoundAt};
+ghost use Rattle.label_binding.specs.Binding.{BindsNone};
+ghost use Rattle.label_binding.specs.Bound.{IsBoundAt};
 
-use crate::label::Anchor;
+use crate::anchor::Anchor;
 use shape_bins::Bins;
 
 /// The index of the shape that a label binds: the first shape of its layer whose closed box contains its point.

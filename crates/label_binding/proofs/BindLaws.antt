@@ -4,10 +4,10 @@ use Rattle.std.specs.Prelude.{MatchOption}
 use Rattle.or_geom.specs.declared.shape.Shape.{Shape}
 use Rattle.shape_bins.specs.declared.query.Query.TheVariants.{At}
 use Rattle.shape_bins.specs.Hits.{NoHitFrom, IsFirstHit}
-use Rattle.net_extractor.specs.declared.label.Anchor.{Anchor}
-use Rattle.net_extractor.specs.Binding.{BindsNone}
-use Rattle.net_extractor.specs.Bound.{IsBoundAt}
-use Rattle.net_extractor.proofs.PlaceLaws.{at_contained}
+use Rattle.label_binding.specs.declared.anchor.Anchor.{Anchor}
+use Rattle.label_binding.specs.Binding.{BindsNone}
+use Rattle.label_binding.specs.Bound.{IsBoundAt}
+use Rattle.label_binding.proofs.PlaceLaws.{at_contained}
 
 pub bound : (shapes : List Shape) (label : Anchor) (found : Option ℕ) → MatchOption found (NoHitFrom shapes label.layer (At label.at) 0) (IsFirstHit shapes label.layer (At label.at) 0)
     → MatchOption found (BindsNone shapes label) (IsBoundAt shapes label)

@@ -1,8 +1,8 @@
 -- The place of the shape that a label binds.
 use Rattle.std.specs.Prelude.{◌≡◌, ℕ, ◌<◌, List, slice_get, Some}
 use Rattle.or_geom.specs.declared.shape.Shape.{Shape}
-use Rattle.net_extractor.specs.declared.label.Anchor.{Anchor}
-use Rattle.net_extractor.specs.Binding.{IsUnder}
+use Rattle.label_binding.specs.declared.anchor.Anchor.{Anchor}
+use Rattle.label_binding.specs.Binding.{IsUnder}
 
 -- the shape at this place is the first of the list that lies under the label
 pub record IsBoundAt (shapes : List Shape) (label : Anchor) (place : ℕ) : Type 0 where

@@ -12,8 +12,8 @@ use Rattle.or_geom.proofs.ListLaws.{contains_none, contains_cases, contains_firs
 use Rattle.or_geom.specs.ShapeOrder.{shape_order}
 use Rattle.or_geom.proofs.OneListLaws.{not_both}
 use Rattle.or_geom.proofs.ShapeOrderLaws.{shape_total}
-use Rattle.net_extractor.specs.declared.label.Anchor.{Anchor}
-use Rattle.net_extractor.specs.Binding.{IsUnder, Binds, BindsNone}
+use Rattle.label_binding.specs.declared.anchor.Anchor.{Anchor}
+use Rattle.label_binding.specs.Binding.{IsUnder, Binds, BindsNone}
 
 -- a point lies in a closed box, or it doesn't
 cases_in : (r : Rect) (p : Point) → IsIn r p ⊎ (IsIn r p → ⊥)

@@ -1,5 +1,5 @@
-use Rattle.net_extractor.proofs.BindLaws.{bound}
-use Rattle.net_extractor.proofs.bind.bound_shape.Goals as goal
+use Rattle.label_binding.proofs.BindLaws.{bound}
+use Rattle.label_binding.proofs.bind.bound_shape.Goals as goal
 
 pub returns : goal.returns
 returns c = bound c.args.bins.now c.args.label c.first_at.result c.first_at.ensures

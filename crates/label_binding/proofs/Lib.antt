@@ -1,0 +1,3 @@
+pub mod PlaceLaws
+mod BindLaws
+pub mod OneBindingLaws
