@@ -9,3 +9,4 @@ pub mod ContactLaws
 pub mod ShareLaws
 pub mod WeakLaws
 pub mod FirstLaws
+pub mod ShortLaws
