@@ -1,12 +1,11 @@
 -- A kit that passes the short check is a good one.
-use Rattle.std.proofs.Common.{◌≡◌, inl, inr, ℕ, List, Some, Result, Ok, Err, refl, sym, subst}
-use Rattle.std.specs.Prelude.{Contains, slice_get}
+use Rattle.std.proofs.Common.{inl, inr, ℕ, List, Result, Ok, Err, refl, sym, subst}
+use Rattle.std.specs.Prelude.{Contains}
 use Rattle.or_geom.proofs.ListLaws.{contained_at}
 use Rattle.gds_library.specs.declared.library.Library.{Library}
 use Rattle.netlist.specs.declared.deck.Deck.{Deck}
 use Rattle.netlist.specs.declared.rows.RowPin.{RowPin}
 use Rattle.spice_netlist.specs.Faults.{AreFlatRows}
-use Rattle.cell_hierarchy.specs.Plain.{FlatLists}
 use Rattle.port_lists.specs.Held.Held.{Stored}
 use Rattle.sram_plan.specs.PlanNumbers.{organization}
 use Rattle.leaf_tables.specs.declared.kit.Kit.{Kit}
