@@ -18,7 +18,7 @@ use Rattle.kit_check.specs.Short.{IsShortlySound}
 use Rattle.macro_maker.specs.Assembled.{IsAssembled}
 use Rattle.good_places.specs.Windows.{IsWindowOf}
 
--- a macro of the memory, which is a window's: it is in order wherever the short check looks
+-- a macro of the memory, which is a listed window's: it is in order wherever the short check looks
 pub record HasShortWindow (kit : Kit) (memory : Organization) : Type 0 where
   pub plan : Plan
   pub is : organization plan ≡ memory
@@ -28,7 +28,7 @@ pub record HasShortWindow (kit : Kit) (memory : Organization) : Type 0 where
   pub made : IsMacro kit plan Stored name macro
   pub sound : IsShortlySound kit name (organization plan) macro.lib macro.deck
 
--- nothing is wrong with it
+-- a macro of the memory, which is a window's: nothing is wrong with it
 pub record HasSoundWindow (kit : Kit) (memory : Organization) : Type 0 where
   pub plan : Plan
   pub is : organization plan ≡ memory
