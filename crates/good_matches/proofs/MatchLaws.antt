@@ -1,5 +1,5 @@
 -- For a good kit the labels of each macro are joined as its netlist says.
-use Rattle.std.proofs.Common.{◌∙◌, ℕ, List, ◌++◌, sym, ap, subst}
+use Rattle.std.proofs.Common.{ℕ, List, ◌++◌, subst}
 use Rattle.gds_library.specs.declared.library.Library.{Library}
 use Rattle.netlist.specs.declared.deck.Deck.{Deck}
 use Rattle.netlist.specs.declared.rows.RowPin.{RowPin}
@@ -13,10 +13,7 @@ use Rattle.net_extractor.proofs.DifferenceLaws.{differs}
 use Rattle.sram_netlist.specs.Netlist.{role}
 use Rattle.sram_netlist.specs.Numbers.{ArePlanNumbers}
 use Rattle.sram_netlist.specs.Organization.{IsWritten}
-use Rattle.sram_plan.specs.declared.config.Config.{Config}
 use Rattle.sram_plan.specs.declared.numbers.Plan.{Plan}
-use Rattle.sram_plan.specs.Config.{IsConfig}
-use Rattle.sram_plan.specs.Plan.{IsPlanOf, row_groups}
 use Rattle.sram_plan.specs.PlanNumbers.{numbers_of, organization}
 use Rattle.sram_plan.proofs.PlanLaws.{plan_numbers}
 use Rattle.port_lists.specs.Held.Held.{Stored}
@@ -26,12 +23,14 @@ use Rattle.floorplan.specs.LayoutOfKit.{layout_kit}
 use Rattle.sram_macro.specs.declared.assembly.Macro.{Macro}
 use Rattle.sram_macro.specs.Macro.{IsMacro}
 use Rattle.kit_rules.specs.Reach.{reach_with}
-use Rattle.kit_check.specs.Good.{IsGoodKit}
 use Rattle.kit_check.specs.Makers.{role_cells}
+use Rattle.kit_check.specs.Short.{PassesShortCheck}
+use Rattle.kit_check.proofs.ShortLaws.{good_is_short}
 use Rattle.macro_maker.specs.Assembled.{IsAssembled}
 use Rattle.good_nets.specs.Parts.{AreSeen}
-use Rattle.good_reports.proofs.ReportLaws.{written_plan, some_written}
+use Rattle.good_reports.proofs.ReportLaws.{written_plan, written_of_rows}
 use Rattle.clean_windows.specs.Sound.{IsWrittenOfRows}
+use Rattle.good_places.specs.Windows.{IsWrittenPlan}
 use Rattle.drawn_memories.specs.Drawn.{IsDrawnMacro}
 use Rattle.drawn_memories.proofs.DrawnLaws.{macros_are_drawn}
 use Rattle.drawn_memories.proofs.LayerLaws.{are_first_layers}
@@ -53,10 +52,13 @@ use Rattle.good_matches.specs.Matches.{MatchesNetlist, GoodKitsMatch}
 use Rattle.good_matches.proofs.SourceLaws.{overhang, only, seen_source, shapes_pass, shapes_inside}
 use Rattle.good_matches.proofs.WindowLaws.{rows_equal_of, seen_window}
 
-module _ (kit : Kit) (config : Config) (plan : Plan) (name : List ℕ) (is : IsKit kit) (good : IsGoodKit IsAssembled kit)
-    (is_config : IsConfig config) (of : IsPlanOf config plan) (numbers : ArePlanNumbers (numbers_of plan)) where
+-- A plan whose memory is written, for a kit that passes the short check.
+module _ (kit : Kit) (plan : Plan) (name : List ℕ) (is : IsKit kit) (good : PassesShortCheck IsAssembled kit) (planned : IsWrittenOfRows plan) (words : IsWrittenPlan (organization plan)) where
+  numbers : ArePlanNumbers (numbers_of plan)
+  numbers = planned.numbers
+
   written : IsWritten (organization plan)
-  written = some_written config plan is_config of
+  written = planned.written
 
   module _ (m : Macro) (lists : FlatLists) (made : IsMacro kit plan Stored name m) (flat : AreFlatLists kit.tech.layers m.lib.structs name lists) where
     drawn : IsDrawnMacro kit (organization plan) is.wire lists
@@ -64,9 +66,7 @@ module _ (kit : Kit) (config : Config) (plan : Plan) (name : List ℕ) (is : IsK
 
     -- its small memory
     window : HasSeenWindow kit.tech.connects (kit_source kit is good.pins (organization plan) numbers.plan written lists drawn)
-    window =
-        let planned : IsWrittenOfRows plan = record { numbers = numbers; groups = of.with.groups ∙ ap row_groups (sym of.with.rows); written = written } in
-        seen_window kit is good plan planned (written_plan config plan is_config of numbers) made.wide drawn.tracks drawn.floorplan
+    window = seen_window kit is good plan planned words made.wide drawn.tracks drawn.floorplan
 
     -- whatever touches of the macro's parts is seen in it
     seen : AreSeen kit.tech.connects (stated_parts (kit_source kit is good.pins (organization plan) numbers.plan written lists drawn))
@@ -111,4 +111,5 @@ module _ (kit : Kit) (config : Config) (plan : Plan) (name : List ℕ) (is : IsK
   }
 
 pub good_kits_match : GoodKitsMatch
-good_kits_match kit config plan name is good is_config of = matches_netlist kit config plan name is good is_config of (plan_numbers config plan is_config of)
+good_kits_match kit config plan name is good is_config of =
+    matches_netlist kit plan name is (good_is_short IsAssembled kit good) (written_of_rows config plan is_config of) (written_plan config plan is_config of (plan_numbers config plan is_config of))

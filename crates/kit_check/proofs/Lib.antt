@@ -10,3 +10,4 @@ pub mod ShareLaws
 pub mod WeakLaws
 pub mod FirstLaws
 pub mod ShortShareLaws
+pub mod ShortLaws
