@@ -1,1 +1,2 @@
 pub mod OneReplyLaws
+mod GoodLaws
