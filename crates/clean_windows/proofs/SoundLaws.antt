@@ -17,7 +17,7 @@ use Rattle.floorplan.specs.LayoutOfKit.{layout_kit}
 use Rattle.port_data.specs.Column.{AreWideSlices}
 use Rattle.kit_check.specs.declared.window.Window.{Window}
 use Rattle.kit_check.specs.Windows.{all_windows, plan_of, window_rows}
-use Rattle.kit_check.specs.Short.{AreRulesLookedAt, IsShortlySound, IsShortAnswer, PassesShortCheck}
+use Rattle.kit_check.specs.Short.{AreRulesLookedAt, IsShortlySound, IsPassingAnswer, PassesShortCheck}
 use Rattle.kit_check.proofs.ShortLaws.{good_is_short, looked_at_is_faultless}
 use Rattle.kit_check.proofs.WindowLaws.{are_planned}
 use Rattle.macro_maker.specs.Assembled.{IsAssembled}
@@ -30,7 +30,7 @@ use Rattle.good_windows.specs.Listed.{IsPlanOfWindow}
 use Rattle.clean_windows.specs.Sound.{HasShortWindow, HasSoundWindow, IsWrittenOfRows, GoodKitsHaveCleanWindows}
 
 -- an answer in order is a macro, where cells aren't too wide
-sound : (kit : Kit) (window : Window) (name : List ℕ) (wire : Wire) (answer : Result (Library × Deck) PartFault) → Contains all_windows window → kit.tech.wire ≡ Some wire → AreWideSlices (organization (plan_of window)) (layout_kit kit) → IsAssembled kit (plan_of window) name answer → IsShortAnswer kit name (organization (plan_of window)) answer
+sound : (kit : Kit) (window : Window) (name : List ℕ) (wire : Wire) (answer : Result (Library × Deck) PartFault) → Contains all_windows window → kit.tech.wire ≡ Some wire → AreWideSlices (organization (plan_of window)) (layout_kit kit) → IsAssembled kit (plan_of window) name answer → IsPassingAnswer kit name (organization (plan_of window)) answer
     → HasShortWindow kit (organization (plan_of window))
 sound kit window name wire (Ok made) listed wired wide (m, is, e) short = record {
   plan = plan_of window;

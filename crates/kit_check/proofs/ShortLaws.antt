@@ -11,7 +11,7 @@ use Rattle.kit_check.specs.declared.window.Window.{Window}
 use Rattle.kit_check.specs.Windows.{plan_of}
 use Rattle.kit_check.specs.Judged.{IsFaultlessMacro, IsSoundAnswer}
 use Rattle.kit_check.specs.Good.{Answers, IsWindowGood, IsGoodKit}
-use Rattle.kit_check.specs.Short.{AreRulesLookedAt, IsShortlySound, IsShortAnswer, PassesShortly, PassesShortCheck}
+use Rattle.kit_check.specs.Short.{AreRulesLookedAt, IsShortlySound, IsPassingAnswer, PassesShortly, PassesShortCheck}
 
 -- a macro with which nothing is wrong is in order wherever it is looked at
 pub faultless_is_sound : (kit : Kit) (name : List ℕ) (memory : Organization) (lib : Library) (deck : Deck) → IsFaultlessMacro kit name lib deck → IsShortlySound kit name memory lib deck
@@ -24,7 +24,7 @@ pub looked_at_is_faultless : (kit : Kit) (name : List ℕ) (memory : Organizatio
 looked_at_is_faultless kit name memory lib deck looked is =
     record { matching = record { lists = is.lists; clean = record { flat = is.flat; clean = is.clean looked }; matching = is.matching looked.few }; apart = is.apart }
 
-sound_is_short : (kit : Kit) (name : List ℕ) (memory : Organization) (answer : Result (Library × Deck) PartFault) → IsSoundAnswer kit name answer → IsShortAnswer kit name memory answer
+sound_is_short : (kit : Kit) (name : List ℕ) (memory : Organization) (answer : Result (Library × Deck) PartFault) → IsSoundAnswer kit name answer → IsPassingAnswer kit name memory answer
 sound_is_short kit name memory (Ok made) is = faultless_is_sound kit name memory made.0 made.1 is
 sound_is_short kit name memory (Err (part_fault.SliceTooNarrow role)) is = tt
 sound_is_short kit name memory (Err (part_fault.Close side a b)) is = is

@@ -38,16 +38,16 @@ pub record IsShortlySound (kit : Kit) (name : List ℕ) (memory : Organization) 
   pub apart : TouchesOutside kit name lib.structs → ⊥
 
 -- an answer is such a macro, or cells that are too wide for the columns of a bit
-abbrev pub IsShortAnswer : Kit → List ℕ → Organization → Result (Library × Deck) PartFault → Type 0
-IsShortAnswer kit name memory (Ok made) = IsShortlySound kit name memory made.0 made.1
-IsShortAnswer kit name memory (Err (part_fault.SliceTooNarrow role)) = Unit {0}
-IsShortAnswer kit name memory (Err fault) = ⊥
+abbrev pub IsPassingAnswer : Kit → List ℕ → Organization → Result (Library × Deck) PartFault → Type 0
+IsPassingAnswer kit name memory (Ok made) = IsShortlySound kit name memory made.0 made.1
+IsPassingAnswer kit name memory (Err (part_fault.SliceTooNarrow role)) = Unit {0}
+IsPassingAnswer kit name memory (Err fault) = ⊥
 
 -- the maker's answer for the window is
 pub record PassesShortly (answers : Answers) (kit : Kit) (name : List ℕ) (w : Window) : Type 0 where
   pub answer : Result (Library × Deck) PartFault
   pub is : answers kit (plan_of w) name answer
-  pub sound : IsShortAnswer kit name (organization (plan_of w)) answer
+  pub sound : IsPassingAnswer kit name (organization (plan_of w)) answer
 
 -- each window that is made under the windows' name passes
 pub record AreWindowsShort (answers : Answers) (kit : Kit) : Type 0 where

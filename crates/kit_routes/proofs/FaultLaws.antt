@@ -40,7 +40,7 @@ use Rattle.sram_macro.specs.Layout.{IsMainFault}
 use Rattle.sram_macro.specs.Macro.{IsMacro, IsPartsFault, names_of_macro}
 use Rattle.sram_macro.specs.Names.{first_taken}
 use Rattle.kit_check.specs.Windows.{all_windows, plan_of}
-use Rattle.kit_check.specs.Short.{IsShortAnswer, PassesShortCheck}
+use Rattle.kit_check.specs.Short.{IsPassingAnswer, PassesShortCheck}
 use Rattle.kit_check.proofs.WindowLaws.{are_planned}
 use Rattle.macro_maker.specs.Assembled.{IsAssembled}
 use Rattle.kit_routes.specs.Routes.{IsMacroRefused, AreNamesFree, IsWiderThanBit}
@@ -143,7 +143,7 @@ model_wide plan kit written wide = record { sense = wide.sense; write = λ _. wi
 abbrev IsJudged : Kit → Organization → Wire → Type 0
 IsJudged kit plan wire = IsLaidApart kit plan wire ⊎ (AreWideSlices plan (layout_kit kit) → ⊥)
 
-judged : (kit : Kit) (plan : Plan) (name : List ℕ) (wire : Wire) (answer : Result (Library × Deck) PartFault) → kit.tech.wire ≡ Some wire → IsAssembled kit plan name answer → IsShortAnswer kit name (organization plan) answer → IsJudged kit (organization plan) wire
+judged : (kit : Kit) (plan : Plan) (name : List ℕ) (wire : Wire) (answer : Result (Library × Deck) PartFault) → kit.tech.wire ≡ Some wire → IsAssembled kit plan name answer → IsPassingAnswer kit name (organization plan) answer → IsJudged kit (organization plan) wire
 judged kit plan name wire (Ok made) wired is sound = inl (laid_apart kit plan name wire is.0 wired is.1)
 judged kit plan name wire (Err (part_fault.SliceTooNarrow r)) wired (_, inl taken) sound = absurd taken
 judged kit plan name wire (Err (part_fault.SliceTooNarrow r)) wired (_, inr (free, parts)) sound = inr (not_wide (organization plan) (layout_kit kit) (too_wide kit (organization plan) wire r wired parts))

@@ -19,7 +19,7 @@ use Rattle.kit_check.specs.Windows.{all_windows, plan_of}
 use Rattle.kit_check.specs.Makers.{subckts_with, role_cells}
 use Rattle.kit_check.specs.Judged.{MatchIn, IsFaultlessMacro, IsSoundAnswer}
 use Rattle.kit_check.specs.Good.{IsWindowGood}
-use Rattle.kit_check.specs.Short.{IsShortlySound, IsShortAnswer, PassesShortly, PassesShortCheck}
+use Rattle.kit_check.specs.Short.{IsShortlySound, IsPassingAnswer, PassesShortly, PassesShortCheck}
 use Rattle.kit_check.proofs.WindowLaws.{are_planned, are_small}
 use Rattle.macro_facts.proofs.WholeLaws.{macros_have_rows}
 use Rattle.macro_maker.specs.Assembled.{IsAssembled}
@@ -74,7 +74,7 @@ module _ (kit : Kit) (is : IsKit kit) (short : PassesShortCheck IsAssembled kit)
         apart = sound.apart;
       }
 
-  sound_answer : (answer : Result (Library × Deck) PartFault) → IsAssembled kit (plan_of w) name answer → IsShortAnswer kit name (organization (plan_of w)) answer → IsSoundAnswer kit name answer
+  sound_answer : (answer : Result (Library × Deck) PartFault) → IsAssembled kit (plan_of w) name answer → IsPassingAnswer kit name (organization (plan_of w)) answer → IsSoundAnswer kit name answer
   sound_answer (Ok made) (m, is_macro, e) sound =
       subst (λ (pair : Library × Deck). IsFaultlessMacro kit name pair.0 pair.1) (sym e)
       (faultless m is_macro (subst (λ (pair : Library × Deck). IsShortlySound kit name (organization (plan_of w)) pair.0 pair.1) e sound))
