@@ -6,7 +6,7 @@ use Rattle.netlist.specs.declared.rows.RowPin.{RowPin}
 use Rattle.tech_rules.specs.declared.tech.Tech.{Tech}
 use Rattle.tech_rules.specs.Touch.{Touch}
 use Rattle.cell_hierarchy.specs.Plain.{FlatLists}
-use Rattle.net_extractor.specs.declared.label.NetLabel.{NetLabel}
+use Rattle.net_extractor.specs.PlainNetLabel.{PlainNetLabel}
 use Rattle.net_extractor.specs.Extraction.{AreNetsUnder}
 use Rattle.net_extractor.specs.Difference.{AreAlike}
 use Rattle.sram_netlist.specs.Organization.{words_per_row}
@@ -47,7 +47,7 @@ use Rattle.bound_labels.proofs.OwnLaws.{own_anchored}
 use Rattle.bound_labels.proofs.RowLaws.{row_anchored}
 use Rattle.bound_labels.proofs.SignalLaws.{driver_port}
 
-module _ (tech : Tech) (s : Source) (flat : FlatLists) (d : IsWiredMacro tech s flat) (inside : AreLeavesInside s) (labels : List NetLabel) (nets : AreNetsUnder tech.connects flat.shapes flat.labels labels) (rows : List RowPin) (equal : RowsEqual rows (netlist_pins s.plan s.kit.cell s.bits)) (alike : AreAlike labels rows)
+module _ (tech : Tech) (s : Source) (flat : FlatLists) (d : IsWiredMacro tech s flat) (inside : AreLeavesInside s) (labels : List PlainNetLabel) (nets : AreNetsUnder tech.connects flat.shapes flat.labels labels) (rows : List RowPin) (equal : RowsEqual rows (netlist_pins s.plan s.kit.cell s.bits)) (alike : AreAlike labels rows)
     (apart : (i : Standing s) (inner shape t : Shape) → IsShapeOf tech.connects (stated_parts s) i inner shape → IsFree tech.connects (stated_parts s) i inner → IsOutside tech.connects (stated_parts s) i t → Touch tech.connects shape t → ⊥) where
   abbrev outer : Net → Shape
   outer = (outer_hubs tech s flat d.laid).0

@@ -16,7 +16,7 @@ use Rattle.element_drawing.specs.PlainLabel.{PlainLabel}
 use Rattle.cell_hierarchy.specs.Plain.{FlatLists}
 use Rattle.cell_hierarchy.specs.FlatSet.{IsMoved}
 use Rattle.net_extractor.specs.declared.label.Anchor.{Anchor}
-use Rattle.net_extractor.specs.declared.label.NetLabel.{NetLabel}
+use Rattle.net_extractor.specs.PlainNetLabel.{PlainNetLabel}
 use Rattle.net_extractor.specs.Binding.{IsUnder, Binds}
 use Rattle.net_extractor.proofs.OneBindingLaws.{binds_some}
 use Rattle.leaf_shapes.specs.Candidates.{anchor_at}
@@ -33,7 +33,7 @@ use Rattle.label_nets.specs.Anchored.{IsMatchedMacro, HasLabelOn, IsAnchored}
 use Rattle.label_nets.proofs.AnchorLaws.{one_net, row_at, binds_for}
 use Rattle.told_nets.proofs.PointLaws.{AreOpposite, meet, west_first}
 
-module _ (connections : List Connect) (s : Source) (flat : FlatLists) (labels : List NetLabel) (rows : List RowPin) (hub : Net → Shape) (m : IsMatchedMacro connections s flat labels rows hub) where
+module _ (connections : List Connect) (s : Source) (flat : FlatLists) (labels : List PlainNetLabel) (rows : List RowPin) (hub : Net → Shape) (m : IsMatchedMacro connections s flat labels rows hub) where
   -- The label of the port that binds the inner shape in the cell by itself, its row, and what it binds in the macro.
   pub record IsBoundPort (i : Standing s) (n : Net) (inner shape : Shape) : Type 0 where
     pub label : PlainLabel

@@ -12,7 +12,7 @@ use Rattle.tech_rules.specs.declared.tech.Tech.{Tech}
 use Rattle.tech_rules.specs.Net.{AreOnOneNet}
 use Rattle.cell_hierarchy.specs.Plain.{FlatLists}
 use Rattle.cell_hierarchy.specs.FlatSet.{IsMoved}
-use Rattle.net_extractor.specs.declared.label.NetLabel.{NetLabel}
+use Rattle.net_extractor.specs.PlainNetLabel.{PlainNetLabel}
 use Rattle.sram_netlist.specs.Organization.{Organization, IsGroupSize, IsWritten, total_bits, power_of_two, bank_rows, columns_of, banks_of, words_per_row, inputs_of}
 use Rattle.sram_netlist.specs.Nets.{Net, Zb, Wl}
 use Rattle.sram_netlist.specs.Instances.{LeafInstance, BitAt, NandAt, DriverAt, WriteAt, SenseAt}
@@ -63,7 +63,7 @@ on_bit plan zero b r c lt = refl
 on_bit plan (suc zero) b r c lt = refl
 on_bit plan (suc (suc port)) b r c lt = absurd (omega (arith, lt))
 
-module _ (tech : Tech) (s : Source) (flat : FlatLists) (k : IsLaidMacro tech s flat) (outer : Net → Shape) (labels : List NetLabel) (rows : List RowPin) (m : IsMatchedMacro tech.connects s flat labels rows (array_hub s (data_hub s outer))) where
+module _ (tech : Tech) (s : Source) (flat : FlatLists) (k : IsLaidMacro tech s flat) (outer : Net → Shape) (labels : List PlainNetLabel) (rows : List RowPin) (m : IsMatchedMacro tech.connects s flat labels rows (array_hub s (data_hub s outer))) where
   abbrev H : Net → Shape
   H net = array_hub s (data_hub s outer) net
 

@@ -7,7 +7,7 @@ use Rattle.or_geom.proofs.ListLaws.{contained_at}
 use Rattle.netlist.specs.declared.rows.RowPin.{RowPin}
 use Rattle.tech_rules.specs.declared.tech.Tech.{Tech}
 use Rattle.cell_hierarchy.specs.Plain.{FlatLists}
-use Rattle.net_extractor.specs.declared.label.NetLabel.{NetLabel}
+use Rattle.net_extractor.specs.PlainNetLabel.{PlainNetLabel}
 use Rattle.net_extractor.specs.Extraction.{AreNetsUnder}
 use Rattle.spice_netlist.specs.Numbers.{PinLabel, label_of_row}
 use Rattle.sram_netlist.specs.Organization.{Organization}
@@ -51,7 +51,7 @@ place_of plan net is = by is where
   by (inr (inr ground)) = let at = behind (port_nets plan) supply_nets 1 net (ap (λ (n : Net). Some n) ground) in among at.0 at.1
 
 module _ (tech : Tech) (s : Source) (flat : FlatLists) (d : IsWiredMacro tech s flat) (outer : Net → Shape) (are : AreOuterHubs s d.laid.main outer) (inside : AreLeavesInside s) (texts : AreFirstTextLayers s.layers s.wire) (tell : DoPathsTell s.plan)
-    (labels : List NetLabel) (nets : AreNetsUnder tech.connects flat.shapes flat.labels labels) (rows : List RowPin) (equal : RowsEqual rows (netlist_pins s.plan s.kit.cell s.bits)) where
+    (labels : List PlainNetLabel) (nets : AreNetsUnder tech.connects flat.shapes flat.labels labels) (rows : List RowPin) (equal : RowsEqual rows (netlist_pins s.plan s.kit.cell s.bits)) where
   -- a port of the macro has a row
   macro_row : (net : Net) → IsPortNet s.plan net → (row : RowPin) × IsRowOfMacro s.plan s.kit.cell s.bits rows net row
   macro_row net is =

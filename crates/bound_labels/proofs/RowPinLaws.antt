@@ -15,7 +15,7 @@ use Rattle.cell_hierarchy.specs.Plain.{FlatLists}
 use Rattle.cell_hierarchy.specs.FlatSet.{IsMoved}
 use Rattle.leaf_shapes.specs.declared.demand.Metal.TheVariants.{M2}
 use Rattle.leaf_shapes.specs.declared.fit.Fit.TheVariants.{Top}
-use Rattle.net_extractor.specs.declared.label.NetLabel.{NetLabel}
+use Rattle.net_extractor.specs.PlainNetLabel.{PlainNetLabel}
 use Rattle.sram_netlist.specs.Nets.{Net}
 use Rattle.sram_netlist.specs.Instances.{LogicCell, LogicAt}
 use Rattle.sram_netlist.specs.InstanceList.{logic_cells}
@@ -62,7 +62,7 @@ pub record IsInFront (tech : Tech) (s : Source) (before : List LogicCell) (u : S
   pub x : Shape
   pub is : IsShapeOf tech.connects (stated_parts s) j x u
 
-module _ (tech : Tech) (s : Source) (flat : FlatLists) (d : IsWiredMacro tech s flat) (outer : Net → Shape) (are : AreOuterHubs s d.laid.main outer) (inside : AreLeavesInside s) (labels : List NetLabel) (rows : List RowPin) (m : IsMatchedMacro tech.connects s flat labels rows (array_hub s (data_hub s outer))) where
+module _ (tech : Tech) (s : Source) (flat : FlatLists) (d : IsWiredMacro tech s flat) (outer : Net → Shape) (are : AreOuterHubs s d.laid.main outer) (inside : AreLeavesInside s) (labels : List PlainNetLabel) (rows : List RowPin) (m : IsMatchedMacro tech.connects s flat labels rows (array_hub s (data_hub s outer))) where
   abbrev k : IsLaidMacro tech s flat
   k = d.laid
 

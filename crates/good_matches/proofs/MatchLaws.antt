@@ -6,7 +6,7 @@ use Rattle.netlist.specs.declared.rows.RowPin.{RowPin}
 use Rattle.spice_netlist.specs.Faults.{AreFlatRows}
 use Rattle.cell_hierarchy.specs.FlatLists.{AreFlatLists}
 use Rattle.cell_hierarchy.specs.Plain.{FlatLists}
-use Rattle.net_extractor.specs.declared.label.NetLabel.{NetLabel}
+use Rattle.net_extractor.specs.PlainNetLabel.{PlainNetLabel}
 use Rattle.net_extractor.specs.Extraction.{AreNets}
 use Rattle.net_extractor.specs.Difference.{AreAlike}
 use Rattle.net_extractor.proofs.DifferenceLaws.{differs}
@@ -86,7 +86,7 @@ module _ (kit : Kit) (config : Config) (plan : Plan) (name : List ℕ) (is : IsK
         }
 
     -- its labels are joined as its netlist says
-    macro_alike : (labels : List NetLabel) (rows : List RowPin) → AreNets kit.tech lists.shapes lists.labels labels → AreFlatRows (kit.deck.subckts ++ m.deck.subckts) name (role_cells kit) rows → AreAlike labels rows
+    macro_alike : (labels : List PlainNetLabel) (rows : List RowPin) → AreNets kit.tech lists.shapes lists.labels labels → AreFlatRows (kit.deck.subckts ++ m.deck.subckts) name (role_cells kit) rows → AreAlike labels rows
     macro_alike labels rows nets netlist =
         let build = numbers.plan in
         let s = kit_source kit is good.pins (organization plan) build written lists drawn in
@@ -98,7 +98,7 @@ module _ (kit : Kit) (config : Config) (plan : Plan) (name : List ℕ) (is : IsK
         let joined = joined_macro kit.tech s lists wired stays labels nets rows equal (kit_leaves_inside kit is good.pins (organization plan) build written lists drawn) in
         joined_are_alike kit.tech.connects s lists labels rows (hub_of kit.tech s lists wired stays labels nets rows equal) joined (λ leaf. some_port (role s.plan leaf)) seen
 
-  of_made : (m : Macro) (lists : FlatLists) → IsMacro kit plan Stored name m → AreFlatLists kit.tech.layers m.lib.structs name lists → (labels : List NetLabel) (rows : List RowPin) → AreNets kit.tech lists.shapes lists.labels labels → AreFlatRows (kit.deck.subckts ++ m.deck.subckts) name (role_cells kit) rows → AreAlike labels rows
+  of_made : (m : Macro) (lists : FlatLists) → IsMacro kit plan Stored name m → AreFlatLists kit.tech.layers m.lib.structs name lists → (labels : List PlainNetLabel) (rows : List RowPin) → AreNets kit.tech lists.shapes lists.labels labels → AreFlatRows (kit.deck.subckts ++ m.deck.subckts) name (role_cells kit) rows → AreAlike labels rows
   of_made m lists made flat labels rows nets netlist = macro_alike m lists made flat labels rows nets netlist
 
   pub matches_netlist : MatchesNetlist kit plan name

@@ -5,7 +5,7 @@ use Rattle.netlist.specs.declared.deck.Deck.{Deck}
 use Rattle.netlist.specs.declared.rows.RowPin.{RowPin}
 use Rattle.cell_hierarchy.specs.FlatLists.{AreFlatLists}
 use Rattle.cell_hierarchy.specs.Plain.{FlatLists}
-use Rattle.net_extractor.specs.declared.label.NetLabel.{NetLabel}
+use Rattle.net_extractor.specs.PlainNetLabel.{PlainNetLabel}
 use Rattle.net_extractor.specs.declared.difference.NetDiff.{NetDiff}
 use Rattle.net_extractor.specs.Difference.{AreAlike}
 use Rattle.sram_plan.specs.declared.config.Config.{Config}
@@ -24,7 +24,7 @@ use Rattle.kit_command.specs.Assembled.{IsAssembled}
 -- The labels of each macro of the kit and the plan under the name are joined exactly as its netlist says, so that none is refused for a
 -- difference.
 pub record MatchesNetlist (kit : Kit) (plan : Plan) (name : List ℕ) : Type 0 where
-  pub alike : (made : Library × Deck) (lists : FlatLists) (labels : List NetLabel) (rows : List RowPin) → IsAssembled kit plan name (Ok made) → AreFlatLists kit.tech.layers made.0.structs name lists → AreNetsAndRowsOf kit name made.1 lists labels rows → AreAlike labels rows
+  pub alike : (made : Library × Deck) (lists : FlatLists) (labels : List PlainNetLabel) (rows : List RowPin) → IsAssembled kit plan name (Ok made) → AreFlatLists kit.tech.layers made.0.structs name lists → AreNetsAndRowsOf kit name made.1 lists labels rows → AreAlike labels rows
   pub unrefused : (difference : NetDiff) → IsBuildFault kit plan Stored name (build_fault.NetsDiffer difference) → ⊥
 
 -- So it is for a good kit and each plan of a configuration.

@@ -4,7 +4,7 @@ use Rattle.netlist.specs.declared.rows.RowPin.{RowPin}
 use Rattle.cell_roles.specs.declared.role.Role.{Role}
 use Rattle.tech_rules.specs.declared.tech.Wire.{Wire}
 use Rattle.cell_hierarchy.specs.Plain.{FlatLists}
-use Rattle.net_extractor.specs.declared.label.NetLabel.{NetLabel}
+use Rattle.net_extractor.specs.PlainNetLabel.{PlainNetLabel}
 use Rattle.sram_netlist.specs.Organization.{Organization}
 use Rattle.leaf_tables.specs.declared.kit.Kit.{Kit}
 use Rattle.macro_layout.specs.Floorplan.{Tracks}
@@ -19,6 +19,6 @@ pub record IsWindowThere (kit : Kit) (leaves : Role → FlatLists) (wire : Wire)
   pub floorplan : Floorplan
   pub source : IsDrawnSource (source_of_kit kit leaves plan wire tracks floorplan)
   pub flat : FlatLists
-  pub labels : List NetLabel
+  pub labels : List PlainNetLabel
   pub rows : List RowPin
   pub stated : IsStatedWindow kit.tech.connects (source_of_kit kit leaves plan wire tracks floorplan) flat labels rows

@@ -7,7 +7,7 @@ use Rattle.element_drawing.specs.PlainLabel.{PlainLabel}
 use Rattle.tech_rules.specs.declared.tech.Connect.{Connect}
 use Rattle.tech_rules.specs.Touch.{Touch}
 use Rattle.tech_rules.specs.Net.{AreOnOneNet}
-use Rattle.net_extractor.specs.declared.label.NetLabel.{NetLabel}
+use Rattle.net_extractor.specs.PlainNetLabel.{PlainNetLabel}
 use Rattle.net_extractor.specs.Binding.{Binds}
 use Rattle.net_extractor.specs.Extraction.{anchor_of, AreNetsUnder}
 use Rattle.net_extractor.specs.Difference.{AreAlike}
@@ -17,9 +17,9 @@ use Rattle.good_nets.specs.Seen.{IsLabelledAt}
 use Rattle.good_nets.proofs.DrawnLaws.{has_some}
 pub use Rattle.or_geom.proofs.ListLaws.{one_at}
 
-module _ (connections : List Connect) (shapes : List Shape) (plain : List PlainLabel) (labels : List NetLabel) (pins : List RowPin) (nets : AreNetsUnder connections shapes plain labels) (alike : AreAlike labels pins) where
+module _ (connections : List Connect) (shapes : List Shape) (plain : List PlainLabel) (labels : List PlainNetLabel) (pins : List RowPin) (nets : AreNetsUnder connections shapes plain labels) (alike : AreAlike labels pins) where
   -- a label that binds a shape has a net
-  net_of_bound : (label : NetLabel) (s : Shape) → Contains labels label → Binds shapes (anchor_of label) s → (n : ℕ) × (label.net ≡ Some n)
+  net_of_bound : (label : PlainNetLabel) (s : Shape) → Contains labels label → Binds shapes (anchor_of label) s → (n : ℕ) × (label.net ≡ Some n)
   net_of_bound label s listed binds = has_some label.net (λ none. (nets.unbound label listed).0 none s binds.listed binds.under)
 
   -- pins with labels on one net have one number

@@ -10,7 +10,7 @@ use Rattle.element_drawing.specs.PlainLabel.{PlainLabel}
 use Rattle.tech_rules.specs.declared.tech.Connect.{Connect}
 use Rattle.tech_rules.specs.Touch.{Touch}
 use Rattle.cell_hierarchy.specs.FlatSet.{IsMoved}
-use Rattle.net_extractor.specs.declared.label.NetLabel.{NetLabel}
+use Rattle.net_extractor.specs.PlainNetLabel.{PlainNetLabel}
 use Rattle.net_extractor.specs.Extraction.{AreNetsUnder}
 use Rattle.net_extractor.specs.Difference.{AreAlike}
 use Rattle.good_nets.specs.Ports.{ArePortsRight, IsOnPort, IsPlain, upright_place}
@@ -86,7 +86,7 @@ module _ {N : Type 0} (connections : List Connect) (parts : Parts N) where
 
   -- In such a layout labels and rows don't differ, labels of ports stay on their nets, no free shape touches one outside of its instance, and each wire is
   -- joined with a label of a port of its net.
-  pub record AreRightParts (shapes : List Shape) (plain : List PlainLabel) (labels : List NetLabel) (pins : List RowPin) : Type 1 where
+  pub record AreRightParts (shapes : List Shape) (plain : List PlainLabel) (labels : List PlainNetLabel) (pins : List RowPin) : Type 1 where
     pub parts_are : AreParts shapes
     pub nets : AreNetsUnder connections shapes plain labels
     pub alike : AreAlike labels pins
@@ -112,7 +112,7 @@ pub record SeenLayout (N : Type 0) (connections : List Connect) : Type 1 where
   pub parts : Parts N
   pub shapes : List Shape
   pub plain : List PlainLabel
-  pub labels : List NetLabel
+  pub labels : List PlainNetLabel
   pub pins : List RowPin
   pub right : AreRightParts connections parts shapes plain labels pins
 

@@ -11,7 +11,7 @@ use Rattle.cell_hierarchy.specs.Plain.{FlatLists}
 use Rattle.cell_hierarchy.specs.declared.fault.FlattenFault.TheVariants as flatten_fault
 use Rattle.tile_checker.specs.declared.violation.Violation.{Violation}
 use Rattle.tile_checker.specs.RuleReport.{IsFirstOfReport, IsReport}
-use Rattle.net_extractor.specs.declared.label.NetLabel.{NetLabel}
+use Rattle.net_extractor.specs.PlainNetLabel.{PlainNetLabel}
 use Rattle.net_extractor.specs.declared.difference.NetDiff.{NetDiff}
 use Rattle.net_extractor.specs.Difference.{AreAlike}
 use Rattle.leaf_tables.specs.declared.kit.Kit.{Kit}
@@ -29,7 +29,7 @@ has_violations rules shapes (Some v) first = record { first = v; more = first.0;
 
 -- the comparison
 
-pub differ_or_match : (kit : Kit) (name : List ℕ) (deck : Deck) (lists : FlatLists) (labels : List NetLabel) (rows : List RowPin) (found : Option NetDiff) → AreNetsAndRowsOf kit name deck lists labels rows → (found ≡ None) ↔ AreAlike labels rows
+pub differ_or_match : (kit : Kit) (name : List ℕ) (deck : Deck) (lists : FlatLists) (labels : List PlainNetLabel) (rows : List RowPin) (found : Option NetDiff) → AreNetsAndRowsOf kit name deck lists labels rows → (found ≡ None) ↔ AreAlike labels rows
     → MatchBool (is_some found) (DifferIn kit name deck lists) (MatchIn kit name deck lists)
 differ_or_match kit name deck lists labels rows None are none = record { labels = labels; rows = rows; are = are; alike = none.0 refl }
 differ_or_match kit name deck lists labels rows (Some difference) are none = record { labels = labels; rows = rows; are = are; differ = λ alike. let e : ◌≡◌ {A = Option NetDiff} (Some difference) None = none.1 alike in absurd cc }

@@ -18,7 +18,7 @@ use Rattle.tile_checker.proofs.OneReportLaws.{one_report}
 use Rattle.tile_checker.specs.declared.violation.Violation.{Violation}
 use Rattle.tile_checker.specs.RuleReport.{IsReport}
 use Rattle.net_extractor.proofs.OneNetLaws.{one_nets}
-use Rattle.net_extractor.specs.declared.label.NetLabel.{NetLabel}
+use Rattle.net_extractor.specs.PlainNetLabel.{PlainNetLabel}
 use Rattle.net_extractor.specs.Difference.{AreAlike}
 use Rattle.leaf_tables.specs.declared.kit.Kit.{Kit}
 use Rattle.leaf_tables.specs.declared.part.PartFault.{PartFault}
@@ -42,7 +42,7 @@ number_of flatten_fault.Memory = 0
 module _ (kit : Kit) (name : List ℕ) (lib : Library) (deck : Deck) where
   -- what the comparison and the contacts of a macro that breaks no rule say: a number, or None where nothing is wrong
   record IsCompared (lists : FlatLists) (found : Option ℕ) : Type 0 where
-    labels : List NetLabel
+    labels : List PlainNetLabel
     rows : List RowPin
     are : AreNetsAndRowsOf kit name deck lists labels rows
     says : ((AreAlike labels rows → ⊥) × (found ≡ Some 82)) ⊎ (AreAlike labels rows × ((TouchesOutside kit name lib.structs × (found ≡ Some 83)) ⊎ ((TouchesOutside kit name lib.structs → ⊥) × (found ≡ None))))
@@ -71,8 +71,8 @@ module _ (kit : Kit) (name : List ℕ) (lib : Library) (deck : Deck) where
   one_compared lists a b p q =
       let labels : p.labels ≡ q.labels = one_nets kit.tech lists.shapes lists.labels p.labels q.labels p.are.nets q.are.nets in
       let rows : p.rows ≡ q.rows = one_flat_rows (subckts_with kit deck) name (role_cells kit) p.rows q.rows p.are.netlist q.are.netlist in
-      let there : AreAlike p.labels p.rows → AreAlike q.labels q.rows = λ alike. subst (λ (r : List RowPin). AreAlike q.labels r) rows (subst (λ (l : List NetLabel). AreAlike l p.rows) labels alike) in
-      let back : AreAlike q.labels q.rows → AreAlike p.labels p.rows = λ alike. subst (λ (r : List RowPin). AreAlike p.labels r) (sym rows) (subst (λ (l : List NetLabel). AreAlike l q.rows) (sym labels) alike) in
+      let there : AreAlike p.labels p.rows → AreAlike q.labels q.rows = λ alike. subst (λ (r : List RowPin). AreAlike q.labels r) rows (subst (λ (l : List PlainNetLabel). AreAlike l p.rows) labels alike) in
+      let back : AreAlike q.labels q.rows → AreAlike p.labels p.rows = λ alike. subst (λ (r : List RowPin). AreAlike p.labels r) (sym rows) (subst (λ (l : List PlainNetLabel). AreAlike l q.rows) (sym labels) alike) in
       elim p.says [
         | inl x ↦ elim q.says [ inl y ↦ x.1 ∙ sym y.1 | inr y ↦ absurd (x.0 (back y.0)) ]
         | inr x ↦ elim q.says [

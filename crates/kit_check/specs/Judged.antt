@@ -12,7 +12,7 @@ use Rattle.cell_hierarchy.specs.FlatLists.{AreFlatLists, IsFault}
 use Rattle.cell_hierarchy.specs.Plain.{FlatLists}
 use Rattle.tile_checker.specs.declared.violation.Violation.{Violation}
 use Rattle.tile_checker.specs.RuleReport.{IsReport}
-use Rattle.net_extractor.specs.declared.label.NetLabel.{NetLabel}
+use Rattle.net_extractor.specs.PlainNetLabel.{PlainNetLabel}
 use Rattle.net_extractor.specs.Extraction.{AreNets}
 use Rattle.net_extractor.specs.Difference.{AreAlike}
 use Rattle.leaf_nets.specs.declared.leaves.LooseLeaf.{LooseLeaf}
@@ -29,19 +29,19 @@ pub record IsCleanMacro (kit : Kit) (name : List ℕ) (lib : Library) (lists : F
   pub clean : IsReport kit.tech.rules lists.shapes []
 
 -- the labels with their nets, and the rows of its netlist
-pub record AreNetsAndRowsOf (kit : Kit) (name : List ℕ) (deck : Deck) (lists : FlatLists) (labels : List NetLabel) (rows : List RowPin) : Type 0 where
+pub record AreNetsAndRowsOf (kit : Kit) (name : List ℕ) (deck : Deck) (lists : FlatLists) (labels : List PlainNetLabel) (rows : List RowPin) : Type 0 where
   pub nets : AreNets kit.tech lists.shapes lists.labels labels
   pub netlist : AreFlatRows (subckts_with kit deck) name (role_cells kit) rows
 
 -- the labels of a flat macro are joined exactly as its netlist says, or they aren't
 pub record MatchIn (kit : Kit) (name : List ℕ) (deck : Deck) (lists : FlatLists) : Type 0 where
-  pub labels : List NetLabel
+  pub labels : List PlainNetLabel
   pub rows : List RowPin
   pub are : AreNetsAndRowsOf kit name deck lists labels rows
   pub alike : AreAlike labels rows
 
 pub record DifferIn (kit : Kit) (name : List ℕ) (deck : Deck) (lists : FlatLists) : Type 0 where
-  pub labels : List NetLabel
+  pub labels : List PlainNetLabel
   pub rows : List RowPin
   pub are : AreNetsAndRowsOf kit name deck lists labels rows
   pub differ : AreAlike labels rows → ⊥

@@ -13,7 +13,7 @@ use Rattle.element_drawing.specs.PlainLabel.{PlainLabel}
 use Rattle.cell_hierarchy.specs.Plain.{FlatLists}
 use Rattle.cell_hierarchy.specs.FlatSet.{IsFlatLabel, IsMoved}
 use Rattle.net_extractor.specs.declared.label.Anchor.{Anchor}
-use Rattle.net_extractor.specs.declared.label.NetLabel.{NetLabel}
+use Rattle.net_extractor.specs.PlainNetLabel.{PlainNetLabel}
 use Rattle.net_extractor.specs.Binding.{Binds}
 use Rattle.net_extractor.specs.Extraction.{label_of, anchor_of, AreNetsUnder}
 use Rattle.net_extractor.specs.Difference.{in_lower_case}
@@ -58,7 +58,7 @@ module _ (connections : List Connect) (s : Source) (flat : FlatLists) (by : IsSt
       }
 
   -- What a label of the port's pin binds is on one net with a shape of the port.
-  pub port_binds : (labels : List NetLabel) → AreNetsUnder connections flat.shapes flat.labels labels → (i : Standing s) (port : ℕ) (name : List ℕ) (p : RowPin) (u : Shape) → slice_get (role_ports (role s.plan i.leaf)) port ≡ Some name → p.path ≡ leaf_path s.plan i.leaf → p.pin ≡ in_lower_case name
+  pub port_binds : (labels : List PlainNetLabel) → AreNetsUnder connections flat.shapes flat.labels labels → (i : Standing s) (port : ℕ) (name : List ℕ) (p : RowPin) (u : Shape) → slice_get (role_ports (role s.plan i.leaf)) port ≡ Some name → p.path ≡ leaf_path s.plan i.leaf → p.pin ≡ in_lower_case name
       → BindsFor flat.shapes labels p u → IsPortNet connections s flat i port u
   port_binds labels nets i port name p u named path pin_name b =
       let listed = subst (λ (ls : List PlainLabel). Contains ls (label_of b.label)) nets.each (contains_map label_of labels b.label b.listed) in

@@ -10,7 +10,7 @@ use Rattle.element_drawing.specs.PlainLabel.{PlainLabel}
 use Rattle.cell_hierarchy.specs.Plain.{FlatLists}
 use Rattle.cell_hierarchy.specs.FlatSet.{IsFlatLabel, IsMoved, path_under}
 use Rattle.net_extractor.specs.declared.label.Anchor.{Anchor}
-use Rattle.net_extractor.specs.declared.label.NetLabel.{NetLabel}
+use Rattle.net_extractor.specs.PlainNetLabel.{PlainNetLabel}
 use Rattle.net_extractor.specs.Binding.{IsUnder, Binds}
 use Rattle.net_extractor.specs.Extraction.{label_of, anchor_of, AreNetsUnder}
 use Rattle.net_extractor.specs.Difference.{in_lower_case}
@@ -53,7 +53,7 @@ module _ (connections : List Connect) (s : Source) (flat : FlatLists) (by : IsSt
 
 module _ (connections : List Connect) (s : Source) (flat : FlatLists) (by : IsStatedBy connections s flat) (stays : DoLabelsStay connections s flat) where
   -- What a label of the port binds in the cell by itself is, as it stands in the macro, on one net with what a label of the port's pin binds there.
-  pub port_label_stays : (labels : List NetLabel) → AreNetsUnder connections flat.shapes flat.labels labels → (i : Standing s) (port : ℕ) (inner shape : Shape) (p : RowPin) → (bound : BindsForPort (leaf_lists s i.leaf) (role_ports (role s.plan i.leaf)) port inner) → IsMoved i.place inner shape → Contains flat.shapes shape
+  pub port_label_stays : (labels : List PlainNetLabel) → AreNetsUnder connections flat.shapes flat.labels labels → (i : Standing s) (port : ℕ) (inner shape : Shape) (p : RowPin) → (bound : BindsForPort (leaf_lists s i.leaf) (role_ports (role s.plan i.leaf)) port inner) → IsMoved i.place inner shape → Contains flat.shapes shape
       → in_lower_case (leaf_path s.plan i.leaf) ≡ p.path → in_lower_case bound.pin ≡ p.pin → IsLabelledAt connections flat.shapes labels p shape
   port_label_stays labels nets i port inner shape p bound moved listed path name =
       let b = bound.binds in

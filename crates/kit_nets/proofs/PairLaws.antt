@@ -6,7 +6,7 @@ use Rattle.tech_rules.specs.declared.tech.Connect.{Connect}
 use Rattle.tech_rules.specs.Touch.{Touch}
 use Rattle.cell_hierarchy.specs.Plain.{FlatLists}
 use Rattle.cell_hierarchy.specs.FlatSet.{IsMoved}
-use Rattle.net_extractor.specs.declared.label.NetLabel.{NetLabel}
+use Rattle.net_extractor.specs.PlainNetLabel.{PlainNetLabel}
 use Rattle.sram_netlist.specs.Nets.{Net}
 use Rattle.sram_netlist.specs.Instances.{LogicCell, LogicAt}
 use Rattle.moved_nets.specs.Moved.{slice_net, slice_leaf, IsInSlices, Moves, logic_net, moved_cell, MovesAsMask}
@@ -18,7 +18,7 @@ use Rattle.kit_nets.specs.StandIns.{AreAkin, StandsMoved}
 use Rattle.kit_nets.proofs.StatedWindowLaws.{stated_window_is_right}
 use Rattle.kit_nets.proofs.StandInLaws.{slice_stands_in, logic_stands_in}
 
-module _ (connections : List Connect) (s w : Source) (akin : AreAkin s w) (flat : FlatLists) (labels : List NetLabel) (rows : List RowPin) (is : IsStatedWindow connections w flat labels rows) where
+module _ (connections : List Connect) (s w : Source) (akin : AreAkin s w) (flat : FlatLists) (labels : List PlainNetLabel) (rows : List RowPin) (is : IsStatedWindow connections w flat labels rows) where
   abbrev window : SeenLayout Net connections
   window = record { parts = stated_parts w; shapes = flat.shapes; plain = flat.labels; labels = labels; pins = rows; right = stated_window_is_right connections w flat labels rows is }
 

@@ -8,7 +8,7 @@ use Rattle.cell_roles.specs.Roles.{role_ports}
 use Rattle.tech_rules.specs.declared.tech.Connect.{Connect}
 use Rattle.cell_hierarchy.specs.Plain.{FlatLists}
 use Rattle.cell_hierarchy.specs.FlatSet.{IsMoved}
-use Rattle.net_extractor.specs.declared.label.NetLabel.{NetLabel}
+use Rattle.net_extractor.specs.PlainNetLabel.{PlainNetLabel}
 use Rattle.sram_netlist.specs.Nets.{Net}
 use Rattle.sram_netlist.specs.Netlist.{role, ports}
 use Rattle.sram_netlist.specs.Names.{leaf_path}
@@ -24,7 +24,7 @@ use Rattle.kit_nets.specs.StatedWindow.{IsStatedWindow}
 use Rattle.kit_nets.proofs.PartsLaws.{stated_are_parts}
 use Rattle.kit_nets.proofs.LabelLaws.{port_label_stays}
 
-module _ (connections : List Connect) (s : Source) (flat : FlatLists) (labels : List NetLabel) (rows : List RowPin) (w : IsStatedWindow connections s flat labels rows) where
+module _ (connections : List Connect) (s : Source) (flat : FlatLists) (labels : List PlainNetLabel) (rows : List RowPin) (w : IsStatedWindow connections s flat labels rows) where
   abbrev Row : Standing s → ℕ → RowPin → Type 0
   Row i port p = IsRowOfPort s.plan s.kit.cell s.bits rows i.leaf port p
 

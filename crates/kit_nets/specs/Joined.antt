@@ -9,7 +9,7 @@ use Rattle.tech_rules.specs.declared.tech.Connect.{Connect}
 use Rattle.tech_rules.specs.Net.{AreOnOneNet}
 use Rattle.cell_hierarchy.specs.Plain.{FlatLists}
 use Rattle.cell_hierarchy.specs.FlatSet.{IsMoved}
-use Rattle.net_extractor.specs.declared.label.NetLabel.{NetLabel}
+use Rattle.net_extractor.specs.PlainNetLabel.{PlainNetLabel}
 use Rattle.net_extractor.specs.Extraction.{AreNetsUnder}
 use Rattle.net_extractor.specs.Difference.{in_lower_case}
 use Rattle.sram_netlist.specs.Nets.{Net}
@@ -26,7 +26,7 @@ use Rattle.kit_nets.specs.Bound.{BindsForPort}
 use Rattle.kit_nets.specs.PathsTell.{DoPathsTell}
 use Rattle.kit_nets.specs.StatedParts.{Source, Standing, leaf_lists, stated_parts, IsStatedBy, DoLabelsStay}
 
-pub record IsJoinedMacro (connections : List Connect) (s : Source) (flat : FlatLists) (labels : List NetLabel) (rows : List RowPin) (hub : Net → Shape) : Type 0 where
+pub record IsJoinedMacro (connections : List Connect) (s : Source) (flat : FlatLists) (labels : List PlainNetLabel) (rows : List RowPin) (hub : Net → Shape) : Type 0 where
   pub stated : IsStatedBy connections s flat
   pub stays : DoLabelsStay connections s flat
   pub nets : AreNetsUnder connections flat.shapes flat.labels labels

@@ -12,7 +12,7 @@ use Rattle.tech_rules.specs.Net.{AreOnOneNet}
 use Rattle.element_drawing.specs.PlainLabel.{PlainLabel}
 use Rattle.cell_hierarchy.specs.Plain.{FlatLists}
 use Rattle.net_extractor.specs.declared.label.Anchor.{Anchor}
-use Rattle.net_extractor.specs.declared.label.NetLabel.{NetLabel}
+use Rattle.net_extractor.specs.PlainNetLabel.{PlainNetLabel}
 use Rattle.net_extractor.specs.Binding.{Binds}
 use Rattle.net_extractor.specs.Extraction.{anchor_of}
 use Rattle.net_extractor.specs.Difference.{in_lower_case}
@@ -35,7 +35,7 @@ use Rattle.label_nets.specs.Anchored.{IsMatchedMacro, HasLabelOn, IsAnchored}
 item_at : {X : Type 0} (xs : List X) (x : X) → Contains xs x → (k : ℕ) × (slice_get xs k ≡ Some x)
 item_at {X = X} xs x c = (c.0, slice_get-get_or xs c.0 x c.1 ∙ ap (λ (y : X). Some y) c.2)
 
-module _ (connections : List Connect) (s : Source) (flat : FlatLists) (labels : List NetLabel) (rows : List RowPin) (hub : Net → Shape) (m : IsMatchedMacro connections s flat labels rows hub) where
+module _ (connections : List Connect) (s : Source) (flat : FlatLists) (labels : List PlainNetLabel) (rows : List RowPin) (hub : Net → Shape) (m : IsMatchedMacro connections s flat labels rows hub) where
   abbrev OneNet : Shape → Shape → Type 0
   OneNet a b = AreOnOneNet connections flat.shapes a b
 
@@ -43,7 +43,7 @@ module _ (connections : List Connect) (s : Source) (flat : FlatLists) (labels : 
   Of row net = IsRowOfNet s.plan s.kit.cell s.bits rows row net
 
   -- a label that binds a shape has a number
-  numbered : (e : NetLabel) (u : Shape) → Contains labels e → Binds flat.shapes (anchor_of e) u → (n : ℕ) × (e.net ≡ Some n)
+  numbered : (e : PlainNetLabel) (u : Shape) → Contains labels e → Binds flat.shapes (anchor_of e) u → (n : ℕ) × (e.net ≡ Some n)
   numbered e u listed binds = by e.net refl where
     by : (found : Option ℕ) → e.net ≡ found → (n : ℕ) × (e.net ≡ Some n)
     by None is = absurd ((m.nets.unbound e listed).0 is u binds.listed binds.under)

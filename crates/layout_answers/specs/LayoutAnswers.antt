@@ -12,7 +12,7 @@ use Rattle.tile_checker.specs.declared.violation.Violation.{Violation}
 use Rattle.tile_checker.specs.RuleReport.{IsReport}
 use Rattle.netlist.specs.declared.rows.RowPin.{RowPin}
 use Rattle.net_extractor.specs.declared.difference.NetDiff.{NetDiff}
-use Rattle.net_extractor.specs.declared.label.NetLabel.{NetLabel}
+use Rattle.net_extractor.specs.PlainNetLabel.{PlainNetLabel}
 use Rattle.net_extractor.specs.Difference.{AreAlike}
 use Rattle.net_extractor.specs.Extraction.{AreNets}
 use Rattle.net_extractor.specs.FirstDifference.{IsFirstDifference}
@@ -29,7 +29,7 @@ pub record HasReport (tech : Tech) (structs : List Structure) (top : List ℕ) :
 pub record HasNets (tech : Tech) (structs : List Structure) (top : List ℕ) : Type 0 where
   pub lists : FlatLists
   pub flat : AreFlatLists tech.layers structs top lists
-  pub nets : List NetLabel
+  pub nets : List PlainNetLabel
   pub are : AreNets tech lists.shapes lists.labels nets
 
 -- these, and their first difference from the rows; none where they are alike

@@ -8,7 +8,7 @@ use Rattle.cell_hierarchy.specs.declared.fault.FlattenFault.{FlattenFault}
 use Rattle.cell_hierarchy.specs.declared.fault.FlattenFault.TheVariants as flatten_fault
 use Rattle.tile_checker.specs.declared.violation.Violation.{Violation}
 use Rattle.tile_checker.specs.RuleReport.{IsReport}
-use Rattle.net_extractor.specs.declared.label.NetLabel.{NetLabel}
+use Rattle.net_extractor.specs.PlainNetLabel.{PlainNetLabel}
 use Rattle.net_extractor.specs.declared.difference.NetDiff.{NetDiff}
 use Rattle.net_extractor.specs.Difference.{AreAlike}
 use Rattle.net_extractor.specs.FirstDifference.{IsFirstDifference}
@@ -23,7 +23,7 @@ use Rattle.macro_build.specs.Built.{AreNetsAndRows, IsChecked, IsSoundMacro, IsB
 use Rattle.macro_build.specs.Causes.{of_part, of_flatten}
 use Rattle.macro_build.specs.Checks.{AreAllAlike, IsDiffering, IsFirstDiffering}
 
-pub first_differing : (kit : Kit) (held : Held) (name : List ℕ) (m : Macro) (lists : FlatLists) (labels : List NetLabel) (rows : List RowPin) (found : Option NetDiff) → AreNetsAndRows kit held name m lists labels rows
+pub first_differing : (kit : Kit) (held : Held) (name : List ℕ) (m : Macro) (lists : FlatLists) (labels : List PlainNetLabel) (rows : List RowPin) (found : Option NetDiff) → AreNetsAndRows kit held name m lists labels rows
     → (found ≡ None) ↔ AreAlike labels rows → IfSome found (IsFirstDifference labels rows) → IsFirstDiffering kit held name m lists found
 first_differing kit held name m lists labels rows None are none first = record { labels = labels; rows = rows; are = are; alike = none.0 refl }
 first_differing kit held name m lists labels rows (Some difference) are none first = record { labels = labels; rows = rows; are = are; differ = first }

@@ -11,7 +11,7 @@ use Rattle.cell_hierarchy.specs.declared.fault.FlattenFault.{FlattenFault}
 use Rattle.cell_hierarchy.specs.declared.fault.FlattenFault.TheVariants as flatten_fault
 use Rattle.tile_checker.specs.declared.violation.Violation.{Violation}
 use Rattle.tile_checker.specs.RuleReport.{IsReport}
-use Rattle.net_extractor.specs.declared.label.NetLabel.{NetLabel}
+use Rattle.net_extractor.specs.PlainNetLabel.{PlainNetLabel}
 use Rattle.net_extractor.specs.Extraction.{AreNets}
 use Rattle.net_extractor.specs.declared.difference.NetDiff.{NetDiff}
 use Rattle.net_extractor.specs.Difference.{AreAlike}
@@ -44,7 +44,7 @@ pub record IsChecked (kit : Kit) (plan : Plan) (held : Held) (name : List ℕ) (
   pub reported : IsReport kit.tech.rules lists.shapes report
 
 -- the labels of a macro with their nets, and the rows of its netlist
-pub record AreNetsAndRows (kit : Kit) (held : Held) (name : List ℕ) (m : Macro) (lists : FlatLists) (labels : List NetLabel) (rows : List RowPin) : Type 0 where
+pub record AreNetsAndRows (kit : Kit) (held : Held) (name : List ℕ) (m : Macro) (lists : FlatLists) (labels : List PlainNetLabel) (rows : List RowPin) : Type 0 where
   pub nets : AreNets kit.tech lists.shapes lists.labels labels
   pub netlist : AreFlatRows (all_subckts kit m) name (leaf_names kit held) rows
 
@@ -52,7 +52,7 @@ pub record AreNetsAndRows (kit : Kit) (held : Held) (name : List ℕ) (m : Macro
 pub record IsSoundMacro (kit : Kit) (plan : Plan) (held : Held) (name : List ℕ) (m : Macro) : Type 0 where
   pub lists : FlatLists
   pub clean : IsChecked kit plan held name m lists []
-  pub labels : List NetLabel
+  pub labels : List PlainNetLabel
   pub rows : List RowPin
   pub are : AreNetsAndRows kit held name m lists labels rows
   pub alike : AreAlike labels rows
@@ -99,7 +99,7 @@ pub record DiffersFirst (kit : Kit) (plan : Plan) (held : Held) (name : List ℕ
   pub macro : Macro
   pub lists : FlatLists
   pub clean : IsChecked kit plan held name macro lists []
-  pub labels : List NetLabel
+  pub labels : List PlainNetLabel
   pub rows : List RowPin
   pub are : AreNetsAndRows kit held name macro lists labels rows
   pub differ : IsFirstDifference labels rows difference

@@ -2,7 +2,7 @@
 use Rattle.std.specs.Prelude.{List, ℕ, Option, MatchOption}
 use Rattle.netlist.specs.declared.rows.RowPin.{RowPin}
 use Rattle.cell_hierarchy.specs.Plain.{FlatLists}
-use Rattle.net_extractor.specs.declared.label.NetLabel.{NetLabel}
+use Rattle.net_extractor.specs.PlainNetLabel.{PlainNetLabel}
 use Rattle.net_extractor.specs.declared.difference.NetDiff.{NetDiff}
 use Rattle.net_extractor.specs.Difference.{AreAlike}
 use Rattle.net_extractor.specs.FirstDifference.{IsFirstDifference}
@@ -13,14 +13,14 @@ use Rattle.macro_build.specs.Built.{AreNetsAndRows}
 
 -- the labels' nets and the rows of the netlist are alike
 pub record AreAllAlike (kit : Kit) (held : Held) (name : List ℕ) (m : Macro) (lists : FlatLists) : Type 0 where
-  pub labels : List NetLabel
+  pub labels : List PlainNetLabel
   pub rows : List RowPin
   pub are : AreNetsAndRows kit held name m lists labels rows
   pub alike : AreAlike labels rows
 
 -- they aren't, and this is the first difference
 pub record IsDiffering (kit : Kit) (held : Held) (name : List ℕ) (m : Macro) (lists : FlatLists) (difference : NetDiff) : Type 0 where
-  pub labels : List NetLabel
+  pub labels : List PlainNetLabel
   pub rows : List RowPin
   pub are : AreNetsAndRows kit held name m lists labels rows
   pub differ : IsFirstDifference labels rows difference

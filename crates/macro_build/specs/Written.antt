@@ -12,7 +12,7 @@ use Rattle.spice_text.specs.Writable.{lowered_subckt}
 use Rattle.cell_hierarchy.specs.FlatLists.{AreFlatLists}
 use Rattle.cell_hierarchy.specs.Plain.{FlatLists}
 use Rattle.tile_checker.specs.RuleReport.{IsReport}
-use Rattle.net_extractor.specs.declared.label.NetLabel.{NetLabel}
+use Rattle.net_extractor.specs.PlainNetLabel.{PlainNetLabel}
 use Rattle.net_extractor.specs.Extraction.{AreNets}
 use Rattle.net_extractor.specs.Difference.{AreAlike}
 use Rattle.sram_deck.specs.Deck.{written_subckts}
@@ -55,7 +55,7 @@ pub record IsSoundLayout (kit : Kit) (plan : Plan) (held : Held) (name : List â„
   pub flat : AreFlatLists kit.tech.layers structs name lists
   pub stated : IsStatedLayout kit (organization plan) (macro_bits kit plan held) lists
   pub clean : IsReport kit.tech.rules lists.shapes []
-  pub labels : List NetLabel
+  pub labels : List PlainNetLabel
   pub nets : AreNets kit.tech lists.shapes lists.labels labels
   pub rows : List RowPin
   pub netlist : RowsEqual rows (netlist_pins (organization plan) (cell_in kit.tech.roles) (macro_bits kit plan held))

@@ -19,7 +19,7 @@ use Rattle.cell_hierarchy.specs.Plain.{FlatLists}
 use Rattle.cell_hierarchy.specs.declared.fault.FlattenFault.{FlattenFault}
 use Rattle.tile_checker.specs.declared.violation.Violation.{Violation}
 use Rattle.tile_checker.specs.RuleReport.{IsReport}
-use Rattle.net_extractor.specs.declared.label.NetLabel.{NetLabel}
+use Rattle.net_extractor.specs.PlainNetLabel.{PlainNetLabel}
 use Rattle.net_extractor.specs.declared.difference.NetDiff.{NetDiff}
 use Rattle.net_extractor.specs.Extraction.{AreNets}
 use Rattle.net_extractor.specs.Difference.{AreAlike}
@@ -68,11 +68,11 @@ module _ (kit : Kit) (plan : Plan) (held : Held) (name : List ℕ) (is : IsKit k
       record { macro = macro; lists = lists; report = one_report kit.tech.rules v.shapes r s p.reported (subst (λ (x : FlatLists). IsReport kit.tech.rules x.shapes s) (sym lists) q.reported) }
 
   -- and so are its nets and rows
-  record AreOneComparison (m n : Macro) (v w : FlatLists) (labels other : List NetLabel) (rows more : List RowPin) : Type 0 where
+  record AreOneComparison (m n : Macro) (v w : FlatLists) (labels other : List PlainNetLabel) (rows more : List RowPin) : Type 0 where
     labels_are : labels ≡ other
     rows_are : rows ≡ more
 
-  one_comparison : (m n : Macro) (v w : FlatLists) (labels other : List NetLabel) (rows more : List RowPin) → m ≡ n → v ≡ w → AreNetsAndRows kit held name m v labels rows → AreNetsAndRows kit held name n w other more
+  one_comparison : (m n : Macro) (v w : FlatLists) (labels other : List PlainNetLabel) (rows more : List RowPin) → m ≡ n → v ≡ w → AreNetsAndRows kit held name m v labels rows → AreNetsAndRows kit held name n w other more
       → AreOneComparison m n v w labels other rows more
   one_comparison m n v w labels other rows more macro lists p q = record {
     labels_are = one_nets kit.tech v.shapes v.labels labels other p.nets (subst (λ (x : FlatLists). AreNets kit.tech x.shapes x.labels other) (sym lists) q.nets);
@@ -118,14 +118,14 @@ module _ (kit : Kit) (plan : Plan) (held : Held) (name : List ℕ) (is : IsKit k
       let check = one_check p.macro q.macro p.lists q.lists [] [] p.clean q.clean in
       let both = one_comparison p.macro q.macro p.lists q.lists p.labels q.labels p.rows q.rows check.macro check.lists p.are q.are in
       one_difference p.labels p.rows d e p.differ
-      (subst (λ (l : List NetLabel). IsFirstDifference l p.rows e) (sym both.labels_are) (subst (λ (r : List RowPin). IsFirstDifference q.labels r e) (sym both.rows_are) q.differ))
+      (subst (λ (l : List PlainNetLabel). IsFirstDifference l p.rows e) (sym both.labels_are) (subst (λ (r : List RowPin). IsFirstDifference q.labels r e) (sym both.rows_are) q.differ))
 
   not_alike : (d : NetDiff) (m : Macro) → DiffersFirst kit plan held name d → IsSoundMacro kit plan held name m → ⊥
   not_alike d m p q =
       let check = one_check p.macro m p.lists q.lists [] [] p.clean q.clean in
       let both = one_comparison p.macro m p.lists q.lists p.labels q.labels p.rows q.rows check.macro check.lists p.are q.are in
       differs p.labels p.rows d p.differ
-      (subst (λ (l : List NetLabel). AreAlike l p.rows) (sym both.labels_are) (subst (λ (r : List RowPin). AreAlike q.labels r) (sym both.rows_are) q.alike))
+      (subst (λ (l : List PlainNetLabel). AreAlike l p.rows) (sym both.labels_are) (subst (λ (r : List RowPin). AreAlike q.labels r) (sym both.rows_are) q.alike))
 
   build_fault_is_one : (f g : BuildFault) → f ≢ build_fault.Memory → g ≢ build_fault.Memory → IsBuildFault kit plan held name f → IsBuildFault kit plan held name g → f ≡ g
   build_fault_is_one build_fault.Memory g s t p q = absurd (s refl)

@@ -14,7 +14,7 @@ use Rattle.net_extractor.specs.FirstDifference.{name_of_pin, name_of_label, AreP
 use Rattle.net_extractor.specs.FirstDifference.{IsFirstDifference}
 use Rattle.net_extractor.specs.declared.difference.NetDiff.{NetDiff}
 use Rattle.net_extractor.specs.declared.difference.NetDiff.TheVariants.{Unlabelled, Stranger, Open, Short}
-use Rattle.net_extractor.specs.declared.label.NetLabel.{NetLabel}
+use Rattle.net_extractor.specs.PlainNetLabel.{PlainNetLabel}
 use Rattle.net_extractor.proofs.PlaceLaws.{at_contained}
 use Rattle.flat_answers.proofs.DecisionLaws.{Decided, decide_as, decide_both, decide_either, decide_name, decide_not}
 use Rattle.flat_answers.proofs.ListedLaws.{Listed, decide_all, decide_some, listed_as, listed_none, listed_one, listed_over, listed_where}
@@ -66,7 +66,7 @@ decide_placed path pin =
     (decide_both _ _ (decide_not _ (decide_name pin.path []))
     (decide_either _ _ (decide_name path pin.path) (decide_either _ _ (decide_above path pin.path) (decide_above pin.path path))))
 
-decide_stranger : (pins : List RowPin) (label : NetLabel) → Decided (IsStranger pins label)
+decide_stranger : (pins : List RowPin) (label : PlainNetLabel) → Decided (IsStranger pins label)
 decide_stranger pins label =
     let path = in_lower_case label.path in
     decide_as ((label.path ≢ []) × ((pin : RowPin) → Contains pins pin → IsPlacedBy path pin → ⊥)) (IsStranger pins label)
@@ -74,7 +74,7 @@ decide_stranger pins label =
     (decide_both _ _ (decide_not _ (decide_name label.path []))
     (decide_all (Contains pins) (λ pin. IsPlacedBy path pin → ⊥) (pins, λ pin. (λ h. h, λ h. h)) (λ pin. decide_not _ (decide_placed path pin))))
 
-decide_label_of : (pin : RowPin) (label : NetLabel) → Decided (IsLabelOf pin label)
+decide_label_of : (pin : RowPin) (label : PlainNetLabel) → Decided (IsLabelOf pin label)
 decide_label_of pin label =
     decide_as ((in_lower_case label.path ≡ pin.path) × (in_lower_case label.name ≡ pin.pin)) (IsLabelOf pin label)
     (λ h. record { path = h.0; name = h.1 }) (λ l. (l.path, l.name))
@@ -85,12 +85,12 @@ listed_number None = listed_none (λ (n : ℕ). None ≡ Some n) (λ n e. absurd
 listed_number (Some m) =
     listed_as (λ (n : ℕ). n ≡ m) (λ (n : ℕ). Some m ≡ Some n) (λ n e. ap (λ (k : ℕ). Some k) (sym e)) (λ n e. sym (same_Some m n e)) (listed_one m)
 
-module _ (labels : List NetLabel) where
+module _ (labels : List PlainNetLabel) where
   listed_nets : (pin : RowPin) → Listed (HasNet labels pin)
   listed_nets pin =
-      listed_as (λ (n : ℕ). (label : NetLabel) × (Contains labels label × IsLabelOf pin label) × (label.net ≡ Some n)) (HasNet labels pin)
+      listed_as (λ (n : ℕ). (label : PlainNetLabel) × (Contains labels label × IsLabelOf pin label) × (label.net ≡ Some n)) (HasNet labels pin)
       (λ n h. record { label = h.0; listed = h.1.0; of = h.1.1; on = h.2 }) (λ n h. (h.label, (h.listed, h.of), h.on))
-      (listed_over (λ (label : NetLabel). Contains labels label × IsLabelOf pin label) (λ (label : NetLabel) (n : ℕ). label.net ≡ Some n)
+      (listed_over (λ (label : PlainNetLabel). Contains labels label × IsLabelOf pin label) (λ (label : PlainNetLabel) (n : ℕ). label.net ≡ Some n)
       (listed_where (Contains labels) (IsLabelOf pin) (labels, λ label. (λ h. h, λ h. h)) (decide_label_of pin)) (λ label. listed_number label.net))
 
   decide_labelled : (pin : RowPin) → Decided (IsLabelled labels pin)

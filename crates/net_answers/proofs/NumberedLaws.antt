@@ -14,7 +14,7 @@ use Rattle.net_extractor.specs.Binding.{Binds, BindsNone}
 use Rattle.net_extractor.specs.Extraction.{label_of, anchor_of, AreNetsUnder}
 use Rattle.net_extractor.specs.FirstAppearance.{AppearFrom}
 use Rattle.net_extractor.specs.declared.label.Anchor.{Anchor}
-use Rattle.net_extractor.specs.declared.label.NetLabel.{NetLabel}
+use Rattle.net_extractor.specs.PlainNetLabel.{PlainNetLabel}
 use Rattle.net_answers.specs.NetAnswers.{NetsAreThere}
 use Rattle.net_answers.proofs.ToldLaws.{decide_net, net_back, bound_or_none, one_bound}
 
@@ -91,27 +91,27 @@ module _ (connections : List Connect) (shapes : List Shape) where
   }
 
   -- what an entry's net says
-  record IsBound (firsts : List Shape) (e : NetLabel) : Type 0 where
+  record IsBound (firsts : List Shape) (e : PlainNetLabel) : Type 0 where
     shape : Shape
     binds : Binds shapes (anchor_of e) shape
     number : ℕ
     is : e.net ≡ Some number
     numbered : IsNumbered firsts shape number
 
-  record IsUnbound (e : NetLabel) : Type 0 where
+  record IsUnbound (e : PlainNetLabel) : Type 0 where
     is : e.net ≡ None
     none : BindsNone shapes (anchor_of e)
 
   record AreEntries (seen : List Shape) (labels : List PlainLabel) : Type 0 where
     firsts : List Shape
-    entries : List NetLabel
+    entries : List PlainNetLabel
     grown : (k : ℕ) (s : Shape) → slice_get seen k ≡ Some s → slice_get firsts k ≡ Some s
     are : AreFirst firsts
     each : map label_of entries ≡ labels
-    nets : (e : NetLabel) → Contains entries e → IsBound firsts e ⊎ IsUnbound e
-    appear : AppearFrom (length seen) (map (λ (e : NetLabel). e.net) entries)
+    nets : (e : PlainNetLabel) → Contains entries e → IsBound firsts e ⊎ IsUnbound e
+    appear : AppearFrom (length seen) (map (λ (e : PlainNetLabel). e.net) entries)
 
-  abbrev entry : PlainLabel → Option ℕ → NetLabel
+  abbrev entry : PlainLabel → Option ℕ → PlainNetLabel
   entry l net = record { path = l.path; name = l.name; layer = l.layer; at = l.at; net = net }
 
   abbrev place_of : PlainLabel → Anchor
@@ -119,7 +119,7 @@ module _ (connections : List Connect) (shapes : List Shape) where
 
   with_entry : (seen : List Shape) (l : PlainLabel) (ls : List PlainLabel) (net : Option ℕ) (rest : AreEntries seen ls)
       → IsBound rest.firsts (entry l net) ⊎ IsUnbound (entry l net)
-      → AppearFrom (length seen) (net ∷ map (λ (e : NetLabel). e.net) rest.entries) → AreEntries seen (l ∷ ls)
+      → AppearFrom (length seen) (net ∷ map (λ (e : PlainNetLabel). e.net) rest.entries) → AreEntries seen (l ∷ ls)
   with_entry seen l ls net rest this appear = record {
     firsts = rest.firsts;
     entries = entry l net ∷ rest.entries;
@@ -127,7 +127,7 @@ module _ (connections : List Connect) (shapes : List Shape) where
     are = rest.are;
     each = ap (λ (ks : List PlainLabel). l ∷ ks) rest.each;
     nets = λ e h. elim (contains_cases (entry l net) rest.entries e h) [
-      | inl same ↦ subst (λ (x : NetLabel). IsBound rest.firsts x ⊎ IsUnbound x) (sym same) this
+      | inl same ↦ subst (λ (x : PlainNetLabel). IsBound rest.firsts x ⊎ IsUnbound x) (sym same) this
       | inr later ↦ rest.nets e later
     ];
     appear = appear;
@@ -156,7 +156,7 @@ module _ (connections : List Connect) (shapes : List Shape) where
     are = rest.are;
     each = ap (λ (ks : List PlainLabel). l ∷ ks) rest.each;
     nets = λ e h. elim (contains_cases (entry l (Some (length seen))) rest.entries e h) [
-      | inl same ↦ subst (λ (x : NetLabel). IsBound rest.firsts x ⊎ IsUnbound x) (sym same) (inl (record {
+      | inl same ↦ subst (λ (x : PlainNetLabel). IsBound rest.firsts x ⊎ IsUnbound x) (sym same) (inl (record {
         shape = s;
         binds = binds;
         number = length seen;
@@ -165,7 +165,7 @@ module _ (connections : List Connect) (shapes : List Shape) where
       }))
       | inr later ↦ rest.nets e later
     ];
-    appear = inr (refl, subst (λ (n : ℕ). AppearFrom n (map (λ (e : NetLabel). e.net) rest.entries)) (longer seen s) rest.appear);
+    appear = inr (refl, subst (λ (n : ℕ). AppearFrom n (map (λ (e : PlainNetLabel). e.net) rest.entries)) (longer seen s) rest.appear);
   }
 
   unbound : (seen : List Shape) (l : PlainLabel) (ls : List PlainLabel) → BindsNone shapes (place_of l) → AreEntries seen ls
@@ -199,7 +199,7 @@ module _ (connections : List Connect) (shapes : List Shape) where
       on : (a b c : Shape) → AreOnOneNet connections shapes a b → AreOnOneNet connections shapes b c → AreOnOneNet connections shapes a c
       on = linked_on (Contains shapes) (Touch connections)
 
-  entries_agree : (firsts : List Shape) (e f : NetLabel) (s t : Shape) → AreFirst firsts → IsBound firsts e ⊎ IsUnbound e
+  entries_agree : (firsts : List Shape) (e f : PlainNetLabel) (s t : Shape) → AreFirst firsts → IsBound firsts e ⊎ IsUnbound e
       → IsBound firsts f ⊎ IsUnbound f
       → Binds shapes (anchor_of e) s → Binds shapes (anchor_of f) t → (e.net ≡ f.net) ↔ AreOnOneNet connections shapes s t
   entries_agree firsts e f s t are (inr none) h binds_s binds_t = absurd (none.none s binds_s.listed binds_s.under)
@@ -214,14 +214,14 @@ module _ (connections : List Connect) (shapes : List Shape) where
         λ net. b.is ∙ ap (λ (n : ℕ). Some n) (agree.1 net) ∙ sym c.is,
       )
 
-  none_or_bound : (firsts : List Shape) (e : NetLabel) → IsBound firsts e ⊎ IsUnbound e → (e.net ≡ None) ↔ BindsNone shapes (anchor_of e)
+  none_or_bound : (firsts : List Shape) (e : PlainNetLabel) → IsBound firsts e ⊎ IsUnbound e → (e.net ≡ None) ↔ BindsNone shapes (anchor_of e)
   none_or_bound firsts e (inl b) = (
     λ is. let bad : ◌≡◌ {A = Option ℕ} (Some b.number) None = sym b.is ∙ is in absurd cc,
     λ none. absurd (none b.shape b.binds.listed b.binds.under),
   )
   none_or_bound firsts e (inr u) = (λ is. u.none, λ none. u.is)
 
-  nets_under : (labels : List PlainLabel) → (entries : List NetLabel) × AreNetsUnder connections shapes labels entries
+  nets_under : (labels : List PlainLabel) → (entries : List PlainNetLabel) × AreNetsUnder connections shapes labels entries
   nets_under labels =
       let a = entries_there [] labels (record { listed = λ k s e. absurd cc; apart = λ j k s t e f net. absurd cc }) in (
         a.entries,

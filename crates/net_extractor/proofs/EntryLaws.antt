@@ -12,7 +12,7 @@ use Rattle.cell_hierarchy.specs.declared.flat.Label.{Label}
 use Rattle.cell_hierarchy.specs.Plain.{plain_label}
 use Rattle.element_drawing.specs.PlainLabel.{PlainLabel}
 use Rattle.net_extractor.specs.declared.label.Anchor.{Anchor}
-use Rattle.net_extractor.specs.declared.label.NetLabel.{NetLabel}
+use Rattle.net_extractor.specs.PlainNetLabel.{PlainNetLabel}
 use Rattle.net_extractor.specs.declared.numbering.Numbering.{Numbering}
 use Rattle.tech_rules.specs.Net.{AreOnOneNet}
 use Rattle.net_extractor.specs.Binding.{Binds, BindsNone}
@@ -26,12 +26,12 @@ use Rattle.net_extractor.proofs.NumberLaws.{on_one}
 use Rattle.net_extractor.proofs.ExtractLaws.{bound_there}
 
 -- the entry's label binds no shape
-pub record IsFree (shapes : List Shape) (e : NetLabel) : Type 0 where
+pub record IsFree (shapes : List Shape) (e : PlainNetLabel) : Type 0 where
   pub none : BindsNone shapes (anchor_of e)
   pub is : e.net ≡ None
 
 -- the entry's label binds the shape at a place, and has its number
-pub record IsHeld (shapes : List Shape) (nets : List (Option ℕ)) (e : NetLabel) : Type 0 where
+pub record IsHeld (shapes : List Shape) (nets : List (Option ℕ)) (e : PlainNetLabel) : Type 0 where
   pub place : ℕ
   pub number : ℕ
   pub bound : IsBoundAt shapes (anchor_of e) place
@@ -39,16 +39,16 @@ pub record IsHeld (shapes : List Shape) (nets : List (Option ℕ)) (e : NetLabel
   pub on : IsGivenNumber nets place number
 
 -- what stands in the entries so far, of the first labels
-pub record AreEntries (connections : List Connect) (shapes : List Shape) (labels : List Label) (i : ℕ) (numbering : Numbering) (entries : List NetLabel) : Type 0 where
+pub record AreEntries (connections : List Connect) (shapes : List Shape) (labels : List Label) (i : ℕ) (numbering : Numbering) (entries : List PlainNetLabel) : Type 0 where
   pub numbered : IsNumbering connections shapes numbering
   pub few : numbering.next ≤ i
   pub each : map label_of entries ≡ map plain_label (take i labels)
-  pub right : (e : NetLabel) → Contains entries e → IsFree shapes e ⊎ IsHeld shapes numbering.numbers.given e
-  pub order : (more : List (Option ℕ)) → AppearFrom numbering.next more → AppearFrom 0 (map (λ (e : NetLabel). e.net) entries ++ more)
+  pub right : (e : PlainNetLabel) → Contains entries e → IsFree shapes e ⊎ IsHeld shapes numbering.numbers.given e
+  pub order : (more : List (Option ℕ)) → AppearFrom numbering.next more → AppearFrom 0 (map (λ (e : PlainNetLabel). e.net) entries ++ more)
 
-net_step : (net : Option ℕ) (entries : List NetLabel) (label : PlainLabel) (more : List (Option ℕ)) → map (λ (e : NetLabel). e.net) (entries ++ entry label net ∷ []) ++ more ≡ map (λ (e : NetLabel). e.net) entries ++ (net ∷ more)
+net_step : (net : Option ℕ) (entries : List PlainNetLabel) (label : PlainLabel) (more : List (Option ℕ)) → map (λ (e : PlainNetLabel). e.net) (entries ++ entry label net ∷ []) ++ more ≡ map (λ (e : PlainNetLabel). e.net) entries ++ (net ∷ more)
 net_step net entries label more =
-    ap (λ (ns : List (Option ℕ)). ns ++ more) (map-append (λ (e : NetLabel). e.net) entries (entry label net ∷ [])) ∙ append_assoc (map (λ (e : NetLabel). e.net) entries) (net ∷ []) more
+    ap (λ (ns : List (Option ℕ)). ns ++ more) (map-append (λ (e : PlainNetLabel). e.net) entries (entry label net ∷ [])) ∙ append_assoc (map (λ (e : PlainNetLabel). e.net) entries) (net ∷ []) more
 
 appear_step : (connections : List Connect) (shapes : List Shape) (label : Anchor) (old new : Numbering) (net : Option ℕ) (more : List (Option ℕ)) → IsNetOf connections shapes label old net new → AppearFrom new.next more → AppearFrom old.next (net ∷ more)
 appear_step connections shapes label old new None more h a = subst (λ (n : Numbering). AppearFrom n.next more) h.same a
@@ -57,7 +57,7 @@ appear_step connections shapes label old new (Some number) more h a = elim h.num
   | inr fresh ↦ inr (fresh.0, subst (λ (n : ℕ). AppearFrom n more) fresh.1 a)
 ]
 
-kept_right : (shapes : List Shape) (old new : List (Option ℕ)) (e : NetLabel) → ((k m : ℕ) → IsGivenNumber old k m → IsGivenNumber new k m) → IsFree shapes e ⊎ IsHeld shapes old e → IsFree shapes e ⊎ IsHeld shapes new e
+kept_right : (shapes : List Shape) (old new : List (Option ℕ)) (e : PlainNetLabel) → ((k m : ℕ) → IsGivenNumber old k m → IsGivenNumber new k m) → IsFree shapes e ⊎ IsHeld shapes old e → IsFree shapes e ⊎ IsHeld shapes new e
 kept_right shapes old new e kept (inl f) = inl f
 kept_right shapes old new e kept (inr h) = inr (record { place = h.place; number = h.number; bound = h.bound; is = h.is; on = kept h.place h.number h.on })
 
@@ -81,7 +81,7 @@ right_step : (connections : List Connect) (shapes : List Shape) (label : PlainLa
 right_step connections shapes label old new None h = inl (record { none = h.none; is = refl })
 right_step connections shapes label old new (Some number) h = inr (record { place = h.place; number = number; bound = h.bound; is = refl; on = h.numbers.here })
 
-pub entries_begin : (connections : List Connect) (shapes : List Shape) (labels : List Label) (numbering : Numbering) (entries : List NetLabel) → IsNumbering connections shapes numbering → numbering.next ≡ 0 → entries ≡ [] → AreEntries connections shapes labels 0 numbering entries
+pub entries_begin : (connections : List Connect) (shapes : List Shape) (labels : List Label) (numbering : Numbering) (entries : List PlainNetLabel) → IsNumbering connections shapes numbering → numbering.next ≡ 0 → entries ≡ [] → AreEntries connections shapes labels 0 numbering entries
 entries_begin connections shapes labels numbering entries n zeroth none =
     subst (AreEntries connections shapes labels 0 numbering) (sym none) (record {
       numbered = n;
@@ -91,7 +91,7 @@ entries_begin connections shapes labels numbering entries n zeroth none =
       order = λ more a. subst (λ (k : ℕ). AppearFrom k more) zeroth a;
     })
 
-pub entries_more : (connections : List Connect) (shapes : List Shape) (labels : List Label) (i : ℕ) (label : Label) (net : Option ℕ) (old new : Numbering) (entries more : List NetLabel)
+pub entries_more : (connections : List Connect) (shapes : List Shape) (labels : List Label) (i : ℕ) (label : Label) (net : Option ℕ) (old new : Numbering) (entries more : List PlainNetLabel)
     → i < length labels → label ≡ get_or labels i label → IsNetOf connections shapes (anchor_of (entry (plain_label label) net)) old net new → more ≡ entries ++ entry (plain_label label) net ∷ []
     → AreEntries connections shapes labels i old entries → AreEntries connections shapes labels (i + 1) new more
 entries_more connections shapes labels i label net old new entries more lt is h grown a =
@@ -106,24 +106,24 @@ entries_more connections shapes labels i label net old new entries more lt is h 
           ∙ ap (map plain_label) (ap (λ (l : Label). take i labels ++ l ∷ []) is ∙ sym (take_more labels i label lt))));
       right = λ e c. elim (Contains-push_cases entries (entry (plain_label label) net) e c) [
         | inl earlier ↦ kept_right shapes old.numbers.given new.numbers.given e (kept_numbers connections shapes anchor old new net h) (a.right e earlier)
-        | inr same ↦ subst (λ (f : NetLabel). IsFree shapes f ⊎ IsHeld shapes new.numbers.given f) same (right_step connections shapes (plain_label label) old new net h)
+        | inr same ↦ subst (λ (f : PlainNetLabel). IsFree shapes f ⊎ IsHeld shapes new.numbers.given f) same (right_step connections shapes (plain_label label) old new net h)
       ];
       order = λ rest b. subst (AppearFrom 0) (sym (net_step net entries (plain_label label) rest)) (a.order (net ∷ rest) (appear_step connections shapes anchor old new net rest h b));
     })
 
 -- who binds a shape is held
-held : (shapes : List Shape) (nets : List (Option ℕ)) (e : NetLabel) (s : Shape) → IsFree shapes e ⊎ IsHeld shapes nets e → Binds shapes (anchor_of e) s → IsHeld shapes nets e
+held : (shapes : List Shape) (nets : List (Option ℕ)) (e : PlainNetLabel) (s : Shape) → IsFree shapes e ⊎ IsHeld shapes nets e → Binds shapes (anchor_of e) s → IsHeld shapes nets e
 held shapes nets e s (inl f) b = absurd (f.none s b.listed b.under)
 held shapes nets e s (inr h) b = h
 
-free_exactly : (shapes : List Shape) (nets : List (Option ℕ)) (e : NetLabel) → IsFree shapes e ⊎ IsHeld shapes nets e → (e.net ≡ None) ↔ BindsNone shapes (anchor_of e)
+free_exactly : (shapes : List Shape) (nets : List (Option ℕ)) (e : PlainNetLabel) → IsFree shapes e ⊎ IsHeld shapes nets e → (e.net ≡ None) ↔ BindsNone shapes (anchor_of e)
 free_exactly shapes nets e (inl f) = (λ _. f.none, λ _. f.is)
 free_exactly shapes nets e (inr h) = (
   λ n. let clash : ◌≡◌ {A = Option ℕ} None (Some h.number) = sym n ∙ h.is in absurd cc,
   λ n. absurd (n h.bound.shape (contained_at shapes h.place h.bound.shape h.bound.there) h.bound.under),
 )
 
-one_exactly : (connections : List Connect) (shapes : List Shape) (numbering : Numbering) (e f : NetLabel) (s t : Shape) → IsStrictlySortedBy shape_order shapes → IsNumbering connections shapes numbering
+one_exactly : (connections : List Connect) (shapes : List Shape) (numbering : Numbering) (e f : PlainNetLabel) (s t : Shape) → IsStrictlySortedBy shape_order shapes → IsNumbering connections shapes numbering
     → IsHeld shapes numbering.numbers.given e → IsHeld shapes numbering.numbers.given f → Binds shapes (anchor_of e) s → Binds shapes (anchor_of f) t → (e.net ≡ f.net) ↔ AreOnOneNet connections shapes s t
 one_exactly connections shapes numbering e f s t rises n a b binds_s binds_t =
     let nets = numbering.numbers.given in
@@ -140,12 +140,12 @@ one_exactly connections shapes numbering e f s t rises n a b binds_s binds_t =
           a.is ∙ (ap (λ (k : ℕ). Some k) equal ∙ sym b.is),
     )
 
-pub entries_all : (connections : List Connect) (shapes : List Shape) (labels : List Label) (i : ℕ) (numbering : Numbering) (entries : List NetLabel) → IsStrictlySortedBy shape_order shapes → length labels ≤ i
+pub entries_all : (connections : List Connect) (shapes : List Shape) (labels : List Label) (i : ℕ) (numbering : Numbering) (entries : List PlainNetLabel) → IsStrictlySortedBy shape_order shapes → length labels ≤ i
     → AreEntries connections shapes labels i numbering entries → AreNetsUnder connections shapes (map plain_label labels) entries
 entries_all connections shapes labels i numbering entries rises le a = record {
   each = a.each ∙ ap (map plain_label) (take_all i labels le);
   unbound = λ e h. free_exactly shapes numbering.numbers.given e (a.right e h);
   one = λ e f s t in_e in_f binds_s binds_t.
       one_exactly connections shapes numbering e f s t rises a.numbered (held shapes numbering.numbers.given e s (a.right e in_e) binds_s) (held shapes numbering.numbers.given f t (a.right f in_f) binds_t) binds_s binds_t;
-  numbered = subst (AppearFrom 0) (append-nil (map (λ (e : NetLabel). e.net) entries)) (a.order [] tt);
+  numbered = subst (AppearFrom 0) (append-nil (map (λ (e : PlainNetLabel). e.net) entries)) (a.order [] tt);
 }

@@ -1,5 +1,6 @@
 pub mod AreaLaws
 pub mod PlaceLaws
+pub mod MappedLaws
 mod GivingLaws
 pub mod NetLaws
 mod LinkLaws
@@ -15,6 +16,7 @@ mod MixedLaws
 mod ConflictLaws
 mod MatchingLaws
 mod PathLaws
+mod StrangerLaws
 pub mod DifferenceLaws
 pub mod OneDifferenceLaws
 pub mod OneBindingLaws

@@ -4,7 +4,7 @@ use Rattle.std.specs.Prelude.{slice_get, Some}
 use Rattle.std.proofs.lemmas.Bool.{cases_lt}
 use Rattle.or_geom.proofs.ListLaws.{one_at}
 use Rattle.netlist.specs.declared.rows.RowPin.{RowPin}
-use Rattle.net_extractor.specs.declared.label.NetLabel.{NetLabel}
+use Rattle.net_extractor.specs.PlainNetLabel.{PlainNetLabel}
 use Rattle.net_extractor.specs.declared.difference.NetDiff.TheVariants.{Unlabelled, Stranger, Open, Short}
 use Rattle.net_extractor.specs.declared.difference.PinName.{PinName}
 use Rattle.net_extractor.specs.Difference.{IsLabelled, IsStranger, IsWhole, Agree}
@@ -26,51 +26,51 @@ one_here xs i j x y e at_i at_j = one_at xs j x y (subst (λ (k : ℕ). slice_ge
 one_first : {X : Type 0} (P : X → Type 0) (xs : List X) (i j : ℕ) (x y : X) → IsFirst P xs i x → IsFirst P xs j y → x ≡ y
 one_first P xs i j x y a b = one_here xs i j x y (one_place i j (λ lt. b.before i x lt a.here a.has) (λ lt. a.before j y lt b.here b.has)) a.here b.here
 
-unlabelled_not : (labels : List NetLabel) (pins : List RowPin) (place : ℕ) → IsUnlabelledAt labels pins place → AreLabelled labels pins → ⊥
+unlabelled_not : (labels : List PlainNetLabel) (pins : List RowPin) (place : ℕ) → IsUnlabelledAt labels pins place → AreLabelled labels pins → ⊥
 unlabelled_not labels pins place u all = u.first.has (all place u.pin u.first.here)
 
-stranger_not : (labels : List NetLabel) (pins : List RowPin) (place : ℕ) → IsStrangerAt labels pins place → AreNoStrangers labels pins → ⊥
+stranger_not : (labels : List PlainNetLabel) (pins : List RowPin) (place : ℕ) → IsStrangerAt labels pins place → AreNoStrangers labels pins → ⊥
 stranger_not labels pins place s none = none place s.label s.first.here s.first.has
 
 -- something is wrong with the pin at the place, and with none before it
-record Fails (labels : List NetLabel) (pins : List RowPin) (place : ℕ) : Type 0 where
+record Fails (labels : List PlainNetLabel) (pins : List RowPin) (place : ℕ) : Type 0 where
   right : AreRightBefore labels pins place
   not : AreRightBefore labels pins (place + 1) → ⊥
 
-right_less : (labels : List NetLabel) (pins : List RowPin) (i j : ℕ) → i < j → AreRightBefore labels pins j → AreRightBefore labels pins (i + 1)
+right_less : (labels : List PlainNetLabel) (pins : List RowPin) (i j : ℕ) → i < j → AreRightBefore labels pins j → AreRightBefore labels pins (i + 1)
 right_less labels pins i j lt right = record {
   whole = λ k p below. right.whole k p (omega (arith, below, lt));
   agree = λ h k q p before below. right.agree h k q p before (omega (arith, below, lt));
 }
 
 -- that is so at one place
-fails_once : (labels : List NetLabel) (pins : List RowPin) (i j : ℕ) → Fails labels pins i → Fails labels pins j → i ≡ j
+fails_once : (labels : List PlainNetLabel) (pins : List RowPin) (i j : ℕ) → Fails labels pins i → Fails labels pins j → i ≡ j
 fails_once labels pins i j a b = one_place i j (λ lt. a.not (right_less labels pins i j lt b.right)) (λ lt. b.not (right_less labels pins j i lt a.right))
 
-torn_fails : (labels : List NetLabel) (pins : List RowPin) (place : ℕ) → IsTornAt labels pins place → Fails labels pins place
+torn_fails : (labels : List PlainNetLabel) (pins : List RowPin) (place : ℕ) → IsTornAt labels pins place → Fails labels pins place
 torn_fails labels pins place t = record {
   right = t.right;
   not = λ right. t.torn.differ (right.whole place t.pin (omega arith) t.here t.torn.m t.torn.n t.torn.first t.torn.second);
 }
 
 -- of pins that agree this is not so
-abbrev Denies : List NetLabel → (RowPin → RowPin → Type 0) → Type 0
+abbrev Denies : List PlainNetLabel → (RowPin → RowPin → Type 0) → Type 0
 Denies labels Wrong = (q p : RowPin) → Wrong q p → Agree labels q p → ⊥
 
-open_denies : (labels : List NetLabel) → Denies labels (AreOpen labels)
+open_denies : (labels : List PlainNetLabel) → Denies labels (AreOpen labels)
 open_denies labels q p w agree = w.differ ((agree w.m w.n w.first w.second).1 w.one)
 
-short_denies : (labels : List NetLabel) → Denies labels (AreShort labels)
+short_denies : (labels : List PlainNetLabel) → Denies labels (AreShort labels)
 short_denies labels q p w agree = w.differ ((agree w.net w.net w.first w.second).0 refl)
 
-wrong_fails : (Wrong : RowPin → RowPin → Type 0) (labels : List NetLabel) (pins : List RowPin) (earlier place : ℕ) → Denies labels Wrong → IsWrongAt Wrong labels pins earlier place → Fails labels pins place
+wrong_fails : (Wrong : RowPin → RowPin → Type 0) (labels : List PlainNetLabel) (pins : List RowPin) (earlier place : ℕ) → Denies labels Wrong → IsWrongAt Wrong labels pins earlier place → Fails labels pins place
 wrong_fails Wrong labels pins earlier place denies w = record {
   right = w.right;
   not = λ right. denies w.other w.pin w.wrong (right.agree earlier place w.other w.pin w.before (omega arith) w.there w.here);
 }
 
 -- a pin that has labels on two nets is not wrong with another
-torn_or_wrong : (Wrong : RowPin → RowPin → Type 0) (labels : List NetLabel) (pins : List RowPin) (i earlier j : ℕ) → Denies labels Wrong → IsTornAt labels pins i → IsWrongAt Wrong labels pins earlier j → ⊥
+torn_or_wrong : (Wrong : RowPin → RowPin → Type 0) (labels : List PlainNetLabel) (pins : List RowPin) (i earlier j : ℕ) → Denies labels Wrong → IsTornAt labels pins i → IsWrongAt Wrong labels pins earlier j → ⊥
 torn_or_wrong Wrong labels pins i earlier j denies t w =
     let place = fails_once labels pins i j (torn_fails labels pins i t) (wrong_fails Wrong labels pins earlier j denies w) in
     let pin = one_here pins j i w.pin t.pin (sym place) w.here t.here in
@@ -81,7 +81,7 @@ record OnePair (q p q' p' : RowPin) : Type 0 where
   other : q ≡ q'
   pin : p ≡ p'
 
-module _ (V W : RowPin → RowPin → Type 0) (labels : List NetLabel) (pins : List RowPin) (h i j k : ℕ) (denies_v : Denies labels V) (denies_w : Denies labels W) (v : IsWrongAt V labels pins h i) (w : IsWrongAt W labels pins j k) where
+module _ (V W : RowPin → RowPin → Type 0) (labels : List PlainNetLabel) (pins : List RowPin) (h i j k : ℕ) (denies_v : Denies labels V) (denies_w : Denies labels W) (v : IsWrongAt V labels pins h i) (w : IsWrongAt W labels pins j k) where
   one_pin : v.pin ≡ w.pin
   one_pin = one_here pins i k v.pin w.pin (fails_once labels pins i k (wrong_fails V labels pins h i denies_v v) (wrong_fails W labels pins j k denies_w w)) v.here w.here
 
@@ -94,7 +94,7 @@ module _ (V W : RowPin → RowPin → Type 0) (labels : List NetLabel) (pins : L
   one_pair = record { other = one_here pins h j v.other w.other one_earlier v.there w.there; pin = one_pin }
 
 -- pins that are open are not short
-open_or_short : (labels : List NetLabel) (pins : List RowPin) (first second first' second' : PinName) → FirstWrong (AreOpen labels) labels pins first second → FirstWrong (AreShort labels) labels pins first' second' → ⊥
+open_or_short : (labels : List PlainNetLabel) (pins : List RowPin) (first second first' second' : PinName) → FirstWrong (AreOpen labels) labels pins first second → FirstWrong (AreShort labels) labels pins first' second' → ⊥
 open_or_short labels pins first second first' second' a b =
     let one = one_pair (AreOpen labels) (AreShort labels) labels pins a.earlier a.place b.earlier b.place (open_denies labels) (short_denies labels) a.pair b.pair in
     b.pair.wrong.differ (ap (λ (p : RowPin). p.net) (sym one.other) ∙ (a.pair.wrong.one ∙ ap (λ (p : RowPin). p.net) one.pin))
@@ -104,12 +104,12 @@ record OneNames (a b c d : PinName) : Type 0 where
   first : a ≡ c
   second : b ≡ d
 
-one_wrong : (Wrong : RowPin → RowPin → Type 0) (labels : List NetLabel) (pins : List RowPin) (a b c d : PinName) → Denies labels Wrong → FirstWrong Wrong labels pins a b → FirstWrong Wrong labels pins c d → OneNames a b c d
+one_wrong : (Wrong : RowPin → RowPin → Type 0) (labels : List PlainNetLabel) (pins : List RowPin) (a b c d : PinName) → Denies labels Wrong → FirstWrong Wrong labels pins a b → FirstWrong Wrong labels pins c d → OneNames a b c d
 one_wrong Wrong labels pins a b c d denies v w =
     let one = one_pair Wrong Wrong labels pins v.earlier v.place w.earlier w.place denies denies v.pair w.pair in
     record { first = v.named ∙ (ap name_of_pin one.other ∙ sym w.named); second = v.then ∙ (ap name_of_pin one.pin ∙ sym w.then) }
 
-one_torn : (labels : List NetLabel) (pins : List RowPin) (a b c d : PinName) → FirstTorn labels pins a b → FirstTorn labels pins c d → OneNames a b c d
+one_torn : (labels : List PlainNetLabel) (pins : List RowPin) (a b c d : PinName) → FirstTorn labels pins a b → FirstTorn labels pins c d → OneNames a b c d
 one_torn labels pins a b c d v w =
     let place = fails_once labels pins v.place w.place (torn_fails labels pins v.place v.torn) (torn_fails labels pins w.place w.torn) in
     let name = ap name_of_pin (one_here pins v.place w.place v.torn.pin w.torn.pin place v.torn.here w.torn.here) in

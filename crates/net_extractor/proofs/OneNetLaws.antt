@@ -8,7 +8,7 @@ use Rattle.or_geom.proofs.NumberingLaws.{one_by, Follows, one_number}
 use Rattle.element_drawing.specs.PlainLabel.{PlainLabel}
 use Rattle.tech_rules.specs.declared.tech.Connect.{Connect}
 use Rattle.net_extractor.specs.declared.label.Anchor.{Anchor}
-use Rattle.net_extractor.specs.declared.label.NetLabel.{NetLabel}
+use Rattle.net_extractor.specs.PlainNetLabel.{PlainNetLabel}
 use Rattle.net_extractor.specs.Binding.{Binds, BindsNone}
 use Rattle.net_extractor.specs.Extraction.{label_of, anchor_of, AreNetsUnder}
 use Rattle.net_extractor.specs.FirstAppearance.{AppearFrom}
@@ -48,54 +48,54 @@ stands (Some v ∷ rest) next (suc place) number smaller (inl a) has lt = stands
 stands (Some v ∷ rest) next (suc place) number smaller (inr a) has lt = stands_here v rest next place smaller a.0 (stands rest (next + 1) place number smaller a.1 has lt)
 
 -- the nets of the entries
-abbrev nets_of : List NetLabel → List (Option ℕ)
-nets_of entries = map (λ (e : NetLabel). e.net) entries
+abbrev nets_of : List PlainNetLabel → List (Option ℕ)
+nets_of entries = map (λ (e : PlainNetLabel). e.net) entries
 
 -- the entry at the place, with this net
-record StandsAt (entries : List NetLabel) (place : ℕ) (net : Option ℕ) : Type 0 where
-  entry : NetLabel
+record StandsAt (entries : List PlainNetLabel) (place : ℕ) (net : Option ℕ) : Type 0 where
+  entry : PlainNetLabel
   here : slice_get entries place ≡ Some entry
   is : entry.net ≡ net
 
-stands_at : (entries : List NetLabel) (place : ℕ) (net : Option ℕ) → slice_get (nets_of entries) place ≡ Some net → StandsAt entries place net
+stands_at : (entries : List PlainNetLabel) (place : ℕ) (net : Option ℕ) → slice_get (nets_of entries) place ≡ Some net → StandsAt entries place net
 stands_at [] place net h = absurd cc
 stands_at (e ∷ es) zero net h = record { entry = e; here = refl; is = cc }
 stands_at (e ∷ es) (suc place) net h = let s = stands_at es place net h in record { entry = s.entry; here = s.here; is = s.is }
 
-net_at : (entries : List NetLabel) (place : ℕ) (e : NetLabel) → slice_get entries place ≡ Some e → slice_get (nets_of entries) place ≡ Some e.net
+net_at : (entries : List PlainNetLabel) (place : ℕ) (e : PlainNetLabel) → slice_get entries place ≡ Some e → slice_get (nets_of entries) place ≡ Some e.net
 net_at [] place e h = absurd cc
-net_at (f ∷ fs) zero e h = let same : f ≡ e = cc in ap (λ (g : NetLabel). Some g.net) same
+net_at (f ∷ fs) zero e h = let same : f ≡ e = cc in ap (λ (g : PlainNetLabel). Some g.net) same
 net_at (f ∷ fs) (suc place) e h = net_at fs place e h
 
 -- an entry of the same label at the same place
-record HasTwin (entries : List NetLabel) (place : ℕ) (e : NetLabel) : Type 0 where
-  entry : NetLabel
+record HasTwin (entries : List PlainNetLabel) (place : ℕ) (e : PlainNetLabel) : Type 0 where
+  entry : PlainNetLabel
   here : slice_get entries place ≡ Some entry
   alike : label_of e ≡ label_of entry
 
-twin : (a b : List NetLabel) (place : ℕ) (e : NetLabel) → map label_of a ≡ map label_of b → slice_get a place ≡ Some e → HasTwin b place e
+twin : (a b : List PlainNetLabel) (place : ℕ) (e : PlainNetLabel) → map label_of a ≡ map label_of b → slice_get a place ≡ Some e → HasTwin b place e
 twin [] b place e same h = absurd cc
 twin (x ∷ xs) [] place e same h = absurd cc
 twin (x ∷ xs) (y ∷ ys) zero e same h = let is : x ≡ e = cc in record { entry = y; here = refl; alike = ap label_of (sym is) ∙ (cc) }
 twin (x ∷ xs) (y ∷ ys) (suc place) e same h = let t = twin xs ys place e (cc) h in record { entry = t.entry; here = t.here; alike = t.alike }
 
 -- entries of one label stand at one place
-one_anchor : (e f : NetLabel) → label_of e ≡ label_of f → anchor_of e ≡ anchor_of f
+one_anchor : (e f : PlainNetLabel) → label_of e ≡ label_of f → anchor_of e ≡ anchor_of f
 one_anchor e f same = ap (λ (l : PlainLabel). let made : Anchor = record { layer = l.layer; at = l.at } in made) same
 
-module _ (connections : List Connect) (shapes : List Shape) (labels : List PlainLabel) (a b : List NetLabel) (x : AreNetsUnder connections shapes labels a) (y : AreNetsUnder connections shapes labels b) where
+module _ (connections : List Connect) (shapes : List Shape) (labels : List PlainLabel) (a b : List PlainNetLabel) (x : AreNetsUnder connections shapes labels a) (y : AreNetsUnder connections shapes labels b) where
   -- where the one has no net the other has none
-  none_too : (k : ℕ) (e f : NetLabel) → slice_get a k ≡ Some e → slice_get b k ≡ Some f → label_of e ≡ label_of f → f.net ≡ None → e.net ≡ None
+  none_too : (k : ℕ) (e f : PlainNetLabel) → slice_get a k ≡ Some e → slice_get b k ≡ Some f → label_of e ≡ label_of f → f.net ≡ None → e.net ≡ None
   none_too k e f at_e at_f same none =
       (x.unbound e (contained_at a k e at_e)).1 (subst (BindsNone shapes) (sym (one_anchor e f same)) ((y.unbound f (contained_at b k f at_f)).0 none))
 
   -- an entry that has a net binds a shape
-  bound : (k n : ℕ) (e : NetLabel) → slice_get a k ≡ Some e → e.net ≡ Some n → (s : Shape) × Binds shapes (anchor_of e) s
+  bound : (k n : ℕ) (e : PlainNetLabel) → slice_get a k ≡ Some e → e.net ≡ Some n → (s : Shape) × Binds shapes (anchor_of e) s
   bound k n e here is = binds_some shapes (anchor_of e) (λ none.
       let clash : ◌≡◌ {A = Option ℕ} None (Some n) = sym ((x.unbound e (contained_at a k e here)).1 none) ∙ is in
       cc)
 
-  net_too : (k n : ℕ) (e f : NetLabel) (net : Option ℕ) → slice_get a k ≡ Some e → slice_get b k ≡ Some f → label_of e ≡ label_of f → e.net ≡ Some n → f.net ≡ net → (m : ℕ) × (f.net ≡ Some m)
+  net_too : (k n : ℕ) (e f : PlainNetLabel) (net : Option ℕ) → slice_get a k ≡ Some e → slice_get b k ≡ Some f → label_of e ≡ label_of f → e.net ≡ Some n → f.net ≡ net → (m : ℕ) × (f.net ≡ Some m)
   net_too k n e f None at_e at_f same is none = let clash : ◌≡◌ {A = Option ℕ} None (Some n) = sym (none_too k e f at_e at_f same none) ∙ is in absurd cc
   net_too k n e f (Some m) at_e at_f same is other = (m, other)
 
@@ -134,7 +134,7 @@ module _ (connections : List Connect) (shapes : List Shape) (labels : List Plain
   }
 
 -- of entries of one label neither has a net where the other has none, and the numbers are one
-same_net : (connections : List Connect) (shapes : List Shape) (labels : List PlainLabel) (a b : List NetLabel) (k : ℕ) (e f : NetLabel) (m n : Option ℕ) → AreNetsUnder connections shapes labels a → AreNetsUnder connections shapes labels b → slice_get a k ≡ Some e → slice_get b k ≡ Some f
+same_net : (connections : List Connect) (shapes : List Shape) (labels : List PlainLabel) (a b : List PlainNetLabel) (k : ℕ) (e f : PlainNetLabel) (m n : Option ℕ) → AreNetsUnder connections shapes labels a → AreNetsUnder connections shapes labels b → slice_get a k ≡ Some e → slice_get b k ≡ Some f
     → label_of e ≡ label_of f → e.net ≡ m → f.net ≡ n → e.net ≡ f.net
 same_net connections shapes labels a b k e f None n x y at_e at_f same is_m is_n = is_m ∙ sym (none_too connections shapes labels b a y x k f e at_f at_e (sym same) is_m)
 same_net connections shapes labels a b k e f (Some m) None x y at_e at_f same is_m is_n = none_too connections shapes labels a b x y k e f at_e at_f same is_n ∙ sym is_n

@@ -6,7 +6,7 @@ use Rattle.std.proofs.lemmas.List.{get_or_append_left, get_or_push, length_push}
 use Rattle.std.proofs.lemmas.Option.{slice_get_within, slice_get_cases, get_or_from_slice_get, slice_get_read}
 use Rattle.or_geom.proofs.ListLaws.{one_at}
 use Rattle.netlist.specs.declared.rows.RowPin.{RowPin}
-use Rattle.net_extractor.specs.declared.label.NetLabel.{NetLabel}
+use Rattle.net_extractor.specs.PlainNetLabel.{PlainNetLabel}
 use Rattle.net_extractor.specs.declared.pins.PinNet.{PinNet}
 use Rattle.net_extractor.specs.Difference.{IsLabelOf, IsLabelled}
 use Rattle.net_extractor.specs.FirstDifference.{IsUnlabelledAt, AreLabelled}
@@ -31,11 +31,11 @@ push_cases {X} xs new x k y grown there =
     ]
 
 -- the nets of the pins before a place
-pub record ArePinNetsBefore (labels : List NetLabel) (pins : List RowPin) (nets : List PinNet) (i : ℕ) : Type 0 where
+pub record ArePinNetsBefore (labels : List PlainNetLabel) (pins : List RowPin) (nets : List PinNet) (i : ℕ) : Type 0 where
   pub sized : length nets ≡ i
   pub each : (k : ℕ) (pin : RowPin) (net : PinNet) → slice_get pins k ≡ Some pin → slice_get nets k ≡ Some net → IsPinNet labels pin net
 
-pub pins_more : (labels : List NetLabel) (pins : List RowPin) (nets new : List PinNet) (i : ℕ) (pin : RowPin) (net : PinNet) → slice_get pins i ≡ Some pin → IsPinNet labels pin net → new ≡ nets ++ net ∷ []
+pub pins_more : (labels : List PlainNetLabel) (pins : List RowPin) (nets new : List PinNet) (i : ℕ) (pin : RowPin) (net : PinNet) → slice_get pins i ≡ Some pin → IsPinNet labels pin net → new ≡ nets ++ net ∷ []
     → ArePinNetsBefore labels pins nets i → ArePinNetsBefore labels pins new (i + 1)
 pins_more labels pins nets new i pin net here is grown b = record {
   sized = let longer = length_push nets net in let size = ap length grown in let s = b.sized in omega (arith, longer, size, s);
@@ -48,7 +48,7 @@ pins_more labels pins nets new i pin net here is grown b = record {
 }
 
 -- the pins before the place have bound labels, and the one there has none
-pub pins_lack : (labels : List NetLabel) (pins : List RowPin) (nets : List PinNet) (i : ℕ) (pin : RowPin) → slice_get pins i ≡ Some pin → (IsLabelled labels pin → ⊥) → ArePinNetsBefore labels pins nets i → IsUnlabelledAt labels pins i
+pub pins_lack : (labels : List PlainNetLabel) (pins : List RowPin) (nets : List PinNet) (i : ℕ) (pin : RowPin) → slice_get pins i ≡ Some pin → (IsLabelled labels pin → ⊥) → ArePinNetsBefore labels pins nets i → IsUnlabelledAt labels pins i
 pins_lack labels pins nets i pin here lacks b = record {
   pin = pin;
   first = record {
@@ -60,13 +60,13 @@ pins_lack labels pins nets i pin here lacks b = record {
   };
 }
 
-pub labelled_all : (labels : List NetLabel) (pins : List RowPin) (nets : List PinNet) → ArePinNets labels pins nets → AreLabelled labels pins
+pub labelled_all : (labels : List PlainNetLabel) (pins : List RowPin) (nets : List PinNet) → ArePinNets labels pins nets → AreLabelled labels pins
 labelled_all labels pins nets a place pin here =
     let n = exists_at nets place (let s = a.sized in let lt = slice_get_within pins place pin here in omega (arith, s, lt)) in
     record { net = n.0.layout; has = (a.each place pin n.0 here n.1).layout }
 
 -- a label that gives a pin no net
-abbrev pub GivesNone : RowPin → NetLabel → Type 0
+abbrev pub GivesNone : RowPin → PlainNetLabel → Type 0
 GivesNone pin label = IsLabelOf pin label → (n : ℕ) → label.net ≡ Some n → ⊥
 
 -- what an option says that is none, or some

@@ -1,7 +1,7 @@
 -- The first pin with which something is wrong, by places.
 use Rattle.std.specs.Prelude.{◌≡◌, ◌↔◌, ◌⊎◌, ℕ, ◌<◌, List, length, slice_get, Some}
 use Rattle.netlist.specs.declared.rows.RowPin.{RowPin}
-use Rattle.net_extractor.specs.declared.label.NetLabel.{NetLabel}
+use Rattle.net_extractor.specs.PlainNetLabel.{PlainNetLabel}
 use Rattle.net_extractor.specs.declared.pins.PinNet.{PinNet}
 use Rattle.net_extractor.specs.declared.conflicts.Conflict.{Conflict}
 use Rattle.net_extractor.specs.declared.conflicts.Conflict.TheVariants.{Open, Short}
@@ -25,7 +25,7 @@ pub record IsFirstOdd (nets : List PinNet) (place earlier : ℕ) : Type 0 where
   pub odd : (a b : PinNet) → slice_get nets earlier ≡ Some a → slice_get nets place ≡ Some b → AgreeOn a b → ⊥
 
 -- the first pin with which something is wrong, twice where it has labels on two nets, else after the one that it is wrong with
-abbrev pub IsConflict : List NetLabel → List RowPin → Conflict → Type 0
+abbrev pub IsConflict : List PlainNetLabel → List RowPin → Conflict → Type 0
 IsConflict labels pins (Open first second) = ((first ≡ second) × IsTornAt labels pins second) ⊎ IsWrongAt (AreOpen labels) labels pins first second
 IsConflict labels pins (Short first second) = IsWrongAt (AreShort labels) labels pins first second
 

@@ -4,14 +4,14 @@ use Rattle.or_geom.specs.declared.shape.Shape.{Shape}
 use Rattle.element_drawing.specs.PlainLabel.{PlainLabel}
 use Rattle.tech_rules.specs.declared.tech.Connect.{Connect}
 use Rattle.net_extractor.specs.declared.label.Anchor.{Anchor}
-use Rattle.net_extractor.specs.declared.label.NetLabel.{NetLabel}
+use Rattle.net_extractor.specs.PlainNetLabel.{PlainNetLabel}
 use Rattle.net_extractor.specs.declared.numbering.Numbering.{Numbering}
 use Rattle.net_extractor.specs.Binding.{BindsNone}
 use Rattle.net_extractor.specs.Bound.{IsBoundAt}
 use Rattle.net_extractor.specs.Numbering.{Numbers}
 
 -- the label with its net
-abbrev pub entry : PlainLabel → Option ℕ → NetLabel
+abbrev pub entry : PlainLabel → Option ℕ → PlainNetLabel
 entry label net = record { path = label.path; name = label.name; layer = label.layer; at = label.at; net = net }
 
 -- the label binds no shape, and the numbers stay

@@ -5,7 +5,7 @@ use Rattle.std.specs.Cmp.Lexicographic.{pointwise}
 use Rattle.indexmap.specs.IndexMap.{get_by}
 use Rattle.netlist.specs.declared.rows.RowPin.{RowPin}
 use Rattle.net_extractor.specs.declared.key_places.KeyPlaces.{KeyPlaces}
-use Rattle.net_extractor.specs.declared.label.NetLabel.{NetLabel}
+use Rattle.net_extractor.specs.PlainNetLabel.{PlainNetLabel}
 use Rattle.net_extractor.specs.Difference.{in_lower_case}
 
 -- they are of the same bytes
@@ -28,21 +28,21 @@ abbrev pub pin_key : RowPin → List ℕ
 pin_key pin = path_name_key pin.path pin.pin
 
 -- of a label that is bound; of another label a key that no pin has
-abbrev pub label_key_with : Option ℕ → NetLabel → List ℕ
+abbrev pub label_key_with : Option ℕ → PlainNetLabel → List ℕ
 label_key_with None label = []
 label_key_with (Some net) label = path_name_key (in_lower_case label.path) (in_lower_case label.name)
 
-abbrev pub label_key : NetLabel → List ℕ
+abbrev pub label_key : PlainNetLabel → List ℕ
 label_key label = label_key_with label.net label
 
 -- for the label at a place: where the first one with its key has no mark, it is on its net
-abbrev pub IsMixedAt : List NetLabel → List Bool → ℕ → Type 0
+abbrev pub IsMixedAt : List PlainNetLabel → List Bool → ℕ → Type 0
 IsMixedAt labels marks place =
-    (first net : ℕ) (label other : NetLabel) → slice_get labels place ≡ Some label → label.net ≡ Some net → first_place (map label_key labels) (label_key label) ≡ Some first → slice_get labels first ≡ Some other
+    (first net : ℕ) (label other : PlainNetLabel) → slice_get labels place ≡ Some label → label.net ≡ Some net → first_place (map label_key labels) (label_key label) ≡ Some first → slice_get labels first ≡ Some other
     → slice_index_or marks first false ≡ false → other.net ≡ Some net
 
 -- a mark for each label: the first one with some key has one, unless all bound labels with the key are on its net
-pub record AreMixed (labels : List NetLabel) (marks : List Bool) : Type 0 where
+pub record AreMixed (labels : List PlainNetLabel) (marks : List Bool) : Type 0 where
   pub sized : length marks ≡ length labels
   pub each : (place : ℕ) → IsMixedAt labels marks place
 
@@ -51,9 +51,9 @@ abbrev pub KeepsMarks : List Bool → List Bool → Type 0
 KeepsMarks old new = (k : ℕ) → slice_index_or old k false ≡ true → slice_index_or new k false ≡ true
 
 -- the label at the place, if there is one, is on this net
-abbrev pub IsOnNetAt : List NetLabel → ℕ → ℕ → Type 0
-IsOnNetAt labels place net = (label : NetLabel) → slice_get labels place ≡ Some label → label.net ≡ Some net
+abbrev pub IsOnNetAt : List PlainNetLabel → ℕ → ℕ → Type 0
+IsOnNetAt labels place net = (label : PlainNetLabel) → slice_get labels place ≡ Some label → label.net ≡ Some net
 
 -- the place of the first label with the key of the one at the place
-abbrev pub IsFirstFor : List NetLabel → ℕ → Option ℕ → Type 0
-IsFirstFor labels place first = (label : NetLabel) → slice_get labels place ≡ Some label → first_place (map label_key labels) (label_key label) ≡ first
+abbrev pub IsFirstFor : List PlainNetLabel → ℕ → Option ℕ → Type 0
+IsFirstFor labels place first = (label : PlainNetLabel) → slice_get labels place ≡ Some label → first_place (map label_key labels) (label_key label) ≡ first

@@ -1,3 +1,5 @@
+pub mod PlainNetLabel
+pub mod PlainNets
 pub mod Binding
 pub mod FirstAppearance
 pub mod Extraction

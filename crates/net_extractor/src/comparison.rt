@@ -1,7 +1,9 @@
-ghost use Rattle.std.specs.Prelude.{◌≡◌, ◌↔◌, ◌<◌, length, slice_get, Some, None, IfOk, IfSome};
+ghost use Rattle.std.specs.Prelude.{◌≡◌, ◌↔◌, ◌<◌, length, map, slice_get, Some, None, IfOk, IfSome};
 ghost use Rattle.net_extractor.specs.Conflicts.{AreConflictPins, IsDifferenceOf};
 ghost use Rattle.net_extractor.specs.Difference.{AreAlike};
 ghost use Rattle.net_extractor.specs.FirstDifference.{IsFirstDifference, name_of_label, name_of_pin};
+ghost use Rattle.net_extractor.specs.PlainNetLabel.{PlainNetLabel};
+ghost use Rattle.net_extractor.specs.PlainNets.{plain_net};
 
 use crate::conflicts::{Conflict, first_conflict};
 use crate::difference::{NetDiff, PinName};
@@ -25,10 +27,10 @@ fn pin_name(alloc: Global, pin: &RowPin) -> Result<PinName, Memory>
 /// The name of the label at the place, as it stands.
 fn label_name(alloc: Global, labels: &[NetLabel], place: usize) -> Result<PinName, Memory>
     requires { place < length labels.now }
-    ensures { IfOk result (λ name. (label : NetLabel) → slice_get labels.now place ≡ Some label
-        → name ≡ name_of_label label) }
+    ensures { IfOk result (λ name. (label : PlainNetLabel) → slice_get (map plain_net labels.now) place
+        ≡ Some label → name ≡ name_of_label label) }
 {
-    let label = &labels[place];
+    let label = labels[place].label;
     Ok(PinName {
         path: Name::from_bytes(alloc, label.path.as_bytes())?,
         pin: Name::from_bytes(alloc, label.name.as_bytes())?,
@@ -58,8 +60,8 @@ fn first_difference(
     labels: &[NetLabel],
     pins: &[RowPin],
 ) -> Result<Option<NetDiff>, Memory>
-    ensures none { IfOk result (λ found. (found ≡ None) ↔ AreAlike labels.now pins.now) }
-    ensures first { IfOk result (λ found. IfSome found (IsFirstDifference labels.now pins.now)) }
+    ensures none { IfOk result (λ found. (found ≡ None) ↔ AreAlike (map plain_net labels.now) pins.now) }
+    ensures first { IfOk result (λ found. IfSome found (IsFirstDifference (map plain_net labels.now) pins.now)) }
 {
     let nets = match pin_nets(alloc, labels, pins)? {
         PinNets::Unlabelled(place) => {
@@ -83,8 +85,9 @@ fn first_difference(
 /// The first difference of the labels of a layout and the rows of a netlist, or None exactly where there is none. First
 /// comes the first pin without a bound label, then the first stranger; then pin by pin what is open or short.
 pub fn compare(alloc: Global, nets: &Nets, rows: &Rows) -> Result<Option<NetDiff>, Memory>
-    ensures none { IfOk result (λ found. (found ≡ None) ↔ AreAlike nets.now.labels rows.now.pins) }
-    ensures first { IfOk result (λ found. IfSome found (IsFirstDifference nets.now.labels rows.now.pins)) }
+    ensures none { IfOk result (λ found. (found ≡ None) ↔ AreAlike (map plain_net nets.now.labels) rows.now.pins) }
+    ensures first { IfOk result (λ found. IfSome found (IsFirstDifference (map plain_net nets.now.labels)
+        rows.now.pins)) }
 {
     first_difference(alloc, nets.labels.as_slice(), rows.pins.as_slice())
 }

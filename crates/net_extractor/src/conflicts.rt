@@ -1,4 +1,4 @@
-ghost use Rattle.std.specs.Prelude.{◌≡◌, ◌↔◌, ◌<◌, length, slice_get, Some, IsTrue, IfOk, OnOk, MatchOption};
+ghost use Rattle.std.specs.Prelude.{◌≡◌, ◌↔◌, ◌<◌, length, map, slice_get, Some, IsTrue, IfOk, OnOk, MatchOption};
 ghost use Rattle.std.specs.BTreeMap.{get};
 ghost use Rattle.std.specs.Ordering.{nat_cmp};
 ghost use Rattle.or_geom.specs.Gathering.{SomeHas};
@@ -6,6 +6,7 @@ ghost use Rattle.net_extractor.specs.Conflicts.{AgreeBefore, AgreeOn, IsConflict
 ghost use Rattle.net_extractor.specs.Matching.{AreMatched, GoTogether, IsPut};
 ghost use Rattle.net_extractor.specs.FirstDifference.{AreRightBefore};
 ghost use Rattle.net_extractor.specs.PinNets.{ArePinNets, IsElsewhere, IsPinNet};
+ghost use Rattle.net_extractor.specs.PlainNets.{plain_net};
 
 use crate::label::NetLabel;
 use crate::pins::{PinNet, is_elsewhere};
@@ -107,8 +108,8 @@ fn put(matching: &mut Matching, net: PinNet) -> Result<(), Memory>
 
 /// Whether a bound label of the pin is on another net than the pin's.
 fn is_torn(labels: &[NetLabel], pin: &RowPin, net: PinNet) -> bool
-    requires { IsPinNet labels.now pin.now net }
-    ensures { IsTrue result ↔ SomeHas (IsElsewhere pin.now net.layout) labels.now }
+    requires { IsPinNet (map plain_net labels.now) pin.now net }
+    ensures { IsTrue result ↔ SomeHas (IsElsewhere pin.now net.layout) (map plain_net labels.now) }
 {
     if !net.mixed {
         return false;
@@ -123,9 +124,10 @@ pub fn first_conflict(
     pins: &[RowPin],
     nets: &[PinNet],
 ) -> Result<Option<Conflict>, Memory>
-    requires { ArePinNets labels.now pins.now nets.now }
-    ensures { IfOk result (λ found. MatchOption found (AreRightBefore labels.now pins.now (length pins.now))
-        (IsConflict labels.now pins.now)) }
+    requires { ArePinNets (map plain_net labels.now) pins.now nets.now }
+    ensures { IfOk result (λ found. MatchOption found
+        (AreRightBefore (map plain_net labels.now) pins.now (length pins.now))
+        (IsConflict (map plain_net labels.now) pins.now)) }
 {
     let mut matching = Matching {
         layouts: BTreeMap::new(alloc),

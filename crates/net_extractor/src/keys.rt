@@ -1,6 +1,7 @@
 ghost use Rattle.std.specs.Prelude.{◌≡◌, ◌<◌, ℕ, List, length, map, IfOk, IsTrue};
 ghost use Rattle.net_extractor.specs.KeyPlaces.{AreMixed, IsFirstFor, IsMixedAt, IsOnNetAt, KeepsMarks, first_place};
 ghost use Rattle.net_extractor.specs.KeyPlaces.{path_name_key, label_key, pin_key, place_under};
+ghost use Rattle.net_extractor.specs.PlainNets.{plain_net};
 
 use crate::key_places::KeyPlaces;
 use crate::label::NetLabel;
@@ -27,20 +28,20 @@ pub fn key_of_pin(alloc: Global, pin: &RowPin) -> Result<Name, Memory>
 }
 
 /// The key of a label: that of its pin where it is bound, or one that no pin has.
-fn key_of_label(alloc: Global, label: &NetLabel) -> Result<Name, Memory>
-    ensures { IfOk result (λ key. key ≡ label_key label.now) }
+fn key_of_label(alloc: Global, entry: &NetLabel) -> Result<Name, Memory>
+    ensures { IfOk result (λ key. key ≡ label_key (plain_net entry.now)) }
 {
-    let Some(_) = label.net else {
+    let Some(_) = entry.net else {
         return Ok(Name::from_bytes(alloc, &[])?);
     };
-    let path = lowered(alloc, label.path.as_bytes())?;
-    let name = lowered(alloc, label.name.as_bytes())?;
+    let path = lowered(alloc, entry.label.path.as_bytes())?;
+    let name = lowered(alloc, entry.label.name.as_bytes())?;
     key_text(alloc, &path, &name)
 }
 
 /// The keys of the labels.
 pub fn keys_of(alloc: Global, labels: &[NetLabel]) -> Result<Vec<Name>, Memory>
-    ensures { IfOk result (λ keys. keys.items ≡ map label_key labels.now) }
+    ensures { IfOk result (λ keys. keys.items ≡ map label_key (map plain_net labels.now)) }
 {
     let mut keys = Vec::new(alloc);
     for label in labels {
@@ -51,7 +52,7 @@ pub fn keys_of(alloc: Global, labels: &[NetLabel]) -> Result<Vec<Name>, Memory>
 
 /// Whether the label at the place, if there is one, is on this net.
 fn is_on(labels: &[NetLabel], place: usize, net: u32) -> bool
-    ensures { IsTrue result → IsOnNetAt labels.now place net }
+    ensures { IsTrue result → IsOnNetAt (map plain_net labels.now) place net }
 {
     let Some(label) = labels.get(place) else {
         return true;
@@ -66,9 +67,9 @@ fn is_on(labels: &[NetLabel], place: usize, net: u32) -> bool
 fn mark_mixed(labels: &[NetLabel], place: usize, first: Option<usize>, marks: &mut [bool])
     requires inside { place < length labels.now }
     requires sized { length marks.old ≡ length labels.now }
-    requires first { IsFirstFor labels.now place first }
+    requires first { IsFirstFor (map plain_net labels.now) place first }
     ensures kept { KeepsMarks marks.old marks.new }
-    ensures right { IsMixedAt labels.now marks.new place }
+    ensures right { IsMixedAt (map plain_net labels.now) marks.new place }
 {
     let Some(net) = labels[place].net else {
         return;
@@ -91,9 +92,9 @@ pub fn mixed_marks(
     keys: &[Name],
     table: &KeyPlaces,
 ) -> Result<Vec<bool>, Memory>
-    requires keys { keys.now ≡ map label_key labels.now }
+    requires keys { keys.now ≡ map label_key (map plain_net labels.now) }
     requires table { (key : List ℕ) → place_under table.now key ≡ first_place keys.now key }
-    ensures { IfOk result (λ marks. AreMixed labels.now marks.items) }
+    ensures { IfOk result (λ marks. AreMixed (map plain_net labels.now) marks.items) }
 {
     let mut marks = vec![in alloc; false; labels.len()]?;
     for place in 0..labels.len() {

@@ -1,4 +1,5 @@
-use or_geom::{Items, Name, Point};
+use cell_hierarchy::Label;
+use or_geom::{Items, Point};
 
 /// Where a label stands: the index of its layer in the technology's list, and its point in nanometres.
 #[derive(Clone, Copy)]
@@ -7,22 +8,16 @@ pub struct Anchor {
     pub at: Point,
 }
 
-/// A label and its net, if it binds a shape.
-#[derive(Debug, Drop)]
-pub struct NetLabel {
-    /// The names of the instances from the top, separated by `/`.
-    pub path: Name,
-    pub name: Name,
-    /// The place of its layer in the technology's list.
-    pub layer: u16,
-    /// Its point, in nanometres.
-    pub at: Point,
+/// A label of the flat layout and its net, if it binds a shape. The label stays where it lies: a layout has millions.
+#[derive(Clone, Copy, Debug)]
+pub struct NetLabel<'b> {
+    pub label: &'b Label<'b>,
     /// The number of its net, from 0 by first appearance.
     pub net: Option<u32>,
 }
 
 /// The labels of a layout with their nets.
 #[derive(Debug, Drop)]
-pub struct Nets {
-    pub labels: Items<NetLabel>,
+pub struct Nets<'b> {
+    pub labels: Items<NetLabel<'b>>,
 }

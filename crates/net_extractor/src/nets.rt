@@ -2,16 +2,17 @@ ghost use Rattle.std.specs.Prelude.{◌≡◌, ◌+◌, ◌^◌, ◌<◌, ◌≤
 ghost use Rattle.std.specs.List.Sorted.{IsStrictlySortedBy};
 ghost use Rattle.or_geom.specs.ShapeOrder.{shape_order};
 ghost use Rattle.cell_hierarchy.specs.Plain.{plain_label};
-ghost use Rattle.net_extractor.specs.Entries.{entry, IsNetOf};
+ghost use Rattle.net_extractor.specs.Entries.{IsNetOf};
 ghost use Rattle.net_extractor.specs.Extraction.{AreNets, AreNetsUnder};
 ghost use Rattle.net_extractor.specs.Numbering.{IsNumbering};
+ghost use Rattle.net_extractor.specs.PlainNets.{plain_net};
 
 use crate::bind::bound_shape;
 use crate::flood::Scratch;
 use crate::label::{Anchor, NetLabel, Nets};
 use crate::numbering::{Numbering, number_at};
 use cell_hierarchy::{Flat, Label};
-use or_geom::{Items, Memory, Name};
+use or_geom::{Items, Memory};
 use shape_bins::{Bins, ShapeNumbers};
 use std::alloc::Global;
 use std::thread::Threads;
@@ -38,36 +39,24 @@ fn net_of(
 }
 
 /// The label at an index.
-fn label_at<'b>(labels: &[Label<'b>], index: usize) -> Label<'b>
+fn label_at<'b>(labels: &'b [Label<'b>], index: usize) -> &'b Label<'b>
     requires { index < length labels.now }
-    ensures { slice_get labels.now index ≡ Some result }
+    ensures { slice_get labels.now index ≡ Some result.now }
 {
-    labels[index]
-}
-
-/// The label with its net.
-fn entry_of(alloc: Global, label: &Label, net: Option<u32>) -> Result<NetLabel, Memory>
-    ensures { IfOk result (λ made. made ≡ entry (plain_label label.now) net) }
-{
-    Ok(NetLabel {
-        path: Name::from_bytes(alloc, label.path.as_bytes())?,
-        name: Name::from_bytes(alloc, label.name.as_bytes())?,
-        layer: label.layer,
-        at: label.at,
-        net,
-    })
+    &labels[index]
 }
 
 /// The nets of the labels, over the shapes of the bins.
-fn nets_of(
+fn nets_of<'b>(
     alloc: Global,
     connections: &[Connect],
     bins: &Bins,
-    labels: &[Label],
-) -> Result<Nets, Memory>
+    labels: &'b [Label<'b>],
+) -> Result<Nets<'b>, Memory>
     requires rises { IsStrictlySortedBy shape_order bins.now }
     requires few { length labels.now ≤ 2 ^ 22 }
-    ensures { IfOk result (λ nets. AreNetsUnder connections.now bins.now (map plain_label labels.now) nets.labels) }
+    ensures { IfOk result (λ nets. AreNetsUnder connections.now bins.now (map plain_label labels.now)
+        (map plain_net nets.labels)) }
 {
     let mut numbering = Numbering {
         numbers: ShapeNumbers::new(alloc, bins)?,
@@ -85,7 +74,7 @@ fn nets_of(
             at: label.at,
         };
         let net = net_of(connections, bins, anchor, &mut numbering, &mut scratch)?;
-        entries.push(entry_of(alloc, &label, net)?)?;
+        entries.push(NetLabel { label, net })?;
     }
     Ok(Nets { labels: entries })
 }
@@ -95,19 +84,19 @@ fn nets_of(
 /// The shapes are in order and distinct, `bins` is their index, and there are at most 2^22 labels.
 ///
 /// Each shape is looked at once. The memory grows with the shapes and labels, and not with the pairs of shapes that
-/// touch.
-pub fn extract<R: Threads + Sync>(
+/// touch. The labels themselves are not copied.
+pub fn extract<'b, R: Threads + Sync>(
     _rt: &R,
     alloc: Global,
     tech: &Tech,
-    flat: &Flat,
+    flat: &Flat<'b>,
     bins: &Bins,
-) -> Result<Nets, Memory>
+) -> Result<Nets<'b>, Memory>
     requires rises { IsStrictlySortedBy shape_order flat.now.shapes.now }
     requires bins { bins.now ≡ flat.now.shapes.now }
     requires few { length flat.now.labels.now ≤ 2 ^ 22 }
     ensures { IfOk result (λ nets. AreNets tech.now flat.now.shapes.now
-        (map plain_label flat.now.labels.now) nets.labels) }
+        (map plain_label flat.now.labels.now) (map plain_net nets.labels)) }
 {
     nets_of(alloc, tech.connects.as_slice(), bins, flat.labels)
 }

@@ -3,6 +3,7 @@ ghost use Rattle.or_geom.specs.Gathering.{SomeHas};
 ghost use Rattle.net_extractor.specs.Difference.{in_lower_case, HasNet, IsLabelOf, IsLabelled};
 ghost use Rattle.net_extractor.specs.KeyPlaces.{AreMixed, first_place, label_key, pin_key, place_under};
 ghost use Rattle.net_extractor.specs.PinNets.{IsElsewhere, IsPinNet, IsPinNets};
+ghost use Rattle.net_extractor.specs.PlainNets.{plain_net};
 
 use crate::key_places::{KeyPlaces, key_places};
 use crate::keys::{key_of_pin, keys_of, mixed_marks};
@@ -43,18 +44,19 @@ fn is_in_lower_case(text: &[u8], other: &[u8]) -> bool
 }
 
 /// Whether the label has the pin's path and name.
-fn is_label_of(pin: &RowPin, label: &NetLabel) -> bool
-    ensures { IsTrue result ↔ IsLabelOf pin.now label.now }
+fn is_label_of(pin: &RowPin, entry: &NetLabel) -> bool
+    ensures { IsTrue result ↔ IsLabelOf pin.now (plain_net entry.now) }
 {
-    if !is_in_lower_case(label.name.as_bytes(), pin.pin.as_bytes()) {
+    if !is_in_lower_case(entry.label.name.as_bytes(), pin.pin.as_bytes()) {
         return false;
     }
-    is_in_lower_case(label.path.as_bytes(), pin.path.as_bytes())
+    is_in_lower_case(entry.label.path.as_bytes(), pin.path.as_bytes())
 }
 
 /// The net of the pin's first bound label.
 fn first_net(labels: &[NetLabel], pin: &RowPin) -> Option<u32>
-    ensures { MatchOption result (IsLabelled labels.now pin.now → ⊥) (HasNet labels.now pin.now) }
+    ensures { MatchOption result (IsLabelled (map plain_net labels.now) pin.now → ⊥)
+        (HasNet (map plain_net labels.now) pin.now) }
 {
     for label in labels {
         let Some(net) = label.net else {
@@ -69,7 +71,7 @@ fn first_net(labels: &[NetLabel], pin: &RowPin) -> Option<u32>
 
 /// Whether a bound label of the pin is on another net than this one.
 pub fn is_elsewhere(labels: &[NetLabel], pin: &RowPin, net: u32) -> bool
-    ensures { IsTrue result ↔ SomeHas (IsElsewhere pin.now net) labels.now }
+    ensures { IsTrue result ↔ SomeHas (IsElsewhere pin.now net) (map plain_net labels.now) }
 {
     for label in labels {
         let Some(other) = label.net else {
@@ -87,7 +89,8 @@ pub fn is_elsewhere(labels: &[NetLabel], pin: &RowPin, net: u32) -> bool
 
 /// The net of a pin by its labels one after another, None where it has no bound label.
 fn searched_net(labels: &[NetLabel], pin: &RowPin) -> Option<PinNet>
-    ensures { MatchOption result (IsLabelled labels.now pin.now → ⊥) (IsPinNet labels.now pin.now) }
+    ensures { MatchOption result (IsLabelled (map plain_net labels.now) pin.now → ⊥)
+        (IsPinNet (map plain_net labels.now) pin.now) }
 {
     let Some(layout) = first_net(labels, pin) else {
         return None;
@@ -101,9 +104,10 @@ fn searched_net(labels: &[NetLabel], pin: &RowPin) -> Option<PinNet>
 
 /// The net of a pin whose first label is likely the one at the place.
 fn net_by(labels: &[NetLabel], mixed: &[bool], pin: &RowPin, place: usize) -> Option<PinNet>
-    requires mixed { AreMixed labels.now mixed.now }
-    requires first { first_place (map label_key labels.now) (pin_key pin.now) ≡ Some place }
-    ensures { MatchOption result (IsLabelled labels.now pin.now → ⊥) (IsPinNet labels.now pin.now) }
+    requires mixed { AreMixed (map plain_net labels.now) mixed.now }
+    requires first { first_place (map label_key (map plain_net labels.now)) (pin_key pin.now) ≡ Some place }
+    ensures { MatchOption result (IsLabelled (map plain_net labels.now) pin.now → ⊥)
+        (IsPinNet (map plain_net labels.now) pin.now) }
 {
     if labels.len() <= place {
         return searched_net(labels, pin);
@@ -129,9 +133,11 @@ fn pin_net(
     mixed: &[bool],
     pin: &RowPin,
 ) -> Result<Option<PinNet>, Memory>
-    requires table { (key : List ℕ) → place_under table.now key ≡ first_place (map label_key labels.now) key }
-    requires mixed { AreMixed labels.now mixed.now }
-    ensures { IfOk result (λ net. MatchOption net (IsLabelled labels.now pin.now → ⊥) (IsPinNet labels.now pin.now)) }
+    requires table { (key : List ℕ) → place_under table.now key
+        ≡ first_place (map label_key (map plain_net labels.now)) key }
+    requires mixed { AreMixed (map plain_net labels.now) mixed.now }
+    ensures { IfOk result (λ net. MatchOption net (IsLabelled (map plain_net labels.now) pin.now → ⊥)
+        (IsPinNet (map plain_net labels.now) pin.now)) }
 {
     let key = key_of_pin(alloc, pin)?;
     let Some(place) = table.find(key.as_bytes()) else {
@@ -148,9 +154,10 @@ fn nets_of_pins(
     mixed: &[bool],
     pins: &[RowPin],
 ) -> Result<PinNets, Memory>
-    requires table { (key : List ℕ) → place_under table.now key ≡ first_place (map label_key labels.now) key }
-    requires mixed { AreMixed labels.now mixed.now }
-    ensures { IfOk result (IsPinNets labels.now pins.now) }
+    requires table { (key : List ℕ) → place_under table.now key
+        ≡ first_place (map label_key (map plain_net labels.now)) key }
+    requires mixed { AreMixed (map plain_net labels.now) mixed.now }
+    ensures { IfOk result (IsPinNets (map plain_net labels.now) pins.now) }
 {
     let mut nets = Vec::new(alloc);
     for place in 0..pins.len() {
@@ -165,7 +172,7 @@ fn nets_of_pins(
 
 /// The nets of the pins, each in the layout that of a bound label.
 pub fn pin_nets(alloc: Global, labels: &[NetLabel], pins: &[RowPin]) -> Result<PinNets, Memory>
-    ensures { IfOk result (IsPinNets labels.now pins.now) }
+    ensures { IfOk result (IsPinNets (map plain_net labels.now) pins.now) }
 {
     let keys = keys_of(alloc, labels)?;
     let table = key_places(alloc, &keys)?;

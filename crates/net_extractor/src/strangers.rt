@@ -1,6 +1,7 @@
-ghost use Rattle.std.specs.Prelude.{◌≡◌, ◌≢◌, ◌++◌, ◌↔◌, ℕ, List, IsTrue, IfOk, MatchOption};
+ghost use Rattle.std.specs.Prelude.{◌≡◌, ◌≢◌, ◌++◌, ◌↔◌, ℕ, List, map, IsTrue, IfOk, MatchOption};
 ghost use Rattle.net_extractor.specs.Difference.{in_lower_case, IsAbove, IsOnOnePath};
 ghost use Rattle.net_extractor.specs.FirstDifference.{AreNoStrangers, IsStrangerAt};
+ghost use Rattle.net_extractor.specs.PlainNets.{plain_net};
 ghost use Rattle.net_extractor.specs.Strangers.{IsLeafPath};
 
 use crate::label::NetLabel;
@@ -145,14 +146,14 @@ pub fn first_stranger(
     labels: &[NetLabel],
     pins: &[RowPin],
 ) -> Result<Option<usize>, Memory>
-    ensures { IfOk result (λ found. MatchOption found (AreNoStrangers labels.now pins.now)
-        (IsStrangerAt labels.now pins.now)) }
+    ensures { IfOk result (λ found. MatchOption found (AreNoStrangers (map plain_net labels.now) pins.now)
+        (IsStrangerAt (map plain_net labels.now) pins.now)) }
 {
     let instances = instances_of(alloc, pins)?;
     // Labels of one instance mostly follow one another.
     let mut likely = 0;
     for place in 0..labels.len() {
-        let path = labels[place].path.as_bytes();
+        let path = labels[place].label.path.as_bytes();
         if path.is_empty() {
             continue;
         }

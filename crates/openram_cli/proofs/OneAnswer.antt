@@ -27,7 +27,7 @@ use Rattle.spice_netlist.specs.declared.fault.FlatFault.{FlatFault}
 use Rattle.spice_netlist.specs.declared.fault.FlatFault.TheVariants as rows_fault
 use Rattle.spice_netlist.specs.Faults.{AreFlatRows, IsFlatFault}
 use Rattle.spice_netlist.specs.OneAnswer.{RowsAreUnique, FlatFaultsAreUnique, FlatFaultsExcludeRows}
-use Rattle.net_extractor.specs.declared.label.NetLabel.{NetLabel}
+use Rattle.net_extractor.specs.PlainNetLabel.{PlainNetLabel}
 use Rattle.net_extractor.specs.declared.difference.NetDiff.{NetDiff}
 use Rattle.net_extractor.specs.OneAnswer.{NetsAreUnique, DifferencesAreUnique, DifferencesExcludeAlike}
 use Rattle.gds_library.proofs.LibraryLaws.{libraries_are_unique}
@@ -76,7 +76,7 @@ reported reports tech shapes a b p q = p.2 ∙ ap (report_reply tech.layers) (re
 listed : NetsAreUnique → (tech : Tech) (lists : FlatLists) → IsOnly (IsNetListing tech lists)
 listed unique tech lists a b p q = p.2 ∙ ap (nets_reply tech.layers) (unique tech lists.shapes lists.labels p.0 q.0 p.1 q.1) ∙ sym q.2
 
-compared_once : DifferencesAreUnique → DifferencesExcludeAlike → (labels : List NetLabel) (rows : List RowPin) (d e : Option NetDiff) → IsDifference labels rows d → IsDifference labels rows e → d ≡ e
+compared_once : DifferencesAreUnique → DifferencesExcludeAlike → (labels : List PlainNetLabel) (rows : List RowPin) (d e : Option NetDiff) → IsDifference labels rows d → IsDifference labels rows e → d ≡ e
 compared_once one alike labels rows None None p q = refl
 compared_once one alike labels rows None (Some e) p q = absurd (alike labels rows e q p)
 compared_once one alike labels rows (Some d) None p q = absurd (alike labels rows d p q)
@@ -85,7 +85,7 @@ compared_once one alike labels rows (Some d) (Some e) p q = ap (λ (f : NetDiff)
 compared : NetsAreUnique → DifferencesAreUnique → DifferencesExcludeAlike → (tech : Tech) (lists : FlatLists) (rows : Rows) → IsOnly (IsCompared tech lists rows)
 compared unique one alike tech lists rows a b p q =
     let labels : q.0 ≡ p.0 = unique tech lists.shapes lists.labels q.0 p.0 q.1 p.1 in
-    let second = subst (λ (l : List NetLabel). IsDifference l rows.pins q.2.0) labels q.2.1 in
+    let second = subst (λ (l : List PlainNetLabel). IsDifference l rows.pins q.2.0) labels q.2.1 in
     p.2.2 ∙ ap comparison_reply (compared_once one alike p.0 rows.pins p.2.0 q.2.0 p.2.1 second) ∙ sym q.2.2
 
 -- what the crates below promise of their relations: each gives one thing

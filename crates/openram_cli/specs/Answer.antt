@@ -9,7 +9,7 @@ use Rattle.cell_hierarchy.specs.Plain.{FlatLists, lists_of}
 use Rattle.cell_hierarchy.specs.declared.fault.FlattenFault.{FlattenFault}
 use Rattle.tile_checker.specs.declared.violation.Violation.{Violation}
 use Rattle.tile_checker.specs.RuleReport.{IsReport}
-use Rattle.net_extractor.specs.declared.label.NetLabel.{NetLabel}
+use Rattle.net_extractor.specs.PlainNetLabel.{PlainNetLabel}
 use Rattle.net_extractor.specs.Extraction.{AreNets}
 use Rattle.net_extractor.specs.declared.difference.NetDiff.{NetDiff}
 use Rattle.net_extractor.specs.Difference.{AreAlike}
@@ -63,7 +63,7 @@ AreLeafRows layout d =
     ValueOrFault (λ rows. AreFlatRows d.subckts layout.top (leaves_of layout.tech) rows.pins) (IsFlatFault d.subckts layout.top (leaves_of layout.tech)) refusal_of.Rows
 
 -- the labels with their nets
-abbrev pub AreNetsOf : Tech → FlatLists → List NetLabel → Type 0
+abbrev pub AreNetsOf : Tech → FlatLists → List PlainNetLabel → Type 0
 AreNetsOf tech lists labels = AreNets tech lists.shapes lists.labels labels
 
 -- the report of the shapes
@@ -73,16 +73,16 @@ IsReported tech shapes reply =
 
 -- the list of the labels with their nets
 abbrev pub IsNetListing : Tech → FlatLists → Reply → Type 0
-IsNetListing tech lists reply = (labels : List NetLabel) × AreNetsOf tech lists labels × (reply ≡ nets_reply tech.layers labels)
+IsNetListing tech lists reply = (labels : List PlainNetLabel) × AreNetsOf tech lists labels × (reply ≡ nets_reply tech.layers labels)
 
 -- the first difference of labels and rows; none where they are alike
-abbrev pub IsDifference : List NetLabel → List RowPin → Option NetDiff → Type 0
+abbrev pub IsDifference : List PlainNetLabel → List RowPin → Option NetDiff → Type 0
 IsDifference labels rows difference = MatchOption difference (AreAlike labels rows) (IsFirstDifference labels rows)
 
 -- the first difference of the labels' nets from the rows, if there is one
 abbrev pub IsCompared : Tech → FlatLists → Rows → Reply → Type 0
 IsCompared tech lists rows reply =
-    (labels : List NetLabel) × AreNetsOf tech lists labels
+    (labels : List PlainNetLabel) × AreNetsOf tech lists labels
     × ((difference : Option NetDiff) × IsDifference labels rows.pins difference × (reply ≡ comparison_reply difference))
 
 -- the answer of `check`, in which labels play no part, and how many workers do it neither

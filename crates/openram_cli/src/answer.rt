@@ -7,6 +7,7 @@ ghost use Rattle.tech_rules.specs.Facts.{IsTech};
 ghost use Rattle.tile_checker.specs.RuleReport.{IsReport};
 ghost use Rattle.openram_cli.specs.Answer.{AreFlatListsIn, AreFlatShapesIn, AreLeafRows, AreNetsOf, IsCheckAnswer};
 ghost use Rattle.openram_cli.specs.Answer.{IsNetsAnswer, IsCompareAnswer, IsReplyTo};
+ghost use Rattle.net_extractor.specs.PlainNets.{plain_net};
 ghost use Rattle.openram_cli.specs.Inputs.{AreSound, IsReadLayout};
 ghost use Rattle.command_steps.specs.Outcome.{UnlessMemory, is_read_failed, is_usage_outcome};
 
@@ -59,11 +60,11 @@ fn nets_of<'b, R: Threads + Sync>(
     bump: &'b Bump,
     tech: &Tech,
     flat: &Flat<'b>,
-) -> Result<Nets, Memory>
+) -> Result<Nets<'b>, Memory>
     requires rises { IsStrictlySortedBy shape_order flat.now.shapes.now }
     requires few { length flat.now.shapes.now ≤ 16777216 }
     requires few_labels { length flat.now.labels.now ≤ 2 ^ 22 }
-    ensures { IfOk result (λ nets. AreNetsOf tech.now (lists_of flat.now) nets.labels) }
+    ensures { IfOk result (λ nets. AreNetsOf tech.now (lists_of flat.now) (map plain_net nets.labels)) }
 {
     let bins = index(alloc, bump, flat)?;
     extract(rt, alloc, tech, flat, &bins)

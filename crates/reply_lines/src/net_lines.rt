@@ -1,4 +1,5 @@
-ghost use Rattle.std.specs.Prelude.{◌≡◌, IfOk};
+ghost use Rattle.std.specs.Prelude.{◌≡◌, map, IfOk};
+ghost use Rattle.net_extractor.specs.PlainNets.{plain_net};
 ghost use Rattle.reply_lines.specs.Lines.{reply_line};
 ghost use Rattle.reply_lines.specs.NetLines.{net_word, net_words, net_lines, nets_reply};
 
@@ -22,10 +23,11 @@ fn line_of_net(alloc: Global, net: Option<u32>) -> Result<ReplyLine, Memory>
 }
 
 /// The line of a label.
-fn net_line(alloc: Global, layers: &[Layer], label: &NetLabel) -> Result<ReplyLine, Memory>
-    ensures { IfOk result (λ line. line ≡ reply_line (net_words layers.now label.now)) }
+fn net_line(alloc: Global, layers: &[Layer], entry: &NetLabel) -> Result<ReplyLine, Memory>
+    ensures { IfOk result (λ line. line ≡ reply_line (net_words layers.now (plain_net entry.now))) }
 {
-    let mut line = line_of_net(alloc, label.net)?;
+    let mut line = line_of_net(alloc, entry.net)?;
+    let label = entry.label;
     line.word(name_of(layers, label.layer))?;
     line.pin(label.path.as_bytes(), label.name.as_bytes())?;
     line.end()?;
@@ -38,7 +40,7 @@ fn lines_of(
     layers: &[Layer],
     labels: &[NetLabel],
 ) -> Result<Items<ReplyLine>, Memory>
-    ensures { IfOk result (λ lines. lines ≡ net_lines layers.now labels.now) }
+    ensures { IfOk result (λ lines. lines ≡ net_lines layers.now (map plain_net labels.now)) }
 {
     let mut lines = Items::new(alloc);
     for label in labels {
@@ -49,7 +51,7 @@ fn lines_of(
 
 /// The answer that is a list of labels with their nets.
 pub fn nets_reply(alloc: Global, layers: &[Layer], labels: &[NetLabel]) -> Result<Reply, Memory>
-    ensures { IfOk result (λ reply. reply ≡ nets_reply layers.now labels.now) }
+    ensures { IfOk result (λ reply. reply ≡ nets_reply layers.now (map plain_net labels.now)) }
 {
     let lines = lines_of(alloc, layers, labels)?;
     Ok(Reply {

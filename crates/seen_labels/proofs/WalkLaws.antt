@@ -10,7 +10,7 @@ use Rattle.tech_rules.specs.Net.{AreOnOneNet}
 use Rattle.tech_rules.specs.Touch.{Touch}
 use Rattle.tech_rules.proofs.LinkedLaws.{linked_carries}
 use Rattle.cell_hierarchy.specs.FlatSet.{IsMoved}
-use Rattle.net_extractor.specs.declared.label.NetLabel.{NetLabel}
+use Rattle.net_extractor.specs.PlainNetLabel.{PlainNetLabel}
 use Rattle.net_extractor.proofs.ExtractLaws.{touch_turned}
 use Rattle.good_nets.specs.Parts.{Parts, IsShapeOf, IsOnPortOf, IsOfNet, AreRightParts}
 use Rattle.good_nets.specs.Ports.{IsOnPort}
@@ -19,7 +19,7 @@ use Rattle.good_nets.proofs.PortLaws.{port_spreads}
 use Rattle.good_nets.proofs.SeenLaws.{touching_pins}
 use Rattle.good_nets.proofs.WindowLaws.{IsOnNet, instances_touch, wire_touches, touches_wire}
 
-module _ {N : Type 0} (connections : List Connect) (parts : Parts N) (shapes : List Shape) (plain : List PlainLabel) (labels : List NetLabel) (pins : List RowPin) (right : AreRightParts connections parts shapes plain labels pins) where
+module _ {N : Type 0} (connections : List Connect) (parts : Parts N) (shapes : List Shape) (plain : List PlainLabel) (labels : List PlainNetLabel) (pins : List RowPin) (right : AreRightParts connections parts shapes plain labels pins) where
   -- the inner shape of the instance is on a port of the net
   abbrev pub IsOn : parts.Instance → Shape → N → Type 0
   IsOn i inner n = IsOnNet connections parts shapes plain labels pins right i inner n

@@ -5,7 +5,7 @@ use Rattle.netlist.specs.declared.rows.RowPin.{RowPin}
 use Rattle.tech_rules.specs.declared.tech.Connect.{Connect}
 use Rattle.tech_rules.specs.Drawing.{pitch}
 use Rattle.cell_hierarchy.specs.Plain.{FlatLists}
-use Rattle.net_extractor.specs.declared.label.NetLabel.{NetLabel}
+use Rattle.net_extractor.specs.PlainNetLabel.{PlainNetLabel}
 use Rattle.channel_router.specs.Tracks.{IsLowest}
 use Rattle.sram_netlist.specs.Instances.{LeafInstance}
 use Rattle.sram_netlist.specs.Membership.{HasLeafInstance}
@@ -52,6 +52,6 @@ pub record HasSeenWindow (connections : List Connect) (s : Source) : Type 0 wher
   pub floorplan : Floorplan
   pub source : IsDrawnSource (window_source s word write masks tracks floorplan)
   pub flat : FlatLists
-  pub labels : List NetLabel
+  pub labels : List PlainNetLabel
   pub rows : List RowPin
   pub stated : IsStatedWindow connections (window_source s word write masks tracks floorplan) flat labels rows

@@ -15,7 +15,7 @@ use Rattle.cell_hierarchy.specs.Plain.{FlatLists}
 use Rattle.cell_hierarchy.specs.FlatSet.{path_under}
 use Rattle.channel_router.specs.Wires.{track_y}
 use Rattle.net_extractor.specs.declared.label.Anchor.{Anchor}
-use Rattle.net_extractor.specs.declared.label.NetLabel.{NetLabel}
+use Rattle.net_extractor.specs.PlainNetLabel.{PlainNetLabel}
 use Rattle.net_extractor.specs.Binding.{Binds}
 use Rattle.net_extractor.specs.Difference.{in_lower_case}
 use Rattle.net_extractor.specs.Extraction.{label_of, anchor_of, AreNetsUnder}
@@ -60,7 +60,7 @@ text_layer layers index place found layer first same there is = some_number foun
   some_number a b e = cc
 
 module _ (tech : Tech) (s : Source) (flat : FlatLists) (d : IsWiredMacro tech s flat) (outer : Net → Shape) (are : AreOuterHubs s d.laid.main outer) (inside : AreLeavesInside s) (texts : AreFirstTextLayers s.layers s.wire) (tell : DoPathsTell s.plan)
-    (labels : List NetLabel) (nets : AreNetsUnder tech.connects flat.shapes flat.labels labels) (rows : List RowPin) where
+    (labels : List PlainNetLabel) (nets : AreNetsUnder tech.connects flat.shapes flat.labels labels) (rows : List RowPin) where
   abbrev k : IsLaidMacro tech s flat
   k = d.laid
 

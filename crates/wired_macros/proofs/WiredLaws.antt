@@ -7,7 +7,7 @@ use Rattle.netlist.specs.declared.rows.RowPin.{RowPin}
 use Rattle.cell_roles.specs.Roles.{role_ports}
 use Rattle.tech_rules.specs.declared.tech.Tech.{Tech}
 use Rattle.cell_hierarchy.specs.Plain.{FlatLists}
-use Rattle.net_extractor.specs.declared.label.NetLabel.{NetLabel}
+use Rattle.net_extractor.specs.PlainNetLabel.{PlainNetLabel}
 use Rattle.net_extractor.specs.Extraction.{AreNetsUnder}
 use Rattle.sram_netlist.specs.Nets.{Net}
 use Rattle.sram_netlist.specs.Netlist.{role, ports}
@@ -34,7 +34,7 @@ use Rattle.wired_macros.proofs.LeafPortLaws.{wire_port}
 use Rattle.macro_nets.proofs.PortHubLaws.{port_joined}
 use Rattle.wired_macros.proofs.WireJoinLaws.{as_drawn, wire_joined}
 
-module _ (tech : Tech) (s : Source) (flat : FlatLists) (d : IsWiredMacro tech s flat) (outer : Net → Shape) (are : AreOuterHubs s d.laid.main outer) (stays : DoLabelsStay tech.connects s flat) (labels : List NetLabel) (nets : AreNetsUnder tech.connects flat.shapes flat.labels labels) (rows : List RowPin)
+module _ (tech : Tech) (s : Source) (flat : FlatLists) (d : IsWiredMacro tech s flat) (outer : Net → Shape) (are : AreOuterHubs s d.laid.main outer) (stays : DoLabelsStay tech.connects s flat) (labels : List PlainNetLabel) (nets : AreNetsUnder tech.connects flat.shapes flat.labels labels) (rows : List RowPin)
     (equal : RowsEqual rows (netlist_pins s.plan s.kit.cell s.bits)) where
   abbrev k : IsLaidMacro tech s flat
   k = d.laid

@@ -1,6 +1,7 @@
-use Rattle.std.proofs.Common.{Bool, sym, subst}
+use Rattle.std.proofs.Common.{Bool, map, sym, subst}
 use Rattle.std.specs.Prelude.{MatchBool}
 use Rattle.cell_hierarchy.specs.Plain.{lists_of}
+use Rattle.net_extractor.specs.PlainNets.{plain_net}
 use Rattle.kit_check.specs.Judged.{DifferIn, MatchIn}
 use Rattle.kit_check.proofs.JudgeLaws.{differ_or_match}
 use Rattle.kit_check.proofs.judge.differs.Goals as goal
@@ -12,4 +13,4 @@ returns g c =
     let made = c.args.made.now in
     let lists = lists_of c.args.flat.now in
     subst (λ (b : Bool). MatchBool b (DifferIn kit name made lists) (MatchIn kit name made lists)) (sym c.is_some.ensures)
-    (differ_or_match kit name made lists c.in_ok-nets.nets.labels c.in_ok-rows.rows.pins c.in_ok-compare.field-0 (record { nets = c.in_ok-nets.ensures; netlist = c.in_ok-rows.ensures }) c.in_ok-compare.ensures.none)
+    (differ_or_match kit name made lists (map plain_net c.in_ok-nets.nets.labels) c.in_ok-rows.rows.pins c.in_ok-compare.field-0 (record { nets = c.in_ok-nets.ensures; netlist = c.in_ok-rows.ensures }) c.in_ok-compare.ensures.none)

@@ -1,10 +1,11 @@
-use Rattle.std.proofs.Common.{◌≡◌, List, Option, Some, None, Err, refl}
+use Rattle.std.proofs.Common.{◌≡◌, List, map, Option, Some, None, Err, refl}
 use Rattle.std.specs.Prelude.{◌↔◌, IfSome}
 use Rattle.std.proofs.lemmas.Result.{err_from_is_err_and}
 use Rattle.netlist.specs.declared.rows.RowPin.{RowPin}
 use Rattle.cell_hierarchy.specs.Plain.{lists_of}
 use Rattle.net_extractor.specs.declared.difference.NetDiff.{NetDiff}
-use Rattle.net_extractor.specs.declared.label.NetLabel.{NetLabel}
+use Rattle.net_extractor.specs.PlainNetLabel.{PlainNetLabel}
+use Rattle.net_extractor.specs.PlainNets.{plain_net}
 use Rattle.net_extractor.specs.Difference.{AreAlike}
 use Rattle.net_extractor.specs.FirstDifference.{IsFirstDifference}
 use Rattle.command_steps.proofs.OutcomeLaws.{then_on, then_ends}
@@ -12,7 +13,7 @@ use Rattle.command_steps.specs.Outcome.{WithoutRefusal, Then}
 use Rattle.openram_cli.specs.Answer.{AreFlat, AreLeafRows, IsCompared, IsDifference}
 use Rattle.openram_cli.proofs.answer.answer_compare.Goals as goal
 
-is_difference : (labels : List NetLabel) (rows : List RowPin) (found : Option NetDiff) → (found ≡ None) ↔ AreAlike labels rows → IfSome found (IsFirstDifference labels rows) → IsDifference labels rows found
+is_difference : (labels : List PlainNetLabel) (rows : List RowPin) (found : Option NetDiff) → (found ≡ None) ↔ AreAlike labels rows → IfSome found (IsFirstDifference labels rows) → IsDifference labels rows found
 is_difference labels rows None none first = none.0 refl
 is_difference labels rows (Some difference) none first = first
 
@@ -20,7 +21,7 @@ pub returns-clause-answer : goal.returns-clause-answer
 returns-clause-answer g c =
     let flat = c.in_ok-flat.flat in
     let rows = c.in_ok-rows.rows in
-    let labels = c.in_ok-nets.nets.labels in
+    let labels = map plain_net c.in_ok-nets.nets.labels in
     let found = c.in_ok-difference.difference in (
       lists_of flat,
       c.in_ok-flat.ensures.flat,

@@ -1,6 +1,9 @@
-use Rattle.std.proofs.Common.{◌≡◌, take}
-use Rattle.reply_lines.specs.NetLines.{net_lines}
+use Rattle.std.proofs.Common.{◌≡◌, map, take}
+use Rattle.net_extractor.specs.declared.label.NetLabel.{NetLabel}
+use Rattle.net_extractor.specs.PlainNets.{plain_net}
+use Rattle.reply_lines.specs.Lines.{reply_line}
+use Rattle.reply_lines.specs.NetLines.{net_words}
 use Rattle.reply_lines.proofs.net_lines.lines_of.Given as goal
 
 abbrev pub invariant-loop-label : goal.invariant-loop-label
-invariant-loop-label l = l.lines ≡ net_lines l.layers (take l.label-index l.labels)
+invariant-loop-label l = l.lines ≡ map (λ (e : NetLabel). reply_line (net_words l.layers (plain_net e))) (take l.label-index l.labels)
