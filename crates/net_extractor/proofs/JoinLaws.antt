@@ -1,5 +1,5 @@
 -- Sets that are joined, pair by pair.
-use Rattle.std.proofs.Common.{◌≡◌, ◌⊎◌, inl, inr, ℕ, ◌+◌, ◌<◌, ◌≤◌, List, [], ◌∷◌, length, get_or, drop, set, Some, refl, sym, ap, subst, ◌∙◌, arith}
+use Rattle.std.proofs.Common.{◌≡◌, ◌⊎◌, inl, inr, ℕ, ◌≤◌, List, [], ◌∷◌, length, set, Some, refl, sym, subst, ◌∙◌, arith}
 use Rattle.std.specs.Prelude.{slice_get}
 use Rattle.std.proofs.lemmas.Bool.{cases_eq}
 use Rattle.std.proofs.lemmas.List.{length-set}
@@ -7,7 +7,7 @@ use Rattle.std.proofs.lemmas.Option.{slice_get_within}
 use Rattle.or_geom.specs.Gathering.{SomeHas}
 use Rattle.or_geom.proofs.ListLaws.{one_at}
 use Rattle.tech_rules.specs.Linked.{AreLinked}
-use Rattle.tech_rules.proofs.LinkedLaws.{linked_itself, linked_on, linked_next, linked_back}
+use Rattle.tech_rules.proofs.LinkedLaws.{linked_on, linked_next, linked_back}
 use Rattle.net_extractor.specs.Sets.{IsFalling, IsStep, Anywhere, AreTogether, Keeps, IsRoot, AreAlike, FindsRoot, IsStepBy, JoinsSets, IsPair}
 use Rattle.net_extractor.proofs.SetLaws.{linked_by, itself, further, backward, upward, keeps_by, keeps_itself, keeps_on, alike_on, set_here, set_elsewhere, was_elsewhere, was_here}
 
@@ -138,7 +138,7 @@ pair_joins : (a b c d : ℕ) (old new : List ℕ) → AreTogether old a c → Ar
 pair_joins a b c d old new first second joins =
     let P : ℕ → ℕ → Type 0 = IsPair a b in
     let across : AreLinked Anywhere (IsStepBy old P) c d =
-        by_on old P c a d (by_one old P c a (inl (backward old a c first))) (by_on old P a b d (by_one old P a b (inr (inl (record { first = refl; second = refl })))) (by_one old P b d (inl second))) in
+    by_on old P c a d (by_one old P c a (inl (backward old a c first))) (by_on old P a b d (by_one old P a b (inr (inl (record { first = refl; second = refl })))) (by_one old P b d (inl second))) in
     record {
       sized = joins.sized;
       falls = joins.falls;

@@ -1,10 +1,12 @@
 pub mod AreaLaws
 pub mod PlaceLaws
 pub mod MappedLaws
-mod GivingLaws
 pub mod NetLaws
-mod LinkLaws
-mod FloodLaws
+mod SetLaws
+mod JoinLaws
+mod RunLaws
+mod PairLaws
+mod RootLaws
 mod BindLaws
 mod NumberLaws
 pub mod ExtractLaws

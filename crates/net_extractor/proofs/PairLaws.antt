@@ -20,7 +20,7 @@ use Rattle.shape_bins.specs.Places.{IsListedBetween}
 use Rattle.net_extractor.specs.declared.run.Run.{Run}
 use Rattle.net_extractor.specs.declared.run.RunShape.{RunShape}
 use Rattle.net_extractor.specs.Contacts.{AreWithin, IsJoinedAt, IsJoinedTo, IsOverAt, IsOverTo}
-use Rattle.net_extractor.specs.NetRoots.{AreShapesAt, IsCutPair, IsLayerPair, IsOver, IsTouchPair}
+use Rattle.net_extractor.specs.NetRoots.{IsTouchPair}
 use Rattle.net_extractor.specs.RunPairs.{IsCutPairOf, IsLayerPairOf, IsListedPair, IsOverPairOf}
 use Rattle.net_extractor.specs.Runs.{AreOfRun, HasPlace, IsRun}
 
@@ -79,18 +79,19 @@ module _ (connections : List Connect) (shapes : List Shape) (run : Run) (own : L
       let first = t.pair.first in
       let second = t.pair.second in
       let before = t.lesser.before in
-      let same : hit.shape ≡ j.shape = one_at shapes place hit.shape j.shape hit.there j.there in
-      (record { shape = o; listed = some.1; is = sym first },
-       record {
-         before = omega (arith, first, second, before);
-         touch = record {
-           one = whole o;
-           other = j.shape;
-           first = subst (λ (k : ℕ). slice_get shapes k ≡ Some (whole o)) (sym first) (of o some.1).there;
-           second = subst (λ (k : ℕ). slice_get shapes k ≡ Some j.shape) (sym second) j.there;
-           so = record { one_layer = sym hit.on ∙ ap (λ (s : Shape). s.layer) same; conductor = conductor; joined = t.lesser.joined };
-         };
-       })
+      let same : hit.shape ≡ j.shape = one_at shapes place hit.shape j.shape hit.there j.there in (
+        record { shape = o; listed = some.1; is = sym first },
+        record {
+          before = omega (arith, first, second, before);
+          touch = record {
+            one = whole o;
+            other = j.shape;
+            first = subst (λ (k : ℕ). slice_get shapes k ≡ Some (whole o)) (sym first) (of o some.1).there;
+            second = subst (λ (k : ℕ). slice_get shapes k ≡ Some j.shape) (sym second) j.there;
+            so = record { one_layer = sym hit.on ∙ ap (λ (s : Shape). s.layer) same; conductor = conductor; joined = t.lesser.joined };
+          };
+        },
+      )
 
   -- the layer of a pair is a conductor
   pub conductor_of : (a b : ℕ) → IsLayerPairOf connections shapes own a b → IsConductor connections run.layer
@@ -120,15 +121,16 @@ module _ (connections : List Connect) (shapes : List Shape) (run : Run) (own : L
       let some = who_has (λ (o : RunShape). IsOverTo place j.shape.rect o a b) own j.some in
       let o = some.0 in
       let t = some.2 in
-      let same : hit.shape ≡ j.shape = one_at shapes place hit.shape j.shape hit.there j.there in
-      (record { shape = o; listed = some.1; is = sym t.pair.first },
-       record {
-         one = whole o;
-         other = j.shape;
-         first = subst (λ (k : ℕ). slice_get shapes k ≡ Some (whole o)) (sym t.pair.first) (of o some.1).there;
-         second = subst (λ (k : ℕ). slice_get shapes k ≡ Some j.shape) (sym t.pair.second) j.there;
-         so = record { on = ap (λ (s : Shape). s.layer) (sym same) ∙ hit.on; area = t.over };
-       })
+      let same : hit.shape ≡ j.shape = one_at shapes place hit.shape j.shape hit.there j.there in (
+        record { shape = o; listed = some.1; is = sym t.pair.first },
+        record {
+          one = whole o;
+          other = j.shape;
+          first = subst (λ (k : ℕ). slice_get shapes k ≡ Some (whole o)) (sym t.pair.first) (of o some.1).there;
+          second = subst (λ (k : ℕ). slice_get shapes k ≡ Some j.shape) (sym t.pair.second) j.there;
+          so = record { on = ap (λ (s : Shape). s.layer) (sym same) ∙ hit.on; area = t.over };
+        },
+      )
 
   pub pair_over : (layer : ℕ) (places : List ℕ) (a b : ℕ) → AreAll (IsNearShape shapes layer run.hull) places → IsOverPairOf shapes own layer a b → SomeHas (λ (place : ℕ). IsOverAt shapes own place a b) places
   pair_over layer places a b near h =

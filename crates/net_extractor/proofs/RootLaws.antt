@@ -1,5 +1,5 @@
 -- What is together where all that touch are joined.
-use Rattle.std.proofs.Common.{◌≡◌, ◌⊎◌, inl, inr, ℕ, ◌<◌, List, length, Some, refl, sym, ap, subst, ◌∙◌, arith}
+use Rattle.std.proofs.Common.{◌≡◌, inl, inr, ℕ, List, length, Some, refl, sym, ap, subst, ◌∙◌, arith}
 use Rattle.std.specs.Prelude.{slice_get, Contains}
 use Rattle.std.specs.List.Sorted.{IsStrictlySortedBy}
 use Rattle.std.proofs.lemmas.Bool.{cases_eq, cases_lt}
@@ -12,7 +12,7 @@ use Rattle.tech_rules.specs.Net.{AreOnOneNet}
 use Rattle.tech_rules.specs.Touch.{Touch}
 use Rattle.tech_rules.proofs.LinkedLaws.{linked_carries}
 use Rattle.net_extractor.specs.NetRoots.{AreNetRoots, AreShapesAt, IsTouchPair}
-use Rattle.net_extractor.specs.Sets.{IsFalling, IsStep, Anywhere, AreTogether, IsRoot, AreAlike, IsStepBy, JoinsSets, AreAlone, AreFlat}
+use Rattle.net_extractor.specs.Sets.{IsFalling, IsStep, Anywhere, AreTogether, AreAlike, IsStepBy, JoinsSets, AreAlone, AreFlat}
 use Rattle.net_extractor.proofs.ExtractLaws.{layer_turned, touch_turned, distinct}
 use Rattle.net_extractor.proofs.NetLaws.{net_of_itself, net_further}
 use Rattle.net_extractor.proofs.PlaceLaws.{at_contained}

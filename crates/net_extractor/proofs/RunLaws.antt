@@ -1,5 +1,5 @@
 -- Runs, shape by shape.
-use Rattle.std.proofs.Common.{◌≡◌, inl, inr, ℕ, ◌+◌, ◌<◌, ◌≤◌, List, [], ◌∷◌, ◌++◌, length, get_or, Some, refl, sym, ap, subst, ◌∙◌, arith}
+use Rattle.std.proofs.Common.{◌≡◌, inl, inr, ℕ, ◌+◌, ◌<◌, List, [], ◌∷◌, ◌++◌, length, get_or, Some, sym, ap, subst, ◌∙◌, arith}
 use Rattle.std.specs.Prelude.{slice_get, Contains}
 use Rattle.std.proofs.lemmas.Bool.{cases_lt}
 use Rattle.std.proofs.lemmas.Int.{ints}
@@ -13,7 +13,7 @@ use Rattle.or_geom.proofs.ContainingLaws.{around_first, around_second}
 use Rattle.shape_bins.specs.Places.{IsListedBetween}
 use Rattle.net_extractor.specs.declared.run.Run.{Run}
 use Rattle.net_extractor.specs.declared.run.RunShape.{RunShape}
-use Rattle.net_extractor.specs.Runs.{IsOfRun, HasPlace, IsRun, IsWider}
+use Rattle.net_extractor.specs.Runs.{IsOfRun, IsRun, IsWider}
 
 holds_itself : (r : Rect) → HoldsRect r r
 holds_itself r = record { left = omega (arith, ints); right = omega (arith, ints); low = omega (arith, ints); high = omega (arith, ints) }

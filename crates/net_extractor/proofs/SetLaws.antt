@@ -1,14 +1,13 @@
 -- Disjoint sets of places.
-use Rattle.std.proofs.Common.{◌≡◌, ◌⊎◌, inl, inr, ℕ, ◌+◌, ◌<◌, ◌≤◌, List, [], ◌∷◌, length, get_or, set, Some, refl, sym, ap, subst, ◌∙◌, arith, get_or-set_same, get_or-set_other}
-use Rattle.std.specs.Prelude.{slice_get, Option, Contains}
+use Rattle.std.proofs.Common.{◌≡◌, inl, inr, ℕ, ◌+◌, ◌<◌, ◌≤◌, List, length, get_or, set, Some, refl, sym, ap, subst, ◌∙◌, arith, get_or-set_same, get_or-set_other}
+use Rattle.std.specs.Prelude.{slice_get, Contains}
 use Rattle.std.proofs.lemmas.Bool.{cases_eq, cases_lt}
 use Rattle.std.proofs.lemmas.List.{length-set}
-use Rattle.std.proofs.lemmas.Option.{same_Some, slice_get_within, slice_get-get_or, get_or_from_slice_get}
-use Rattle.or_geom.specs.Gathering.{SomeHas}
+use Rattle.std.proofs.lemmas.Option.{slice_get_within, slice_get-get_or, get_or_from_slice_get}
 use Rattle.or_geom.proofs.ListLaws.{one_at}
 use Rattle.tech_rules.specs.Linked.{AreLinked}
 use Rattle.tech_rules.proofs.LinkedLaws.{linked_itself, linked_on, linked_next, linked_back, linked_carries}
-use Rattle.net_extractor.specs.Sets.{IsFalling, IsStep, Anywhere, AreTogether, Keeps, IsRoot, AreAlike, FindsRoot, IsStepBy, JoinsSets, IsPair, AreAlone, AreFlat}
+use Rattle.net_extractor.specs.Sets.{IsFalling, IsStep, Anywhere, AreTogether, Keeps, IsRoot, AreAlike, AreAlone}
 
 -- where each step is a way by other steps, so is each way
 pub linked_by : {X : Type 0} (P : X → Type 0) (T U : X → X → Type 0) → ((x y : X) → T x y → AreLinked P U x y) → (a b : X) → AreLinked P T a b → AreLinked P U a b

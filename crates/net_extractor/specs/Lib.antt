@@ -4,9 +4,11 @@ pub mod Binding
 pub mod FirstAppearance
 pub mod Extraction
 pub mod ShapeNets
+pub mod Sets
+pub mod NetRoots
+pub mod Runs
 pub mod Contacts
-pub mod Links
-pub mod Flood
+pub mod RunPairs
 pub mod Bound
 pub mod Numbering
 pub mod Entries

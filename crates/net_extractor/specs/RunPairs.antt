@@ -1,5 +1,5 @@
 -- Which pairs of places are joined for a run, and for all runs.
-use Rattle.std.specs.Prelude.{ℕ, List, ◌⊎◌}
+use Rattle.std.specs.Prelude.{ℕ, List}
 use Rattle.or_geom.specs.declared.shape.Shape.{Shape}
 use Rattle.tech_rules.specs.declared.tech.Connect.{Connect}
 use Rattle.shape_bins.specs.Places.{IsListedBetween}

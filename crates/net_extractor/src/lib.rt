@@ -4,8 +4,8 @@
 mod bind;
 mod comparison;
 mod conflicts;
+mod contacts;
 mod difference;
-mod flood;
 mod key_places;
 mod keys;
 mod label;
@@ -15,6 +15,9 @@ mod net_numbers;
 mod nets;
 mod numbering;
 mod pins;
+mod roots;
+mod run;
+mod sets;
 mod strangers;
 
 pub use bind::bound_shape;

@@ -71,7 +71,10 @@ pub fn take_run(
     let place = order[begin] as usize;
     let first = shape_at(shapes, place);
     own.clear();
-    own.push(RunShape { place, rect: first.rect })?;
+    own.push(RunShape {
+        place,
+        rect: first.rect,
+    })?;
     let mut run = Run {
         layer: first.layer,
         hull: first.rect,
@@ -88,7 +91,10 @@ pub fn take_run(
         let Some(hull) = hull_with(run, shape, length) else {
             break;
         };
-        own.push(RunShape { place, rect: shape.rect })?;
+        own.push(RunShape {
+            place,
+            rect: shape.rect,
+        })?;
         run = Run {
             layer: run.layer,
             hull,

@@ -1,4 +1,4 @@
-use Rattle.std.proofs.Common.{◌<◌, ◌+◌, ℕ, inl, List, length, drop, refl, sym, subst, arith}
+use Rattle.std.proofs.Common.{◌+◌, inl, drop, refl, sym, subst, arith}
 use Rattle.std.proofs.lemmas.List.{drop_all}
 use Rattle.or_geom.proofs.ListLaws.{rest_at, contained_at}
 use Rattle.std.proofs.lemmas.Option.{slice_get_read}

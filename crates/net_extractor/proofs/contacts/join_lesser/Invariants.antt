@@ -1,4 +1,4 @@
-use Rattle.std.proofs.Common.{ℕ, drop}
+use Rattle.std.proofs.Common.{drop}
 use Rattle.net_extractor.specs.Contacts.{IsJoinedTo}
 use Rattle.net_extractor.proofs.JoinLaws.{IsJoining}
 use Rattle.net_extractor.proofs.contacts.join_lesser.Given as goal

@@ -1,4 +1,4 @@
-use Rattle.std.proofs.Common.{ℕ, drop}
+use Rattle.std.proofs.Common.{drop}
 use Rattle.net_extractor.specs.Contacts.{IsOverAt}
 use Rattle.net_extractor.proofs.JoinLaws.{IsJoining}
 use Rattle.net_extractor.proofs.contacts.join_overlapping.Given as goal

@@ -1,4 +1,4 @@
-use Rattle.std.proofs.Common.{◌≡◌, ◌≤◌, ◌+◌, inl, ℕ, length, get_or, ap, arith}
+use Rattle.std.proofs.Common.{◌≡◌, ◌≤◌, ◌+◌, inl, length, get_or, ap, arith}
 use Rattle.net_extractor.specs.NetRoots.{IsTouchPair}
 use Rattle.net_extractor.specs.RunPairs.{IsListedPair}
 use Rattle.net_extractor.specs.Runs.{HasPlace, IsRun}

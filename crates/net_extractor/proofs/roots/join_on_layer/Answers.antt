@@ -1,9 +1,7 @@
-use Rattle.std.proofs.Common.{ℕ, inl, refl, subst}
-use Rattle.std.specs.Prelude.{Contains}
+use Rattle.std.proofs.Common.{ℕ, inl, refl}
 use Rattle.or_geom.specs.Gathering.{SomeHas}
 use Rattle.or_geom.proofs.GatheringLaws.{who_has}
 use Rattle.shape_bins.specs.Hits.{IsNearShape}
-use Rattle.tech_rules.specs.Touch.{IsConductor}
 use Rattle.net_extractor.specs.Contacts.{IsJoinedAt}
 use Rattle.net_extractor.specs.RunPairs.{IsLayerPairOf}
 use Rattle.net_extractor.proofs.JoinLaws.{joins_as, joins_none}

@@ -2,7 +2,6 @@ use Rattle.std.proofs.Common.{ℕ, [], inl}
 use Rattle.or_geom.specs.Gathering.{SomeHas}
 use Rattle.or_geom.proofs.GatheringLaws.{who_has}
 use Rattle.shape_bins.specs.Hits.{IsNearShape}
-use Rattle.tech_rules.specs.declared.tech.Connect.{Connect}
 use Rattle.net_extractor.specs.Contacts.{IsOverAt}
 use Rattle.net_extractor.specs.RunPairs.{IsOverPairOf}
 use Rattle.net_extractor.proofs.JoinLaws.{joins_as}

@@ -1,4 +1,4 @@
-use Rattle.std.proofs.Common.{◌+◌, ℕ, get_or, drop}
+use Rattle.std.proofs.Common.{◌+◌, get_or, drop}
 use Rattle.std.proofs.lemmas.List.{drop_all}
 use Rattle.net_extractor.specs.RunPairs.{IsOverPairOf}
 use Rattle.net_extractor.proofs.PlaceLaws.{rest_item}

@@ -1,4 +1,4 @@
-use Rattle.std.proofs.Common.{ℕ, drop}
+use Rattle.std.proofs.Common.{drop}
 use Rattle.net_extractor.specs.RunPairs.{IsOverPairOf}
 use Rattle.net_extractor.proofs.JoinLaws.{IsJoining}
 use Rattle.net_extractor.proofs.roots.join_over_layers.Given as goal

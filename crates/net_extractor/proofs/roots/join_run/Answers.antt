@@ -1,4 +1,4 @@
-use Rattle.std.proofs.Common.{◌⊎◌, inl, inr, ℕ}
+use Rattle.std.proofs.Common.{◌⊎◌, inl, ℕ}
 use Rattle.or_geom.specs.Gathering.{SomeHas}
 use Rattle.tech_rules.specs.Touch.{IsCutTo}
 use Rattle.net_extractor.specs.NetRoots.{IsTouchPair}

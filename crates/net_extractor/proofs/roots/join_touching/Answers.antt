@@ -1,5 +1,4 @@
-use Rattle.std.proofs.Common.{◌⊎◌, inl, inr, ℕ, length, arith}
-use Rattle.shape_bins.specs.Places.{IsListedBetween}
+use Rattle.std.proofs.Common.{◌⊎◌, inl, length}
 use Rattle.net_extractor.specs.RunPairs.{IsListedPair}
 use Rattle.net_extractor.proofs.JoinLaws.{joins_as, joins_both, joins_none}
 use Rattle.net_extractor.proofs.PairLaws.{no_listed, pair_either, pair_cases, listed_within, listed_beyond}

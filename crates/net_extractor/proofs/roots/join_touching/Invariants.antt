@@ -1,4 +1,4 @@
-use Rattle.std.proofs.Common.{◌-◌, ℕ, length}
+use Rattle.std.proofs.Common.{◌-◌, length}
 use Rattle.net_extractor.specs.RunPairs.{IsListedPair}
 use Rattle.net_extractor.specs.Sets.{JoinsSets}
 use Rattle.net_extractor.proofs.roots.join_touching.Given as goal

@@ -21,7 +21,7 @@ returns c =
     let each : AreAlone (length shapes) alone = rw c.shapes.ensures at c.in_ok-above.ensures in
     let listed : JoinsSets (IsListedPair connections shapes order 0 (length order)) alone now = rw c.deref_mut.ensures.value at c.in_ok-join_touching.ensures in
     let joins : JoinsSets (IsTouchPair connections shapes) alone now =
-        joins_as (IsListedPair connections shapes order 0 (length order)) (IsTouchPair connections shapes) alone now (λ a b h. inl h.1) (λ a b h. inl (touch_listed connections shapes order a b whole h)) listed in
+    joins_as (IsListedPair connections shapes order 0 (length order)) (IsTouchPair connections shapes) alone now (λ a b h. inl h.1) (λ a b h. inl (touch_listed connections shapes order a b whole h)) listed in
     let first : length alone ≡ c.in_ok-above.above.len = omega arith in
     let second : c.deref_mut-2.result.now ≡ now = c.deref_mut-2.ensures.value ∙ take_at now _ c.in_ok-above.above.len (joins.sized ∙ first) in
     let alike : AreAlike now roots = subst (λ (l : List ℕ). AreAlike l roots) second c.flatten.ensures.alike in

@@ -1,4 +1,4 @@
-use Rattle.std.proofs.Common.{◌-◌, ℕ, length}
+use Rattle.std.proofs.Common.{◌-◌, length}
 use Rattle.net_extractor.specs.Runs.{IsRun}
 use Rattle.net_extractor.proofs.run.take_run.Given as goal
 

@@ -1,4 +1,4 @@
-use Rattle.std.proofs.Common.{◌∙◌, sym, ap, subst, arith}
+use Rattle.std.proofs.Common.{sym, ap, subst, arith}
 use Rattle.net_extractor.proofs.SetLaws.{AreAloneBefore, alone_begins, alone_skips, alone_more, alone_all}
 use Rattle.net_extractor.proofs.sets.each_alone.Goals as goal
 use Rattle.net_extractor.proofs.sets.each_alone.Goals.{then-place-count, else-place-count}

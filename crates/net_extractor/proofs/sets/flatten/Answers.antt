@@ -1,7 +1,5 @@
-use Rattle.std.proofs.Common.{◌<◌, ◌≡◌, ℕ, length, get_or, Some, arith}
-use Rattle.std.specs.Prelude.{slice_get}
+use Rattle.std.proofs.Common.{◌<◌, length, get_or, arith}
 use Rattle.std.proofs.lemmas.Option.{slice_get-get_or, slice_get_within}
-use Rattle.net_extractor.specs.Sets.{AreAlike}
 use Rattle.net_extractor.proofs.SetLaws.{alike_itself, alike_on, halved, flat_more}
 use Rattle.net_extractor.proofs.sets.flatten.Goals as goal
 

@@ -1,4 +1,4 @@
-use Rattle.std.proofs.Common.{◌≡◌, ℕ, Some}
+use Rattle.std.proofs.Common.{◌≡◌, Some}
 use Rattle.std.specs.Prelude.{slice_get}
 use Rattle.net_extractor.specs.Sets.{AreAlike, AreTogether}
 use Rattle.net_extractor.proofs.sets.root.Given as goal
