@@ -12,7 +12,7 @@ use Rattle.or_geom.proofs.OneListLaws.{not_both}
 use Rattle.or_geom.proofs.ShapeOrderLaws.{shape_total}
 use Rattle.tech_rules.specs.declared.tech.Connect.{Connect}
 use Rattle.label_binding.specs.declared.anchor.Anchor.{Anchor}
-use Rattle.tech_rules.specs.Touch.{IsConductor, Touch}
+use Rattle.tech_rules.specs.Touch.{IsConductor, Touch, TouchOnLayer}
 use Rattle.label_binding.specs.Binding.{Binds}
 use Rattle.label_binding.specs.Bound.{IsBoundAt}
 use Rattle.label_binding.proofs.PlaceLaws.{at_contained}
@@ -28,14 +28,17 @@ earlier_less {X} cmp (z ∷ zs) zero (suc j) x y rises lt at_i at_j =
 earlier_less cmp (z ∷ zs) (suc i) zero x y rises lt at_i at_j = absurd (omega arith)
 earlier_less cmp (z ∷ zs) (suc i) (suc j) x y rises lt at_i at_j = earlier_less cmp zs i j x y rises.1 (omega arith) at_i at_j
 
-pub touch_turned : (connections : List Connect) (a b : Shape) → Touch connections a b → Touch connections b a
-touch_turned connections a b (inl t) =
+pub layer_turned : (connections : List Connect) (a b : Shape) → TouchOnLayer connections a b → TouchOnLayer connections b a
+layer_turned connections a b t =
     let j = t.joined in
-    inl (record {
+    record {
       one_layer = sym t.one_layer;
       conductor = subst (IsConductor connections) t.one_layer t.conductor;
       joined = record { p = j.p; q = j.q; differ = j.differ; p_in_a = j.p_in_b; p_in_b = j.p_in_a; q_in_a = j.q_in_b; q_in_b = j.q_in_a };
-    })
+    }
+
+pub touch_turned : (connections : List Connect) (a b : Shape) → Touch connections a b → Touch connections b a
+touch_turned connections a b (inl t) = inl (layer_turned connections a b t)
 touch_turned connections a b (inr (inl t)) = inr (inr t)
 touch_turned connections a b (inr (inr t)) = inr (inl t)
 

@@ -1,9 +1,11 @@
 pub mod AreaLaws
 pub mod MappedLaws
-mod GivingLaws
 pub mod NetLaws
-mod LinkLaws
-mod FloodLaws
+mod SetLaws
+mod JoinLaws
+mod RunLaws
+mod PairLaws
+mod RootLaws
 mod NumberLaws
 pub mod ExtractLaws
 mod EntryLaws

@@ -1,113 +1,125 @@
--- How the shapes of one net get a number.
-use Rattle.std.proofs.Common.{◌≡◌, inl, inr, ℕ, zero, suc, ◌+◌, replicate, List, length, get_or, refl, sym, ap, subst, ◌∙◌, arith}
+-- How nets get numbers.
+use Rattle.std.proofs.Common.{◌≡◌, ◌⊎◌, ◌↔◌, inl, inr, ℕ, zero, suc, ◌+◌, ◌<◌, replicate, List, length, get_or, set, refl, sym, ap, subst, ◌∙◌, arith}
 use Rattle.std.specs.Prelude.{Option, Some, None, slice_get}
-use Rattle.std.specs.List.Sorted.{IsStrictlySortedBy}
-use Rattle.std.proofs.lemmas.List.{length-replicate}
+use Rattle.std.proofs.lemmas.Bool.{cases_eq}
+use Rattle.std.proofs.lemmas.List.{length-set, length-replicate}
+use Rattle.std.proofs.lemmas.Option.{slice_get_within, slice_get-get_or}
 use Rattle.or_geom.specs.declared.shape.Shape.{Shape}
-use Rattle.or_geom.specs.ShapeOrder.{shape_order}
-use Rattle.or_geom.proofs.ListLaws.{contained_at, one_at}
+use Rattle.or_geom.proofs.ListLaws.{one_at}
 use Rattle.tech_rules.specs.declared.tech.Connect.{Connect}
-use Rattle.shape_bins.specs.Numbers.{IsGivenNumber, HasNumber}
-use Rattle.net_extractor.specs.declared.numbering.Numbering.{Numbering}
 use Rattle.tech_rules.specs.Net.{AreOnOneNet}
-use Rattle.net_extractor.specs.Flood.{IsUnused, IsSpread, IsFloodedAt, IsFlooded}
-use Rattle.net_extractor.specs.Numbering.{IsNumbering, Numbers}
-use Rattle.net_extractor.proofs.NetLaws.{net_of_itself, nets_on, net_further, net_back, net_numbered}
+use Rattle.net_extractor.specs.declared.numbering.Numbering.{Numbering}
+use Rattle.net_extractor.specs.NetRoots.{AreNetRoots}
+use Rattle.net_extractor.specs.Numbering.{IsGivenTo, HasNumber, AreRootsWithin, IsNumbering, GetsNumber, IsNumberAt}
+use Rattle.net_extractor.proofs.SetLaws.{set_here, set_elsewhere, was_elsewhere, was_here}
 
--- one number at a place
-pub on_one : (nets : List (Option ℕ)) (k m n : ℕ) → IsGivenNumber nets k m → IsGivenNumber nets k n → m ≡ n
-on_one nets k m n a b = let e : ◌≡◌ {A = Option ℕ} (Some m) (Some n) = sym a ∙ b in cc
+-- a root has one number
+given_one : (numbering : Numbering) (root m n : ℕ) → IsGivenTo numbering root m → IsGivenTo numbering root n → m ≡ n
+given_one numbering root m n a b = let e : ◌≡◌ {A = Option ℕ} (Some m) (Some n) = one_at numbering.numbers.items root (Some m) (Some n) a b in cc
 
-pub old_number : (connections : List Connect) (shapes : List Shape) (numbering : Numbering) (place number : ℕ) → IsNumbering connections shapes numbering → IsGivenNumber numbering.numbers.given place number → Numbers connections shapes numbering place number numbering
-old_number connections shapes numbering place number n on = record { numbered = n; kept = λ k m h. h; here = on; next = inl (n.below place number on, refl) }
+-- and so has a place
+pub on_one : (numbering : Numbering) (k m n : ℕ) → HasNumber numbering k m → HasNumber numbering k n → m ≡ n
+on_one numbering k m n a b =
+    let same : a.root ≡ b.root = one_at numbering.roots.items k a.root b.root a.up b.up in
+    given_one numbering b.root m n (subst (λ (r : ℕ). IsGivenTo numbering r m) same a.is) b.is
 
--- the next number is new
-pub next_unused : (connections : List Connect) (shapes : List Shape) (numbering : Numbering) → IsNumbering connections shapes numbering → IsUnused numbering.numbers.given numbering.next
-next_unused connections shapes numbering n place on = let lt = n.below place numbering.next on in omega (arith, lt)
+pub roots_within : (connections : List Connect) (shapes : List Shape) (numbering : Numbering) → IsNumbering connections shapes numbering → AreRootsWithin numbering
+roots_within connections shapes numbering n = record { within = λ place root up. let lt = n.roots.inside place root up in let sized = n.sized in omega (arith, lt, sized) }
 
--- what a flood gave numbers to, and what had them, have spread
-all_spread : (connections : List Connect) (shapes : List Shape) (old new : Numbering) (start : ℕ) → IsNumbering connections shapes old → IsFlooded connections shapes start old.next old.numbers.given new.numbers.given → (k : ℕ) → HasNumber new.numbers.given k
-    → IsSpread connections shapes new.numbers.given k
-all_spread connections shapes old new start n f k has other s t at_k at_other touch = elim (f.only k has.number has.is) [
-  | inl earlier ↦
-      let net = net_further connections shapes s s t (net_of_itself connections shapes s) (contained_at shapes other t at_other) touch in
-      record { number = has.number; is = f.kept other has.number ((n.whole k other has.number s t at_k at_other earlier).1 net) }
-  | inr fresh ↦ f.spread k (subst (λ (m : ℕ). IsGivenNumber new.numbers.given k m) fresh.is has.is) other s t at_k at_other touch
-]
+-- the same number is that of another shape exactly where both are on one net
+pub whole : (connections : List Connect) (shapes : List Shape) (numbering : Numbering) (from to number : ℕ) (s t : Shape) → IsNumbering connections shapes numbering → slice_get shapes from ≡ Some s → slice_get shapes to ≡ Some t → HasNumber numbering from number
+    → HasNumber numbering to number ↔ AreOnOneNet connections shapes s t
+whole connections shapes numbering from to number s t n at_s at_t on =
+    let roots = numbering.roots.items in (
+      λ other. (n.roots.same from to on.root other.root s t at_s at_t on.up other.up).0 (n.one on.root other.root number on.is other.is),
+      λ net.
+          let lt = slice_get_within shapes to t at_t in
+          let sized = n.roots.sized in
+          let up = slice_get-get_or roots to 0 (omega (arith, lt, sized)) in
+          let same : on.root ≡ get_or roots to 0 = (n.roots.same from to on.root (get_or roots to 0) s t at_s at_t on.up up).1 net in
+          record { root = on.root; up = up ∙ ap (λ (r : ℕ). Some r) (sym same); is = on.is },
+    )
 
--- two shapes that a flood gave the number to
-both_flooded : (connections : List Connect) (shapes : List Shape) (start number from to m n : ℕ) (s t : Shape) → slice_get shapes from ≡ Some s → slice_get shapes to ≡ Some t → IsFloodedAt connections shapes start number from m → IsFloodedAt connections shapes start number to n
-    → AreOnOneNet connections shapes s t
-both_flooded connections shapes start number from to m n s t at_from at_to a b =
-    let first : a.first ≡ b.first = one_at shapes start a.first b.first a.begins b.begins in
-    let here : a.shape ≡ s = one_at shapes from a.shape s a.there at_from in
-    let there : b.shape ≡ t = one_at shapes to b.shape t b.there at_to in
-    let one : AreOnOneNet connections shapes a.first s = subst (λ (u : Shape). AreOnOneNet connections shapes a.first u) here a.net in
-    let two : AreOnOneNet connections shapes b.first t = subst (λ (u : Shape). AreOnOneNet connections shapes b.first u) there b.net in
-    nets_on connections shapes s a.first t (net_back connections shapes a.first s (contained_at shapes start a.first a.begins) one) (subst (λ (u : Shape). AreOnOneNet connections shapes u t) (sym first) two)
+-- the shape at the place now has the number, which is one that was given before or the next one
+pub record Numbers (connections : List Connect) (shapes : List Shape) (old : Numbering) (place number : ℕ) (new : Numbering) : Type 0 where
+  pub numbered : IsNumbering connections shapes new
+  pub kept : (k m : ℕ) → HasNumber old k m → HasNumber new k m
+  pub here : HasNumber new place number
+  pub next : ((number < old.next) × (new.next ≡ old.next)) ⊎ ((number ≡ old.next) × (new.next ≡ old.next + 1))
 
-pub new_number : (connections : List Connect) (shapes : List Shape) (old new : Numbering) (place : ℕ) → IsStrictlySortedBy shape_order shapes → IsNumbering connections shapes old → get_or old.numbers.given place None ≡ None → new.numbers.shapes ≡ shapes
-    → IsFlooded connections shapes place old.next old.numbers.given new.numbers.given → new.next ≡ old.next + 1 → Numbers connections shapes old place old.next new
-new_number connections shapes old new place rises n none same f next =
-    let before = old.numbers.given in
-    let after = new.numbers.given in
-    record {
-      numbered = record {
-        same = same;
-        sized = f.sized ∙ n.sized;
-        whole = λ from to number s t at_from at_to on. elim (f.only from number on) [
-          | inl earlier ↦ (
-            λ on_to. elim (f.only to number on_to) [
-              | inl there ↦ (n.whole from to number s t at_from at_to earlier).0 there
-              | inr fresh ↦ let lt = n.below from number earlier in let e = fresh.is in absurd (omega (arith, lt, e))
-            ],
-            λ net. f.kept to number ((n.whole from to number s t at_from at_to earlier).1 net),
-          )
-          | inr fresh ↦ (
-            λ on_to. elim (f.only to number on_to) [
-              | inl there ↦ let lt = n.below to number there in let e = fresh.is in absurd (omega (arith, lt, e))
-              | inr there ↦ both_flooded connections shapes place old.next from to number number s t at_from at_to fresh there
-            ],
-            λ net.
-                let has : HasNumber after to = net_numbered connections shapes after from to s t rises (all_spread connections shapes old new place n f) at_from at_to (record { number = number; is = on }) net in
-                elim (f.only to has.number has.is) [
-                  | inl earlier ↦
-                      let first = fresh.first in
-                      let here : fresh.shape ≡ s = one_at shapes from fresh.shape s fresh.there at_from in
-                      let one : AreOnOneNet connections shapes first s = subst (λ (u : Shape). AreOnOneNet connections shapes first u) here fresh.net in
-                      let back = net_back connections shapes first t (contained_at shapes place first fresh.begins) (nets_on connections shapes first s t one net) in
-                      let clash : IsGivenNumber before place has.number = (n.whole to place has.number t first at_to fresh.begins earlier).1 back in
-                      let e : ◌≡◌ {A = Option ℕ} None (Some has.number) = sym none ∙ clash in
-                      absurd cc
-                  | inr there ↦ subst (λ (m : ℕ). IsGivenNumber after to m) (there.is ∙ sym fresh.is) has.is
-                ],
-          )
-        ];
-        below = λ k m on. elim (f.only k m on) [
-          | inl earlier ↦ let lt = n.below k m earlier in omega (arith, lt, next)
-          | inr fresh ↦ let e = fresh.is in omega (arith, e, next)
-        ];
-      };
-      kept = f.kept;
-      here = f.here;
-      next = inr (refl, next);
-    }
+module _ (connections : List Connect) (shapes : List Shape) (old : Numbering) (place number : ℕ) (new : Numbering) (n : IsNumbering connections shapes old) (g : GetsNumber old place number new) where
+  -- the numbers then
+  now : List (Option ℕ)
+  now = set old.numbers.items g.root (Some number)
 
-no_number : (n k m : ℕ) → IsGivenNumber (replicate n None) k m → ⊥
+  cases_given : (root m : ℕ) → IsGivenTo new root m → ((root ≡ g.root) × (m ≡ number)) ⊎ IsGivenTo old root m
+  cases_given root m is =
+      let there : slice_get (set old.numbers.items g.root (Some number)) root ≡ Some (Some m) = subst (λ (ns : List (Option ℕ)). slice_get ns root ≡ Some (Some m)) g.numbers is in
+      elim (cases_eq root g.root) [
+        | inl e ↦
+            let here = was_here old.numbers.items g.root (Some number) (Some m) (subst (λ (r : ℕ). slice_get (set old.numbers.items g.root (Some number)) r ≡ Some (Some m)) e there) in
+            let same : m ≡ number = cc in
+            inl (e, same)
+        | inr ne ↦ inr (was_elsewhere old.numbers.items g.root root (Some number) (Some m) ne there)
+      ]
+
+  still_given : (root m : ℕ) → IsGivenTo old root m → IsGivenTo new root m
+  still_given root m is = elim (cases_eq root g.root) [
+    | inl e ↦
+        let here : slice_get old.numbers.items g.root ≡ Some (Some m) = subst (λ (r : ℕ). slice_get old.numbers.items r ≡ Some (Some m)) e is in
+        let clash : ◌≡◌ {A = Option ℕ} None (Some m) = one_at old.numbers.items g.root None (Some m) g.none here in
+        absurd cc
+    | inr ne ↦ subst (λ (ns : List (Option ℕ)). slice_get ns root ≡ Some (Some m)) (sym g.numbers) (set_elsewhere old.numbers.items g.root root (Some number) (Some m) ne is)
+  ]
+
+  one_given : (root other m : ℕ) → IsGivenTo new root m → IsGivenTo new other m → root ≡ other
+  one_given root other m a b = elim (cases_given root m a) [
+    | inl here ↦ elim (cases_given other m b) [
+      | inl there ↦ here.0 ∙ sym there.0
+      | inr before ↦ let lt = n.below other m before in let e = here.1 in let is = g.is in absurd (omega (arith, lt, e, is))
+    ]
+    | inr before ↦ elim (cases_given other m b) [
+      | inl there ↦ let lt = n.below root m before in let e = there.1 in let is = g.is in absurd (omega (arith, lt, e, is))
+      | inr too ↦ n.one root other m before too
+    ]
+  ]
+
+  pub new_number : Numbers connections shapes old place number new
+  new_number = record {
+    numbered = record {
+      roots = subst (AreNetRoots connections shapes) (sym g.roots) n.roots;
+      sized = ap length g.numbers ∙ (length-set old.numbers.items g.root (Some number) ∙ n.sized);
+      below = λ root m is. elim (cases_given root m is) [
+        | inl here ↦ let e = here.1 in let at = g.is in let next = g.next in omega (arith, e, at, next)
+        | inr before ↦ let lt = n.below root m before in let next = g.next in omega (arith, lt, next)
+      ];
+      one = one_given;
+    };
+    kept = λ k m h. record { root = h.root; up = subst (λ (rs : List ℕ). slice_get rs k ≡ Some h.root) (sym g.roots) h.up; is = still_given h.root m h.is };
+    here = record {
+      root = g.root;
+      up = subst (λ (rs : List ℕ). slice_get rs place ≡ Some g.root) (sym g.roots) g.up;
+      is = subst (λ (ns : List (Option ℕ)). slice_get ns g.root ≡ Some (Some number)) (sym g.numbers) (set_here old.numbers.items g.root (Some number) (slice_get_within old.numbers.items g.root None g.none));
+    };
+    next = inr (g.is, g.next);
+  }
+
+pub numbers_at : (connections : List Connect) (shapes : List Shape) (old : Numbering) (place number : ℕ) (new : Numbering) → IsNumbering connections shapes old → IsNumberAt old place number new → Numbers connections shapes old place number new
+numbers_at connections shapes old place number new n (inl h) =
+    subst (Numbers connections shapes old place number) (sym h.same) (record { numbered = n; kept = λ k m on. on; here = h.had; next = inl (n.below h.had.root number h.had.is, refl) })
+numbers_at connections shapes old place number new n (inr g) = new_number connections shapes old place number new n g
+
+no_number : (n k m : ℕ) → slice_get (replicate n None) k ≡ Some (Some m) → ⊥
 no_number zero k m on = absurd cc
 no_number (suc n) zero m on = absurd cc
 no_number (suc n) (suc k) m on = no_number n k m on
 
--- no shape has a number yet
-pub numbering_begins : (connections : List Connect) (shapes : List Shape) (n : ℕ) (numbering : Numbering) → numbering.numbers.shapes ≡ shapes → numbering.numbers.given ≡ replicate n None → n ≡ length shapes → IsNumbering connections shapes numbering
-numbering_begins connections shapes n numbering same none sized = record {
-  same = same;
-  sized = ap length none ∙ (length-replicate n None ∙ sized);
-  whole = λ from to number s t at_from at_to on. absurd (no_number n from number (subst (λ (ns : List (Option ℕ)). IsGivenNumber ns from number) none on));
-  below = λ k m on. absurd (no_number n k m (subst (λ (ns : List (Option ℕ)). IsGivenNumber ns k m) none on));
+-- no net has a number yet
+pub numbering_begins : (connections : List Connect) (shapes : List Shape) (count : ℕ) (numbering : Numbering) → AreNetRoots connections shapes numbering.roots.items → numbering.numbers.items ≡ replicate count None → count ≡ length numbering.roots.items
+    → IsNumbering connections shapes numbering
+numbering_begins connections shapes count numbering roots none counted = record {
+  roots = roots;
+  sized = ap length none ∙ (length-replicate count None ∙ (counted ∙ roots.sized));
+  below = λ root m is. absurd (no_number count root m (subst (λ (ns : List (Option ℕ)). slice_get ns root ≡ Some (Some m)) none is));
+  one = λ root other m a b. absurd (no_number count root m (subst (λ (ns : List (Option ℕ)). slice_get ns root ≡ Some (Some m)) none a));
 }
-
--- what isn't some number is none
-pub none_from : (o : Option ℕ) → ((n : ℕ) → o ≡ Some n → ⊥) → o ≡ None
-none_from None h = refl
-none_from (Some n) h = absurd (h n refl)

@@ -1,24 +1,39 @@
--- Which shapes touch, by their places.
-use Rattle.std.specs.Prelude.{◌≡◌, ℕ, List, slice_get, Some}
+-- Which pairs of places are joined: those of a run with those that a query found.
+use Rattle.std.specs.Prelude.{◌≡◌, ℕ, ◌<◌, List, slice_get, Some, Contains}
+use Rattle.or_geom.specs.declared.shape.Rect.{Rect}
 use Rattle.or_geom.specs.declared.shape.Shape.{Shape}
-use Rattle.or_geom.specs.Gathering.{SomeGives}
-use Rattle.tech_rules.specs.declared.tech.Connect.{Connect}
-use Rattle.shape_bins.specs.declared.query.Query.{Query}
-use Rattle.shape_bins.specs.Hits.{IsHit}
-use Rattle.tech_rules.specs.Touch.{Touch, TouchOnLayer}
+use Rattle.or_geom.specs.Gathering.{SomeHas}
+use Rattle.or_geom.specs.Joined.{AreJoined}
+use Rattle.tech_rules.specs.Touch.{ShareArea}
+use Rattle.net_extractor.specs.declared.run.RunShape.{RunShape}
+use Rattle.net_extractor.specs.Sets.{IsPair}
 
--- the shape at this place touches the shape
-pub record TouchesAt (connections : List Connect) (shapes : List Shape) (shape : Shape) (place : ℕ) : Type 0 where
-  pub other : Shape
-  pub there : slice_get shapes place ≡ Some other
-  pub touch : Touch connections shape other
+-- the places of these shapes are less than the bound
+abbrev pub AreWithin : ℕ → List RunShape → Type 0
+AreWithin count run = (own : RunShape) → Contains run own → own.place < count
 
--- the shape at this place touches the shape on its own layer
-pub record TouchesOnLayerAt (connections : List Connect) (shapes : List Shape) (shape : Shape) (place : ℕ) : Type 0 where
-  pub other : Shape
-  pub there : slice_get shapes place ≡ Some other
-  pub touch : TouchOnLayer connections shape other
+-- the shape stands before the place and is joined with the rectangle
+pub record IsLesser (place : ℕ) (rect : Rect) (own : RunShape) : Type 0 where
+  pub before : own.place < place
+  pub joined : AreJoined own.rect rect
 
--- the shape at this place is of one of the layers, and one that is looked for
-abbrev pub IsHitOnSome : List Shape → Query → List ℕ → ℕ → Type 0
-IsHitOnSome shapes query layers place = SomeGives (λ (layer : ℕ). IsHit shapes layer query) layers place
+-- it does, and these are its place and that one
+pub record IsJoinedTo (place : ℕ) (rect : Rect) (own : RunShape) (a b : ℕ) : Type 0 where
+  pub lesser : IsLesser place rect own
+  pub pair : IsPair own.place place a b
+
+-- the shape shares area with the rectangle, and these are its place and that one
+pub record IsOverTo (place : ℕ) (rect : Rect) (own : RunShape) (a b : ℕ) : Type 0 where
+  pub over : ShareArea own.rect rect
+  pub pair : IsPair own.place place a b
+
+-- so stands one of the run's shapes to the shape at the place
+pub record IsJoinedAt (shapes : List Shape) (run : List RunShape) (place a b : ℕ) : Type 0 where
+  pub shape : Shape
+  pub there : slice_get shapes place ≡ Some shape
+  pub some : SomeHas (λ (own : RunShape). IsJoinedTo place shape.rect own a b) run
+
+pub record IsOverAt (shapes : List Shape) (run : List RunShape) (place a b : ℕ) : Type 0 where
+  pub shape : Shape
+  pub there : slice_get shapes place ≡ Some shape
+  pub some : SomeHas (λ (own : RunShape). IsOverTo place shape.rect own a b) run

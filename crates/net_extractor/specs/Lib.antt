@@ -3,9 +3,11 @@ pub mod PlainNets
 pub mod FirstAppearance
 pub mod Extraction
 pub mod ShapeNets
+pub mod Sets
+pub mod NetRoots
+pub mod Runs
 pub mod Contacts
-pub mod Links
-pub mod Flood
+pub mod RunPairs
 pub mod Numbering
 pub mod Entries
 pub mod Difference

@@ -3,8 +3,8 @@
 
 mod comparison;
 mod conflicts;
+mod contacts;
 mod difference;
-mod flood;
 mod key_places;
 mod keys;
 mod label;
@@ -14,6 +14,9 @@ mod net_numbers;
 mod nets;
 mod numbering;
 mod pins;
+mod roots;
+mod run;
+mod sets;
 mod strangers;
 
 pub use comparison::compare;

@@ -1,8 +1,7 @@
 ghost use Rattle.std.specs.Prelude.{◌↔◌, IsTrue, Contains, OnOk};
 ghost use Rattle.or_geom.specs.Adds.{Adds};
-ghost use Rattle.or_geom.specs.Gathering.{SomeGives, SomeHas};
-ghost use Rattle.net_extractor.specs.Links.{IsLinkOf};
-ghost use Rattle.tech_rules.specs.Touch.{Joins};
+ghost use Rattle.or_geom.specs.Gathering.{SomeHas};
+ghost use Rattle.tech_rules.specs.Touch.{IsCutTo, Joins};
 
 use or_geom::Memory;
 use tech_rules::Connect;
@@ -36,31 +35,12 @@ fn add_connected(connect: &Connect, layer: u16, out: &mut Vec<u16>) -> Result<()
     Ok(out.extend_from_slice(connect.to.as_slice())?)
 }
 
-/// Adds the connection's cut layer, if it connects the layer.
-fn add_cut(connect: &Connect, layer: u16, out: &mut Vec<u16>) -> Result<(), Memory>
-    ensures { OnOk result (Adds out.old.items out.new.items (λ cut. Joins cut layer connect.now)) }
-{
-    if !connects(connect, layer) {
-        return Ok(());
-    }
-    Ok(out.push(connect.cut)?)
-}
-
-/// Adds the layers that the connection links with this one.
-fn add_links_of(connect: &Connect, layer: u16, out: &mut Vec<u16>) -> Result<(), Memory>
-    ensures { OnOk result (Adds out.old.items out.new.items (IsLinkOf layer connect.now)) }
-{
-    add_connected(connect, layer, out)?;
-    add_cut(connect, layer, out)?;
-    Ok(())
-}
-
-/// Adds the layers that a cut links with this one: the shapes on them touch those on it where they share area.
-pub fn add_links(connections: &[Connect], layer: u16, out: &mut Vec<u16>) -> Result<(), Memory>
-    ensures { OnOk result (Adds out.old.items out.new.items (SomeGives (IsLinkOf layer) connections.now)) }
+/// Adds the layers that the cut layer connects.
+pub fn add_cut_to(connections: &[Connect], layer: u16, out: &mut Vec<u16>) -> Result<(), Memory>
+    ensures { OnOk result (Adds out.old.items out.new.items (IsCutTo connections.now layer)) }
 {
     for connect in connections {
-        add_links_of(connect, layer, out)?;
+        add_connected(connect, layer, out)?;
     }
     Ok(())
 }

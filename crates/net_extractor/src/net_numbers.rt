@@ -3,10 +3,9 @@ ghost use Rattle.std.specs.List.Sorted.{IsStrictlySortedBy};
 ghost use Rattle.or_geom.specs.ShapeOrder.{shape_order};
 ghost use Rattle.net_extractor.specs.ShapeNets.{AreShapeNets};
 
-use crate::flood::Scratch;
-use crate::numbering::{Numbering, number_at};
+use crate::numbering::{no_numbers, number_at};
 use or_geom::{Items, Memory};
-use shape_bins::{Bins, ShapeNumbers};
+use shape_bins::Bins;
 use std::alloc::Global;
 use tech_rules::Connect;
 
@@ -18,18 +17,10 @@ pub fn shape_nets(alloc: Global, connections: &[Connect], bins: &Bins) -> Result
     requires few { length bins.now < 2 ^ 32 }
     ensures { IfOk result (AreShapeNets connections.now bins.now) }
 {
-    let mut numbering = Numbering {
-        numbers: ShapeNumbers::new(alloc, bins)?,
-        next: 0,
-    };
-    let mut scratch = Scratch {
-        pending: Vec::new(alloc),
-        layers: Vec::new(alloc),
-    };
-    let shapes = bins.shapes();
+    let mut numbering = no_numbers(alloc, connections, bins)?;
     let mut nets = Items::new(alloc);
-    for index in 0..shapes.len() {
-        let net = number_at(connections, shapes, index, &mut numbering, &mut scratch)?;
+    for index in 0..bins.shapes().len() {
+        let net = number_at(index, &mut numbering);
         nets.push(net)?;
     }
     Ok(nets)

@@ -4,38 +4,28 @@ ghost use Rattle.or_geom.specs.ShapeOrder.{shape_order};
 ghost use Rattle.cell_hierarchy.specs.Plain.{plain_label};
 ghost use Rattle.net_extractor.specs.Entries.{IsNetOf};
 ghost use Rattle.net_extractor.specs.Extraction.{AreNets, AreNetsUnder};
-ghost use Rattle.net_extractor.specs.Numbering.{IsNumbering};
+ghost use Rattle.net_extractor.specs.Numbering.{AreRootsWithin};
 ghost use Rattle.net_extractor.specs.PlainNets.{plain_net};
 
-use crate::flood::Scratch;
 use crate::label::{NetLabel, Nets};
-use crate::numbering::{Numbering, number_at};
+use crate::numbering::{Numbering, no_numbers, number_at};
 use cell_hierarchy::{Flat, Label};
 use label_binding::{Anchor, bound_shape};
 use or_geom::{Items, Memory};
-use shape_bins::{Bins, ShapeNumbers};
+use shape_bins::Bins;
 use std::alloc::Global;
 use std::thread::Threads;
 use tech_rules::{Connect, Tech};
 
 /// The number of the net of the shape that a label binds, if it binds one.
-fn net_of(
-    connections: &[Connect],
-    bins: &Bins,
-    label: Anchor,
-    numbering: &mut Numbering,
-    scratch: &mut Scratch,
-) -> Result<Option<u32>, Memory>
-    requires rises { IsStrictlySortedBy shape_order bins.now }
-    requires numbered { IsNumbering connections.now bins.now numbering.old }
+fn net_of(bins: &Bins, label: Anchor, numbering: &mut Numbering) -> Option<u32>
+    requires sized { length numbering.old.roots.items ≡ length bins.now }
+    requires within { AreRootsWithin numbering.old }
     requires few { numbering.old.next + 1 < 2 ^ 32 }
-    ensures { IfOk result (λ net. IsNetOf connections.now bins.now label numbering.old net numbering.new) }
+    ensures { IsNetOf bins.now label numbering.old result numbering.new }
 {
-    let Some(place) = bound_shape(bins, label) else {
-        return Ok(None);
-    };
-    let number = number_at(connections, bins.shapes(), place, numbering, scratch)?;
-    Ok(Some(number))
+    let place = bound_shape(bins, label)?;
+    Some(number_at(place, numbering))
 }
 
 /// The label at an index.
@@ -58,14 +48,7 @@ fn nets_of<'b>(
     ensures { IfOk result (λ nets. AreNetsUnder connections.now bins.now (map plain_label labels.now)
         (map plain_net nets.labels)) }
 {
-    let mut numbering = Numbering {
-        numbers: ShapeNumbers::new(alloc, bins)?,
-        next: 0,
-    };
-    let mut scratch = Scratch {
-        pending: Vec::new(alloc),
-        layers: Vec::new(alloc),
-    };
+    let mut numbering = no_numbers(alloc, connections, bins)?;
     let mut entries = Items::new(alloc);
     for index in 0..labels.len() {
         let label = label_at(labels, index);
@@ -73,7 +56,7 @@ fn nets_of<'b>(
             layer: label.layer,
             at: label.at,
         };
-        let net = net_of(connections, bins, anchor, &mut numbering, &mut scratch)?;
+        let net = net_of(bins, anchor, &mut numbering);
         entries.push(NetLabel { label, net })?;
     }
     Ok(Nets { labels: entries })
@@ -83,8 +66,7 @@ fn nets_of<'b>(
 /// two nets are equal exactly where the bound shapes are on one net, and the numbers run from 0 by first appearance.
 /// The shapes are in order and distinct, `bins` is their index, and there are at most 2^22 labels.
 ///
-/// Each shape is looked at once. The memory grows with the shapes and labels, and not with the pairs of shapes that
-/// touch. The labels themselves are not copied.
+/// The memory grows with the shapes and labels, and not with the pairs of shapes that touch. The labels themselves are not copied.
 pub fn extract<'b, R: Threads + Sync>(
     _rt: &R,
     alloc: Global,

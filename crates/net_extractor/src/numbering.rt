@@ -1,46 +1,53 @@
 ghost use Rattle.std.specs.Prelude.{◌≡◌, ◌+◌, ◌^◌, ◌<◌, length, IfOk};
 ghost use Rattle.std.specs.List.Sorted.{IsStrictlySortedBy};
 ghost use Rattle.or_geom.specs.ShapeOrder.{shape_order};
-ghost use Rattle.net_extractor.specs.Numbering.{IsNumbering, Numbers};
+ghost use Rattle.net_extractor.specs.Numbering.{AreRootsWithin, IsNumberAt, IsNumbering};
 
-use crate::flood::{Scratch, flood};
-use or_geom::{Memory, Shape};
-use shape_bins::ShapeNumbers;
+use crate::roots::net_roots;
+use or_geom::Memory;
+use shape_bins::Bins;
+use std::alloc::Global;
 use tech_rules::Connect;
 
-/// The numbers of nets so far: for each shape its net's, where it has one, and the number of the next net.
+/// The numbers of nets so far.
 #[derive(Drop)]
-pub struct Numbering<'b> {
-    pub numbers: ShapeNumbers<'b>,
+pub struct Numbering {
+    /// For each shape the place of one that stands for its net.
+    pub roots: Vec<u32>,
+    /// For each place the number of the net that it stands for, where that has one.
+    pub numbers: Vec<Option<u32>>,
+    /// The number of the next net.
     pub next: u32,
 }
 
-/// The number of the net of the shape at a place. A net that has none gets the next number, at all its shapes.
-pub fn number_at(
-    connections: &[Connect],
-    shapes: &[Shape],
-    place: usize,
-    numbering: &mut Numbering,
-    scratch: &mut Scratch,
-) -> Result<u32, Memory>
-    requires rises { IsStrictlySortedBy shape_order shapes.now }
-    requires inside { place < length shapes.now }
-    requires numbered { IsNumbering connections.now shapes.now numbering.old }
-    requires few { numbering.old.next + 1 < 2 ^ 32 }
-    ensures { IfOk result (λ number. Numbers connections.now shapes.now numbering.old place number numbering.new) }
+/// No net has a number yet.
+pub fn no_numbers(alloc: Global, connections: &[Connect], bins: &Bins) -> Result<Numbering, Memory>
+    requires rises { IsStrictlySortedBy shape_order bins.now }
+    ensures numbered { IfOk result (IsNumbering connections.now bins.now) }
+    ensures next { IfOk result (λ numbering. numbering.next ≡ 0) }
 {
-    if let Some(number) = numbering.numbers.get(place) {
-        return Ok(number);
+    let roots = net_roots(alloc, connections, bins)?;
+    let numbers = vec![in alloc; None; roots.len()]?;
+    Ok(Numbering {
+        roots,
+        numbers,
+        next: 0,
+    })
+}
+
+/// The number of the net of the shape at a place. A net that has none gets the next number.
+pub fn number_at(place: usize, numbering: &mut Numbering) -> u32
+    requires inside { place < length numbering.old.roots.items }
+    requires within { AreRootsWithin numbering.old }
+    requires few { numbering.old.next + 1 < 2 ^ 32 }
+    ensures { IsNumberAt numbering.old place result numbering.new }
+{
+    let root = numbering.roots[place] as usize;
+    if let Some(number) = numbering.numbers[root] {
+        return number;
     }
     let number = numbering.next;
-    flood(
-        connections,
-        shapes,
-        place,
-        number,
-        &mut numbering.numbers,
-        scratch,
-    )?;
+    numbering.numbers[root] = Some(number);
     numbering.next = number + 1;
-    Ok(number)
+    number
 }

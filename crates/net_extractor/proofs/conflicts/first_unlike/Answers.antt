@@ -1,4 +1,3 @@
-use Rattle.std.proofs.Common.{refl}
 use Rattle.net_extractor.proofs.MatchingLaws.{matched_agree}
 use Rattle.net_extractor.proofs.conflicts.first_unlike.Goals as goal
 
