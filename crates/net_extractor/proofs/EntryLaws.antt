@@ -17,7 +17,7 @@ use Rattle.net_extractor.specs.declared.numbering.Numbering.{Numbering}
 use Rattle.tech_rules.specs.Net.{AreOnOneNet}
 use Rattle.label_binding.specs.Binding.{Binds, BindsNone}
 use Rattle.label_binding.specs.Bound.{IsBoundAt}
-use Rattle.net_extractor.specs.Numbering.{HasNumber, IsNumbering}
+use Rattle.net_extractor.specs.Numbering.{NetHasNumber, IsNumbering}
 use Rattle.net_extractor.specs.FirstAppearance.{AppearFrom}
 use Rattle.net_extractor.specs.Entries.{entry, IsUnbound, IsNetOf}
 use Rattle.net_extractor.specs.Extraction.{label_of, anchor_of, AreNetsUnder}
@@ -49,7 +49,7 @@ pub record IsHeld (shapes : List Shape) (numbering : Numbering) (e : PlainNetLab
   pub number : ℕ
   pub bound : IsBoundAt shapes (anchor_of e) place
   pub is : e.net ≡ Some number
-  pub on : HasNumber numbering place number
+  pub on : NetHasNumber numbering place number
 
 -- what stands in the entries so far, of the first labels
 pub record AreEntries (connections : List Connect) (shapes : List Shape) (labels : List Label) (i : ℕ) (numbering : Numbering) (entries : List PlainNetLabel) : Type 0 where
@@ -70,12 +70,12 @@ appear_step connections shapes label old new (Some number) more h a = elim h.num
   | inr fresh ↦ inr (fresh.0, subst (λ (n : ℕ). AppearFrom n more) fresh.1 a)
 ]
 
-kept_right : (shapes : List Shape) (old new : Numbering) (e : PlainNetLabel) → ((k m : ℕ) → HasNumber old k m → HasNumber new k m) → IsFree shapes e ⊎ IsHeld shapes old e → IsFree shapes e ⊎ IsHeld shapes new e
+kept_right : (shapes : List Shape) (old new : Numbering) (e : PlainNetLabel) → ((k m : ℕ) → NetHasNumber old k m → NetHasNumber new k m) → IsFree shapes e ⊎ IsHeld shapes old e → IsFree shapes e ⊎ IsHeld shapes new e
 kept_right shapes old new e kept (inl f) = inl f
 kept_right shapes old new e kept (inr h) = inr (record { place = h.place; number = h.number; bound = h.bound; is = h.is; on = kept h.place h.number h.on })
 
-kept_numbers : (connections : List Connect) (shapes : List Shape) (label : Anchor) (old new : Numbering) (net : Option ℕ) → IsNetUnder connections shapes label old net new → (k m : ℕ) → HasNumber old k m → HasNumber new k m
-kept_numbers connections shapes label old new None h k m on = subst (λ (n : Numbering). HasNumber n k m) (sym h.same) on
+kept_numbers : (connections : List Connect) (shapes : List Shape) (label : Anchor) (old new : Numbering) (net : Option ℕ) → IsNetUnder connections shapes label old net new → (k m : ℕ) → NetHasNumber old k m → NetHasNumber new k m
+kept_numbers connections shapes label old new None h k m on = subst (λ (n : Numbering). NetHasNumber n k m) (sym h.same) on
 kept_numbers connections shapes label old new (Some number) h k m on = h.numbers.kept k m on
 
 numbered_step : (connections : List Connect) (shapes : List Shape) (label : Anchor) (old new : Numbering) (net : Option ℕ) → IsNetUnder connections shapes label old net new → IsNumbering connections shapes old → IsNumbering connections shapes new
@@ -145,9 +145,9 @@ one_exactly connections shapes numbering e f s t rises n a b binds_s binds_t =
       λ one.
           let numbers : ◌≡◌ {A = Option ℕ} (Some b.number) (Some a.number) = sym b.is ∙ (sym one ∙ a.is) in
           let equal : b.number ≡ a.number = cc in
-          same.0 (subst (HasNumber numbering b.place) equal b.on),
+          same.0 (subst (NetHasNumber numbering b.place) equal b.on),
       λ net.
-          let there : HasNumber numbering b.place a.number = same.1 net in
+          let there : NetHasNumber numbering b.place a.number = same.1 net in
           let equal = on_one numbering b.place a.number b.number there b.on in
           a.is ∙ (ap (λ (k : ℕ). Some k) equal ∙ sym b.is),
     )

@@ -8,23 +8,23 @@ use Rattle.or_geom.specs.Gathering.{SomeHas}
 use Rattle.or_geom.proofs.ListLaws.{one_at}
 use Rattle.tech_rules.specs.Linked.{AreLinked}
 use Rattle.tech_rules.proofs.LinkedLaws.{linked_on, linked_next, linked_back}
-use Rattle.net_extractor.specs.Sets.{IsFalling, IsStep, Anywhere, AreTogether, Keeps, IsRoot, AreAlike, FindsRoot, IsStepBy, JoinsSets, IsPair}
+use Rattle.net_extractor.specs.Sets.{IsFalling, IsRootStep, Anywhere, AreTogether, Keeps, IsRoot, AreSameSets, FindsRoot, IsRootStepBy, JoinsSets, AreThesePlaces}
 use Rattle.net_extractor.proofs.SetLaws.{linked_by, itself, further, backward, upward, keeps_by, keeps_itself, keeps_on, alike_on, set_here, set_elsewhere, was_elsewhere, was_here}
 
 -- the pairs of which P holds, with the sets as they were
-by_turned : (above : List ℕ) (P : ℕ → ℕ → Type 0) (a b : ℕ) → IsStepBy above P a b → IsStepBy above P b a
+by_turned : (above : List ℕ) (P : ℕ → ℕ → Type 0) (a b : ℕ) → IsRootStepBy above P a b → IsRootStepBy above P b a
 by_turned above P a b (inl way) = inl (backward above a b way)
 by_turned above P a b (inr (inl p)) = inr (inr p)
 by_turned above P a b (inr (inr p)) = inr (inl p)
 
-by_back : (above : List ℕ) (P : ℕ → ℕ → Type 0) (a b : ℕ) → AreLinked Anywhere (IsStepBy above P) a b → AreLinked Anywhere (IsStepBy above P) b a
-by_back above P a b way = linked_back Anywhere (IsStepBy above P) (by_turned above P) a b tt way
+by_back : (above : List ℕ) (P : ℕ → ℕ → Type 0) (a b : ℕ) → AreLinked Anywhere (IsRootStepBy above P) a b → AreLinked Anywhere (IsRootStepBy above P) b a
+by_back above P a b way = linked_back Anywhere (IsRootStepBy above P) (by_turned above P) a b tt way
 
-pub by_one : (above : List ℕ) (P : ℕ → ℕ → Type 0) (a b : ℕ) → IsStepBy above P a b → AreLinked Anywhere (IsStepBy above P) a b
-by_one above P a b step = linked_next Anywhere (IsStepBy above P) a b tt step
+pub by_one : (above : List ℕ) (P : ℕ → ℕ → Type 0) (a b : ℕ) → IsRootStepBy above P a b → AreLinked Anywhere (IsRootStepBy above P) a b
+by_one above P a b step = linked_next Anywhere (IsRootStepBy above P) a b tt step
 
-by_on : (above : List ℕ) (P : ℕ → ℕ → Type 0) (a b c : ℕ) → AreLinked Anywhere (IsStepBy above P) a b → AreLinked Anywhere (IsStepBy above P) b c → AreLinked Anywhere (IsStepBy above P) a c
-by_on above P a b c one two = linked_on Anywhere (IsStepBy above P) a b c one two
+by_on : (above : List ℕ) (P : ℕ → ℕ → Type 0) (a b c : ℕ) → AreLinked Anywhere (IsRootStepBy above P) a b → AreLinked Anywhere (IsRootStepBy above P) b c → AreLinked Anywhere (IsRootStepBy above P) a c
+by_on above P a b c one two = linked_on Anywhere (IsRootStepBy above P) a b c one two
 
 pub joins_none : (P : ℕ → ℕ → Type 0) (above : List ℕ) → IsFalling above → ((a b : ℕ) → P a b → ⊥) → JoinsSets P above above
 joins_none P above falls none = record {
@@ -45,7 +45,7 @@ joins_as P Q old new to from joins = record {
     | inl p ↦ joins.each a b p
     | inr p ↦ backward new b a (joins.each b a p)
   ];
-  only = λ a b way. linked_by Anywhere (IsStepBy old P) (IsStepBy old Q) (λ x y step. elim step [
+  only = λ a b way. linked_by Anywhere (IsRootStepBy old P) (IsRootStepBy old Q) (λ x y step. elim step [
     | inl stays ↦ by_one old Q x y (inl stays)
     | inr pair ↦ elim pair [
       | inl p ↦ by_one old Q x y (inr (to x y p))
@@ -65,8 +65,8 @@ joins_both P Q old now new one two =
         | inl p ↦ two.kept.keeps a b (one.each a b p)
         | inr q ↦ two.each a b q
       ];
-      only = λ a b way. linked_by Anywhere (IsStepBy now Q) (IsStepBy old R) (λ x y step. elim step [
-        | inl before ↦ linked_by Anywhere (IsStepBy old P) (IsStepBy old R) (λ v w s. elim s [
+      only = λ a b way. linked_by Anywhere (IsRootStepBy now Q) (IsRootStepBy old R) (λ x y step. elim step [
+        | inl before ↦ linked_by Anywhere (IsRootStepBy old P) (IsRootStepBy old R) (λ v w s. elim s [
           | inl stays ↦ by_one old R v w (inl stays)
           | inr pair ↦ elim pair [
             | inl p ↦ by_one old R v w (inr (inl (inl p)))
@@ -81,13 +81,13 @@ joins_both P Q old now new one two =
     }
 
 -- sets that are alike
-alike_joins : (P : ℕ → ℕ → Type 0) (old now new : List ℕ) → AreAlike old now → JoinsSets P now new → JoinsSets P old new
+alike_joins : (P : ℕ → ℕ → Type 0) (old now new : List ℕ) → AreSameSets old now → JoinsSets P now new → JoinsSets P old new
 alike_joins P old now new alike joins = record {
   sized = joins.sized ∙ alike.sized;
   falls = joins.falls;
   kept = keeps_on old now new alike.kept joins.kept;
   each = joins.each;
-  only = λ a b way. linked_by Anywhere (IsStepBy now P) (IsStepBy old P) (λ x y step. elim step [
+  only = λ a b way. linked_by Anywhere (IsRootStepBy now P) (IsRootStepBy old P) (λ x y step. elim step [
     | inl stays ↦ by_one old P x y (inl (alike.back.keeps x y stays))
     | inr pair ↦ by_one old P x y (inr pair)
   ]) a b (joins.only a b way);
@@ -113,13 +113,13 @@ module _ (above : List ℕ) (high low : ℕ) (falls : IsFalling above) (top : Is
     | inr ne ↦ upward (set above high low) place o (set_elsewhere above high place low o ne there)
   ])
 
-  step_by : (x y : ℕ) → slice_get (set above high low) x ≡ Some y → IsStepBy above (IsPair high low) x y
+  step_by : (x y : ℕ) → slice_get (set above high low) x ≡ Some y → IsRootStepBy above (AreThesePlaces high low) x y
   step_by x y there = elim (cases_eq x high) [
     | inl e ↦ inr (inl (record { first = e; second = was_here above high low y (subst (λ (k : ℕ). slice_get (set above high low) k ≡ Some y) e there) }))
     | inr ne ↦ inl (upward above x y (was_elsewhere above high x low y ne there))
   ]
 
-  pub root_joins : JoinsSets (IsPair high low) above (set above high low)
+  pub root_joins : JoinsSets (AreThesePlaces high low) above (set above high low)
   root_joins = record {
     sized = length-set above high low;
     falls = linked_falls;
@@ -127,17 +127,17 @@ module _ (above : List ℕ) (high low : ℕ) (falls : IsFalling above) (top : Is
     each = λ a b pair.
         let up = upward (set above high low) high low (set_here above high low (slice_get_within above high high top)) in
         subst (λ (k : ℕ). AreTogether (set above high low) k b) (sym pair.first) (subst (λ (k : ℕ). AreTogether (set above high low) high k) (sym pair.second) up);
-    only = λ a b way. linked_by Anywhere (IsStep (set above high low)) (IsStepBy above (IsPair high low)) (λ x y step. elim step [
-      | inl up ↦ by_one above (IsPair high low) x y (step_by x y up)
-      | inr down ↦ by_back above (IsPair high low) y x (by_one above (IsPair high low) y x (step_by y x down))
+    only = λ a b way. linked_by Anywhere (IsRootStep (set above high low)) (IsRootStepBy above (AreThesePlaces high low)) (λ x y step. elim step [
+      | inl up ↦ by_one above (AreThesePlaces high low) x y (step_by x y up)
+      | inr down ↦ by_back above (AreThesePlaces high low) y x (by_one above (AreThesePlaces high low) y x (step_by y x down))
     ]) a b way;
   }
 
 -- to join one pair is to join another, where each of the one is together with one of the other
-pair_joins : (a b c d : ℕ) (old new : List ℕ) → AreTogether old a c → AreTogether old b d → JoinsSets (IsPair c d) old new → JoinsSets (IsPair a b) old new
+pair_joins : (a b c d : ℕ) (old new : List ℕ) → AreTogether old a c → AreTogether old b d → JoinsSets (AreThesePlaces c d) old new → JoinsSets (AreThesePlaces a b) old new
 pair_joins a b c d old new first second joins =
-    let P : ℕ → ℕ → Type 0 = IsPair a b in
-    let across : AreLinked Anywhere (IsStepBy old P) c d =
+    let P : ℕ → ℕ → Type 0 = AreThesePlaces a b in
+    let across : AreLinked Anywhere (IsRootStepBy old P) c d =
     by_on old P c a d (by_one old P c a (inl (backward old a c first))) (by_on old P a b d (by_one old P a b (inr (inl (record { first = refl; second = refl })))) (by_one old P b d (inl second))) in
     record {
       sized = joins.sized;
@@ -146,34 +146,34 @@ pair_joins a b c d old new first second joins =
       each = λ i j pair.
           let way = further new a c b (joins.kept.keeps a c first) (further new c d b (joins.each c d (record { first = refl; second = refl })) (joins.kept.keeps d b (backward old b d second))) in
           subst (λ (k : ℕ). AreTogether new k j) (sym pair.first) (subst (λ (k : ℕ). AreTogether new a k) (sym pair.second) way);
-      only = λ i j way. linked_by Anywhere (IsStepBy old (IsPair c d)) (IsStepBy old P) (λ x y step. elim step [
+      only = λ i j way. linked_by Anywhere (IsRootStepBy old (AreThesePlaces c d)) (IsRootStepBy old P) (λ x y step. elim step [
         | inl stays ↦ by_one old P x y (inl stays)
         | inr pair ↦ elim pair [
-          | inl p ↦ subst (λ (k : ℕ). AreLinked Anywhere (IsStepBy old P) k y) (sym p.first) (subst (λ (k : ℕ). AreLinked Anywhere (IsStepBy old P) c k) (sym p.second) across)
-          | inr p ↦ by_back old P y x (subst (λ (k : ℕ). AreLinked Anywhere (IsStepBy old P) k x) (sym p.first) (subst (λ (k : ℕ). AreLinked Anywhere (IsStepBy old P) c k) (sym p.second) across))
+          | inl p ↦ subst (λ (k : ℕ). AreLinked Anywhere (IsRootStepBy old P) k y) (sym p.first) (subst (λ (k : ℕ). AreLinked Anywhere (IsRootStepBy old P) c k) (sym p.second) across)
+          | inr p ↦ by_back old P y x (subst (λ (k : ℕ). AreLinked Anywhere (IsRootStepBy old P) k x) (sym p.first) (subst (λ (k : ℕ). AreLinked Anywhere (IsRootStepBy old P) c k) (sym p.second) across))
         ]
       ]) i j (joins.only i j way);
     }
 
-turn_pair : (a b : ℕ) (old new : List ℕ) → JoinsSets (IsPair b a) old new → JoinsSets (IsPair a b) old new
+turn_pair : (a b : ℕ) (old new : List ℕ) → JoinsSets (AreThesePlaces b a) old new → JoinsSets (AreThesePlaces a b) old new
 turn_pair a b old new joins =
-    joins_as (IsPair b a) (IsPair a b) old new (λ i j p. inr (record { first = p.second; second = p.first })) (λ i j p. inr (record { first = p.second; second = p.first })) joins
+    joins_as (AreThesePlaces b a) (AreThesePlaces a b) old new (λ i j p. inr (record { first = p.second; second = p.first })) (λ i j p. inr (record { first = p.second; second = p.first })) joins
 
 -- the roots of two places, one found after the other
 module _ (a b first second : ℕ) (old now last : List ℕ) (one : FindsRoot old a first now) (two : FindsRoot now b second last) where
-  alike : AreAlike old last
+  alike : AreSameSets old last
   alike = alike_on old now last one.alike two.alike
 
-  pub first_below : second ≤ first → JoinsSets (IsPair a b) old (set last first second)
+  pub first_below : second ≤ first → JoinsSets (AreThesePlaces a b) old (set last first second)
   first_below le =
       pair_joins a b first second old (set last first second) one.leads (one.alike.back.keeps b second two.leads)
-      (alike_joins (IsPair first second) old last (set last first second) alike (root_joins last first second two.alike.falls (two.alike.roots first one.top) le))
+      (alike_joins (AreThesePlaces first second) old last (set last first second) alike (root_joins last first second two.alike.falls (two.alike.roots first one.top) le))
 
-  pub second_below : first ≤ second → JoinsSets (IsPair a b) old (set last second first)
+  pub second_below : first ≤ second → JoinsSets (AreThesePlaces a b) old (set last second first)
   second_below le =
       turn_pair a b old (set last second first)
       (pair_joins b a second first old (set last second first) (one.alike.back.keeps b second two.leads) one.leads
-      (alike_joins (IsPair second first) old last (set last second first) alike (root_joins last second first two.alike.falls two.top le)))
+      (alike_joins (AreThesePlaces second first) old last (set last second first) alike (root_joins last second first two.alike.falls two.top le)))
 
 -- what some items of a list say that is to be joined was joined
 pub record IsJoining {Y : Type 0} (has : Y → ℕ → ℕ → Type 0) (all rest : List Y) (old now : List ℕ) : Type 0 where

@@ -10,7 +10,7 @@ use Rattle.tech_rules.specs.declared.tech.Connect.{Connect}
 use Rattle.tech_rules.specs.Net.{AreOnOneNet}
 use Rattle.net_extractor.specs.declared.numbering.Numbering.{Numbering}
 use Rattle.net_extractor.specs.NetRoots.{AreNetRoots}
-use Rattle.net_extractor.specs.Numbering.{IsGivenTo, HasNumber, AreRootsWithin, IsNumbering, GetsNumber, IsNumberAt}
+use Rattle.net_extractor.specs.Numbering.{IsGivenTo, NetHasNumber, AreRootsWithin, IsNumbering, GetsNumber, IsNumberAt}
 use Rattle.net_extractor.proofs.SetLaws.{set_here, set_elsewhere, was_elsewhere, was_here}
 
 -- a root has one number
@@ -18,7 +18,7 @@ given_one : (numbering : Numbering) (root m n : ℕ) → IsGivenTo numbering roo
 given_one numbering root m n a b = let e : ◌≡◌ {A = Option ℕ} (Some m) (Some n) = one_at numbering.numbers.items root (Some m) (Some n) a b in cc
 
 -- and so has a place
-pub on_one : (numbering : Numbering) (k m n : ℕ) → HasNumber numbering k m → HasNumber numbering k n → m ≡ n
+pub on_one : (numbering : Numbering) (k m n : ℕ) → NetHasNumber numbering k m → NetHasNumber numbering k n → m ≡ n
 on_one numbering k m n a b =
     let same : a.root ≡ b.root = one_at numbering.roots.items k a.root b.root a.up b.up in
     given_one numbering b.root m n (subst (λ (r : ℕ). IsGivenTo numbering r m) same a.is) b.is
@@ -27,8 +27,8 @@ pub roots_within : (connections : List Connect) (shapes : List Shape) (numbering
 roots_within connections shapes numbering n = record { within = λ place root up. let lt = n.roots.inside place root up in let sized = n.sized in omega (arith, lt, sized) }
 
 -- the same number is that of another shape exactly where both are on one net
-pub whole : (connections : List Connect) (shapes : List Shape) (numbering : Numbering) (from to number : ℕ) (s t : Shape) → IsNumbering connections shapes numbering → slice_get shapes from ≡ Some s → slice_get shapes to ≡ Some t → HasNumber numbering from number
-    → HasNumber numbering to number ↔ AreOnOneNet connections shapes s t
+pub whole : (connections : List Connect) (shapes : List Shape) (numbering : Numbering) (from to number : ℕ) (s t : Shape) → IsNumbering connections shapes numbering → slice_get shapes from ≡ Some s → slice_get shapes to ≡ Some t → NetHasNumber numbering from number
+    → NetHasNumber numbering to number ↔ AreOnOneNet connections shapes s t
 whole connections shapes numbering from to number s t n at_s at_t on =
     let roots = numbering.roots.items in (
       λ other. (n.roots.same from to on.root other.root s t at_s at_t on.up other.up).0 (n.one on.root other.root number on.is other.is),
@@ -43,8 +43,8 @@ whole connections shapes numbering from to number s t n at_s at_t on =
 -- the shape at the place now has the number, which is one that was given before or the next one
 pub record Numbers (connections : List Connect) (shapes : List Shape) (old : Numbering) (place number : ℕ) (new : Numbering) : Type 0 where
   pub numbered : IsNumbering connections shapes new
-  pub kept : (k m : ℕ) → HasNumber old k m → HasNumber new k m
-  pub here : HasNumber new place number
+  pub kept : (k m : ℕ) → NetHasNumber old k m → NetHasNumber new k m
+  pub here : NetHasNumber new place number
   pub next : ((number < old.next) × (new.next ≡ old.next)) ⊎ ((number ≡ old.next) × (new.next ≡ old.next + 1))
 
 module _ (connections : List Connect) (shapes : List Shape) (old : Numbering) (place number : ℕ) (new : Numbering) (n : IsNumbering connections shapes old) (g : GetsNumber old place number new) where

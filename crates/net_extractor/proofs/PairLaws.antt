@@ -17,12 +17,12 @@ use Rattle.tech_rules.specs.Touch.{IsConductor, IsCutTo, ShareArea}
 use Rattle.shape_bins.specs.Hits.{IsNearShape}
 use Rattle.shape_bins.specs.Meets.{Meet}
 use Rattle.shape_bins.specs.Places.{IsListedBetween}
-use Rattle.net_extractor.specs.declared.run.Run.{Run}
+use Rattle.net_extractor.specs.declared.run.NearRun.{NearRun}
 use Rattle.net_extractor.specs.declared.run.RunShape.{RunShape}
-use Rattle.net_extractor.specs.Contacts.{AreWithin, IsJoinedAt, IsJoinedTo, IsOverAt, IsOverTo}
+use Rattle.net_extractor.specs.Contacts.{ArePlacesBelow, IsJoinedAt, IsJoinedTo, SharesAreaAt, SharesAreaTo}
 use Rattle.net_extractor.specs.NetRoots.{IsTouchPair}
 use Rattle.net_extractor.specs.RunPairs.{IsCutPairOf, IsLayerPairOf, IsListedPair, IsOverPairOf}
-use Rattle.net_extractor.specs.Runs.{AreOfRun, HasPlace, IsRun}
+use Rattle.net_extractor.specs.Runs.{AreOfRun, HasPlace, IsNearRun}
 
 -- the list has exactly the numbers that have P
 pub record AreAll (P : ℕ → Type 0) (list : List ℕ) : Type 0 where
@@ -59,10 +59,10 @@ shared_near hull a b held s = record {
 pub near_within : (shapes : List Shape) (layer : ℕ) (area : Rect) (places : List ℕ) → AreAll (IsNearShape shapes layer area) places → (place : ℕ) → Contains places place → place < length shapes
 near_within shapes layer area places near place h = let hit = near.only place h in slice_get_within shapes place hit.shape hit.there
 
-pub run_within : (shapes : List Shape) (run : Run) (own : List RunShape) (count : ℕ) → count ≡ length shapes → AreOfRun shapes run own → AreWithin count own
+pub run_within : (shapes : List Shape) (run : NearRun) (own : List RunShape) (count : ℕ) → count ≡ length shapes → AreOfRun shapes run own → ArePlacesBelow count own
 run_within shapes run own count sized of shape h = let lt = slice_get_within shapes shape.place _ (of shape h).there in omega (arith, lt, sized)
 
-module _ (connections : List Connect) (shapes : List Shape) (run : Run) (own : List RunShape) (of : AreOfRun shapes run own) where
+module _ (connections : List Connect) (shapes : List Shape) (run : NearRun) (own : List RunShape) (of : AreOfRun shapes run own) where
   -- a shape of the run as a shape of the list
   abbrev whole : RunShape → Shape
   whole o = record { layer = run.layer; rect = o.rect }
@@ -115,10 +115,10 @@ module _ (connections : List Connect) (shapes : List Shape) (run : Run) (own : L
         some = some_has (λ (s : RunShape). IsJoinedTo b t.other.rect s a b) own o p.listed (record { lesser = record { before = omega (arith, before, is); joined = joined }; pair = record { first = sym is; second = refl } });
       })
 
-  pub over_pair : (layer : ℕ) (places : List ℕ) (place a b : ℕ) → AreAll (IsNearShape shapes layer run.hull) places → Contains places place → IsOverAt shapes own place a b → IsOverPairOf shapes own layer a b
+  pub over_pair : (layer : ℕ) (places : List ℕ) (place a b : ℕ) → AreAll (IsNearShape shapes layer run.hull) places → Contains places place → SharesAreaAt shapes own place a b → IsOverPairOf shapes own layer a b
   over_pair layer places place a b near h j =
       let hit = near.only place h in
-      let some = who_has (λ (o : RunShape). IsOverTo place j.shape.rect o a b) own j.some in
+      let some = who_has (λ (o : RunShape). SharesAreaTo place j.shape.rect o a b) own j.some in
       let o = some.0 in
       let t = some.2 in
       let same : hit.shape ≡ j.shape = one_at shapes place hit.shape j.shape hit.there j.there in (
@@ -132,7 +132,7 @@ module _ (connections : List Connect) (shapes : List Shape) (run : Run) (own : L
         },
       )
 
-  pub pair_over : (layer : ℕ) (places : List ℕ) (a b : ℕ) → AreAll (IsNearShape shapes layer run.hull) places → IsOverPairOf shapes own layer a b → SomeHas (λ (place : ℕ). IsOverAt shapes own place a b) places
+  pub pair_over : (layer : ℕ) (places : List ℕ) (a b : ℕ) → AreAll (IsNearShape shapes layer run.hull) places → IsOverPairOf shapes own layer a b → SomeHas (λ (place : ℕ). SharesAreaAt shapes own place a b) places
   pair_over layer places a b near h =
       let p = h.0 in
       let t = h.1 in
@@ -140,11 +140,11 @@ module _ (connections : List Connect) (shapes : List Shape) (run : Run) (own : L
       let same = whole_at a t.one p t.first in
       let area : ShareArea o.rect t.other.rect = subst (λ (s : Shape). ShareArea s.rect t.other.rect) (sym same) t.so.area in
       let hit : IsNearShape shapes layer run.hull b = record { shape = t.other; there = t.second; on = t.so.on; fits = shared_near run.hull o.rect t.other.rect (of o p.listed).held area } in
-      some_has (λ (place : ℕ). IsOverAt shapes own place a b) places b (near.each b hit)
+      some_has (λ (place : ℕ). SharesAreaAt shapes own place a b) places b (near.each b hit)
       (record {
         shape = t.other;
         there = t.second;
-        some = some_has (λ (s : RunShape). IsOverTo b t.other.rect s a b) own o p.listed (record { over = area; pair = record { first = sym p.is; second = refl } });
+        some = some_has (λ (s : RunShape). SharesAreaTo b t.other.rect s a b) own o p.listed (record { over = area; pair = record { first = sym p.is; second = refl } });
       })
 
   -- over the layers that the run's layer connects as a cut
@@ -193,10 +193,10 @@ no_pair connections shapes order begin a b past h =
     let lt = touch_within connections shapes a b h.1 in
     absurd (omega (arith, past, is, lt))
 
-pub listed_pair : (connections : List Connect) (shapes : List Shape) (order : List ℕ) (begin : ℕ) (run : Run) (own : List RunShape) (a b : ℕ) → IsRun shapes order begin run own → HasPlace own a × IsTouchPair connections shapes a b → IsListedPair connections shapes order begin run.end a b
+pub listed_pair : (connections : List Connect) (shapes : List Shape) (order : List ℕ) (begin : ℕ) (run : NearRun) (own : List RunShape) (a b : ℕ) → IsNearRun shapes order begin run own → HasPlace own a × IsTouchPair connections shapes a b → IsListedPair connections shapes order begin run.end a b
 listed_pair connections shapes order begin run own a b r h = (subst (λ (k : ℕ). IsListedBetween order begin run.end k) h.0.is (r.placed h.0.shape h.0.listed), h.1)
 
-pub pair_listed : (connections : List Connect) (shapes : List Shape) (order : List ℕ) (begin : ℕ) (run : Run) (own : List RunShape) (a b : ℕ) → IsRun shapes order begin run own → IsListedPair connections shapes order begin run.end a b → HasPlace own a × IsTouchPair connections shapes a b
+pub pair_listed : (connections : List Connect) (shapes : List Shape) (order : List ℕ) (begin : ℕ) (run : NearRun) (own : List RunShape) (a b : ℕ) → IsNearRun shapes order begin run own → IsListedPair connections shapes order begin run.end a b → HasPlace own a × IsTouchPair connections shapes a b
 pair_listed connections shapes order begin run own a b r h = (r.each a h.0, h.1)
 
 -- a pair of what stands in the order up to one position, or from there up to another

@@ -12,7 +12,7 @@ use Rattle.tech_rules.specs.Net.{AreOnOneNet}
 use Rattle.tech_rules.specs.Touch.{Touch}
 use Rattle.tech_rules.proofs.LinkedLaws.{linked_carries}
 use Rattle.net_extractor.specs.NetRoots.{AreNetRoots, AreShapesAt, IsTouchPair}
-use Rattle.net_extractor.specs.Sets.{IsFalling, IsStep, Anywhere, AreTogether, AreAlike, IsStepBy, JoinsSets, AreAlone, AreFlat}
+use Rattle.net_extractor.specs.Sets.{IsFalling, IsRootStep, Anywhere, AreTogether, AreSameSets, IsRootStepBy, JoinsSets, AreAlone, AreRootsOver}
 use Rattle.net_extractor.proofs.ExtractLaws.{layer_turned, touch_turned, distinct}
 use Rattle.net_extractor.proofs.NetLaws.{net_of_itself, net_further}
 use Rattle.label_binding.proofs.PlaceLaws.{at_contained}
@@ -29,7 +29,7 @@ pub alone_falls : (count : ℕ) (above : List ℕ) → AreAlone count above → 
 alone_falls count above alone = record { falls = λ a b up. let e = alone_over count above a b alone up in omega (arith, e) }
 
 alone_same : (count : ℕ) (above : List ℕ) (a b : ℕ) → AreAlone count above → AreTogether above a b → a ≡ b
-alone_same count above a b alone way = linked_carries Anywhere (IsStep above) (λ (k : ℕ). a ≡ k) (λ x y so_far has step. elim step [
+alone_same count above a b alone way = linked_carries Anywhere (IsRootStep above) (λ (k : ℕ). a ≡ k) (λ x y so_far has step. elim step [
   | inl up ↦ so_far ∙ alone_over count above x y alone up
   | inr down ↦ so_far ∙ sym (alone_over count above y x alone down)
 ]) a b refl way
@@ -58,7 +58,7 @@ module _ (connections : List Connect) (shapes : List Shape) (alone now : List �
   turned_at : (a b : ℕ) → AreShapesAt (Touch connections) shapes b a → AreShapesAt (Touch connections) shapes a b
   turned_at a b t = record { one = t.other; other = t.one; first = t.second; second = t.first; so = touch_turned connections t.one t.other t.so }
 
-  net_step : (s : Shape) (a b : ℕ) → IsOnNet s a → IsStepBy alone (IsTouchPair connections shapes) a b → IsOnNet s b
+  net_step : (s : Shape) (a b : ℕ) → IsOnNet s a → IsRootStepBy alone (IsTouchPair connections shapes) a b → IsOnNet s b
   net_step s a b on (inl stays) = subst (IsOnNet s) (alone_same (length shapes) alone a b each_alone stays) on
   net_step s a b on (inr (inl pair)) = net_on s a b on (touch_at connections shapes a b pair)
   net_step s a b on (inr (inr pair)) = net_on s a b on (turned_at a b (touch_at connections shapes b a pair))
@@ -66,7 +66,7 @@ module _ (connections : List Connect) (shapes : List Shape) (alone now : List �
   -- places that are together have shapes on one net
   pub together_net : (i j : ℕ) (s t : Shape) → slice_get shapes i ≡ Some s → slice_get shapes j ≡ Some t → AreTogether now i j → AreOnOneNet connections shapes s t
   together_net i j s t at_i at_j way =
-      let on = linked_carries Anywhere (IsStepBy alone (IsTouchPair connections shapes)) (IsOnNet s) (λ x y so_far has step. net_step s x y so_far step) i j (record { shape = s; there = at_i; net = net_of_itself connections shapes s }) (joins.only i j way) in
+      let on = linked_carries Anywhere (IsRootStepBy alone (IsTouchPair connections shapes)) (IsOnNet s) (λ x y so_far has step. net_step s x y so_far step) i j (record { shape = s; there = at_i; net = net_of_itself connections shapes s }) (joins.only i j way) in
       subst (λ (u : Shape). AreOnOneNet connections shapes s u) (one_at shapes j on.shape t on.there at_j) on.net
 
   -- the shape stands at a place that is together with this one
@@ -99,8 +99,8 @@ module _ (connections : List Connect) (shapes : List Shape) (alone now : List �
       subst (AreTogether now i) (distinct shapes w.place j t rises w.there at_j) w.way
 
 -- what is together has one root
-one_root : (roots : List ℕ) (i j m : ℕ) → AreFlat roots → slice_get roots i ≡ Some m → AreTogether roots i j → slice_get roots j ≡ Some m
-one_root roots i j m flat at_i way = linked_carries Anywhere (IsStep roots) (λ (k : ℕ). slice_get roots k ≡ Some m) (λ x y so_far has step. elim step [
+one_root : (roots : List ℕ) (i j m : ℕ) → AreRootsOver roots → slice_get roots i ≡ Some m → AreTogether roots i j → slice_get roots j ≡ Some m
+one_root roots i j m flat at_i way = linked_carries Anywhere (IsRootStep roots) (λ (k : ℕ). slice_get roots k ≡ Some m) (λ x y so_far has step. elim step [
   | inl up ↦
       let same : y ≡ m = one_at roots x y m up so_far in
       flat.flat x y up ∙ ap (λ (k : ℕ). Some k) same
@@ -112,7 +112,7 @@ one_root roots i j m flat at_i way = linked_carries Anywhere (IsStep roots) (λ 
 root_together : (roots : List ℕ) (i j m : ℕ) → slice_get roots i ≡ Some m → slice_get roots j ≡ Some m → AreTogether roots i j
 root_together roots i j m at_i at_j = further roots i m j (upward roots i m at_i) (backward roots j m (upward roots j m at_j))
 
-pub net_roots : (connections : List Connect) (shapes : List Shape) (alone now roots : List ℕ) → IsStrictlySortedBy shape_order shapes → AreAlone (length shapes) alone → JoinsSets (IsTouchPair connections shapes) alone now → AreAlike now roots → AreFlat roots
+pub net_roots : (connections : List Connect) (shapes : List Shape) (alone now roots : List ℕ) → IsStrictlySortedBy shape_order shapes → AreAlone (length shapes) alone → JoinsSets (IsTouchPair connections shapes) alone now → AreSameSets now roots → AreRootsOver roots
     → AreNetRoots connections shapes roots
 net_roots connections shapes alone now roots rises each_alone joins alike flat = record {
   sized = alike.sized ∙ (joins.sized ∙ each_alone.sized);

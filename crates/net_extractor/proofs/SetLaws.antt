@@ -7,32 +7,32 @@ use Rattle.std.proofs.lemmas.Option.{slice_get_within, slice_get-get_or, get_or_
 use Rattle.or_geom.proofs.ListLaws.{one_at}
 use Rattle.tech_rules.specs.Linked.{AreLinked}
 use Rattle.tech_rules.proofs.LinkedLaws.{linked_itself, linked_on, linked_next, linked_back, linked_carries}
-use Rattle.net_extractor.specs.Sets.{IsFalling, IsStep, Anywhere, AreTogether, Keeps, IsRoot, AreAlike, AreAlone}
+use Rattle.net_extractor.specs.Sets.{IsFalling, IsRootStep, Anywhere, AreTogether, Keeps, IsRoot, AreSameSets, AreAlone}
 
 -- where each step is a way by other steps, so is each way
 pub linked_by : {X : Type 0} (P : X → Type 0) (T U : X → X → Type 0) → ((x y : X) → T x y → AreLinked P U x y) → (a b : X) → AreLinked P T a b → AreLinked P U a b
 linked_by P T U way a b linked = linked_carries P T (AreLinked P U a) (λ x y so_far has step. linked_on P U a x y so_far (way x y step)) a b (linked_itself P U a) linked
 
 pub itself : (above : List ℕ) (a : ℕ) → AreTogether above a a
-itself above a = linked_itself Anywhere (IsStep above) a
+itself above a = linked_itself Anywhere (IsRootStep above) a
 
 pub further : (above : List ℕ) (a b c : ℕ) → AreTogether above a b → AreTogether above b c → AreTogether above a c
-further above a b c one two = linked_on Anywhere (IsStep above) a b c one two
+further above a b c one two = linked_on Anywhere (IsRootStep above) a b c one two
 
-turned : (above : List ℕ) (a b : ℕ) → IsStep above a b → IsStep above b a
+turned : (above : List ℕ) (a b : ℕ) → IsRootStep above a b → IsRootStep above b a
 turned above a b (inl up) = inr up
 turned above a b (inr down) = inl down
 
 pub backward : (above : List ℕ) (a b : ℕ) → AreTogether above a b → AreTogether above b a
-backward above a b way = linked_back Anywhere (IsStep above) (turned above) a b tt way
+backward above a b way = linked_back Anywhere (IsRootStep above) (turned above) a b tt way
 
 pub upward : (above : List ℕ) (a b : ℕ) → slice_get above a ≡ Some b → AreTogether above a b
-upward above a b up = linked_next Anywhere (IsStep above) a b tt (inl up)
+upward above a b up = linked_next Anywhere (IsRootStep above) a b tt (inl up)
 
 -- what stands over a place is with it still: then all that is together is
 pub keeps_by : (old new : List ℕ) → ((place over : ℕ) → slice_get old place ≡ Some over → AreTogether new place over) → Keeps old new
 keeps_by old new each = record {
-  keeps = λ a b way. linked_by Anywhere (IsStep old) (IsStep new) (λ x y step. elim step [
+  keeps = λ a b way. linked_by Anywhere (IsRootStep old) (IsRootStep new) (λ x y step. elim step [
     | inl up ↦ each x y up
     | inr down ↦ backward new y x (each y x down)
   ]) a b way;
@@ -44,10 +44,10 @@ keeps_itself above = record { keeps = λ a b way. way }
 pub keeps_on : (old now new : List ℕ) → Keeps old now → Keeps now new → Keeps old new
 keeps_on old now new one two = record { keeps = λ a b way. two.keeps a b (one.keeps a b way) }
 
-pub alike_itself : (above : List ℕ) → IsFalling above → AreAlike above above
+pub alike_itself : (above : List ℕ) → IsFalling above → AreSameSets above above
 alike_itself above falls = record { sized = refl; falls = falls; kept = keeps_itself above; back = keeps_itself above; roots = λ place root. root }
 
-pub alike_on : (old now new : List ℕ) → AreAlike old now → AreAlike now new → AreAlike old new
+pub alike_on : (old now new : List ℕ) → AreSameSets old now → AreSameSets now new → AreSameSets old new
 alike_on old now new one two = record {
   sized = two.sized ∙ one.sized;
   falls = two.falls;
@@ -136,7 +136,7 @@ module _ (above : List ℕ) (at next over : ℕ) (falls : IsFalling above) (up :
     | inr ne ↦ set_elsewhere above at place over place ne root
   ]
 
-  pub halved : AreAlike above (set above at over)
+  pub halved : AreSameSets above (set above at over)
   halved = record { sized = length-set above at over; falls = halved_falls; kept = halved_kept; back = halved_back; roots = halved_roots }
 
 -- a list of sets, with what stands over each place up to one its root

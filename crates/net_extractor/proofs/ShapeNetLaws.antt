@@ -7,7 +7,7 @@ use Rattle.tech_rules.specs.declared.tech.Connect.{Connect}
 use Rattle.cell_hierarchy.proofs.CellLaws.{after_push, length_pushed}
 use Rattle.net_extractor.specs.declared.numbering.Numbering.{Numbering}
 use Rattle.net_extractor.specs.FirstAppearance.{AppearFrom}
-use Rattle.net_extractor.specs.Numbering.{HasNumber, IsNumbering}
+use Rattle.net_extractor.specs.Numbering.{NetHasNumber, IsNumbering}
 use Rattle.net_extractor.specs.ShapeNets.{AreShapeNets}
 use Rattle.net_extractor.proofs.NumberLaws.{Numbers, on_one, whole}
 
@@ -16,7 +16,7 @@ pub record AreFirstNets (connections : List Connect) (shapes : List Shape) (i : 
   pub numbered : IsNumbering connections shapes numbering
   pub few : numbering.next ≤ i
   pub sized : length nets ≡ i
-  pub on : (k m : ℕ) → slice_get nets k ≡ Some m → HasNumber numbering k m
+  pub on : (k m : ℕ) → slice_get nets k ≡ Some m → NetHasNumber numbering k m
   pub order : (more : List (Option ℕ)) → AppearFrom numbering.next more → AppearFrom 0 (map (λ (net : ℕ). Some net) nets ++ more)
 
 pub first_nets_begin : (connections : List Connect) (shapes : List Shape) (numbering : Numbering) (nets : List ℕ) → IsNumbering connections shapes numbering → numbering.next ≡ 0 → nets ≡ [] → AreFirstNets connections shapes 0 numbering nets
@@ -55,7 +55,7 @@ first_nets_more connections shapes i number old new nets next h grown a =
       sized = length_pushed nets number (nets ++ number ∷ []) refl ∙ ap (λ (n : ℕ). n + 1) a.sized;
       on = λ k m at_k. elim (after_push nets number k m at_k) [
         | inl earlier ↦ h.kept k m (a.on k m earlier)
-        | inr last ↦ subst (λ (place : ℕ). HasNumber new place m) (sym (last.place ∙ a.sized)) (subst (λ (n : ℕ). HasNumber new i n) (sym last.is) h.here)
+        | inr last ↦ subst (λ (place : ℕ). NetHasNumber new place m) (sym (last.place ∙ a.sized)) (subst (λ (n : ℕ). NetHasNumber new i n) (sym last.is) h.here)
       ];
       order = λ more b. subst (AppearFrom 0) (sym (net_added nets number more)) (a.order (Some number ∷ more) (appear_more connections shapes i number old new more h b));
     })
@@ -65,7 +65,7 @@ first_nets_all connections shapes i numbering nets counted a = record {
   sized = a.sized ∙ counted;
   one = λ j k m n s t at_s at_t is_m is_n.
       let same = whole connections shapes numbering j k m s t a.numbered at_s at_t (a.on j m is_m) in (
-        λ equal. same.0 (subst (HasNumber numbering k) (sym equal) (a.on k n is_n)),
+        λ equal. same.0 (subst (NetHasNumber numbering k) (sym equal) (a.on k n is_n)),
         λ net. on_one numbering k m n (same.1 net) (a.on k n is_n),
       );
   numbered = subst (AppearFrom 0) (append-nil (map (λ (n : ℕ). Some n) nets)) (a.order [] tt);

@@ -33,6 +33,6 @@ abbrev pub IsTouchPair : List Connect → List Shape → ℕ → ℕ → Type 0
 IsTouchPair connections shapes a b = IsLayerPair connections shapes a b ⊎ IsCutPair connections shapes a b
 
 -- the second is of the layer, and both share area
-pub record IsOver (layer : ℕ) (one other : Shape) : Type 0 where
+pub record SharesAreaOn (layer : ℕ) (one other : Shape) : Type 0 where
   pub on : other.layer ≡ layer
   pub area : ShareArea one.rect other.rect

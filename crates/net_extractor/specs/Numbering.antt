@@ -10,7 +10,7 @@ abbrev pub IsGivenTo : Numbering → ℕ → ℕ → Type 0
 IsGivenTo numbering root number = slice_get numbering.numbers.items root ≡ Some (Some number)
 
 -- the root of the shape at the place has a number
-pub record HasNumber (numbering : Numbering) (place number : ℕ) : Type 0 where
+pub record NetHasNumber (numbering : Numbering) (place number : ℕ) : Type 0 where
   pub root : ℕ
   pub up : slice_get numbering.roots.items place ≡ Some root
   pub is : IsGivenTo numbering root number
@@ -28,7 +28,7 @@ pub record IsNumbering (connections : List Connect) (shapes : List Shape) (numbe
 
 -- the root had the number
 pub record HadNumber (old : Numbering) (place number : ℕ) (new : Numbering) : Type 0 where
-  pub had : HasNumber old place number
+  pub had : NetHasNumber old place number
   pub same : new ≡ old
 
 -- it had none, and has the next one now

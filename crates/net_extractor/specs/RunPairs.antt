@@ -4,7 +4,7 @@ use Rattle.or_geom.specs.declared.shape.Shape.{Shape}
 use Rattle.tech_rules.specs.declared.tech.Connect.{Connect}
 use Rattle.shape_bins.specs.Places.{IsListedBetween}
 use Rattle.net_extractor.specs.declared.run.RunShape.{RunShape}
-use Rattle.net_extractor.specs.NetRoots.{AreShapesAt, IsCutPair, IsLayerPair, IsOver, IsTouchPair}
+use Rattle.net_extractor.specs.NetRoots.{AreShapesAt, IsCutPair, IsLayerPair, SharesAreaOn, IsTouchPair}
 use Rattle.net_extractor.specs.Runs.{HasPlace}
 use Rattle.net_extractor.specs.Sets.{JoinsSets}
 
@@ -18,7 +18,7 @@ IsCutPairOf connections shapes own a b = HasPlace own a × IsCutPair connections
 
 -- with one of the layer that shares area with it
 abbrev pub IsOverPairOf : List Shape → List RunShape → ℕ → ℕ → ℕ → Type 0
-IsOverPairOf shapes own layer a b = HasPlace own a × AreShapesAt (IsOver layer) shapes a b
+IsOverPairOf shapes own layer a b = HasPlace own a × AreShapesAt (SharesAreaOn layer) shapes a b
 
 -- a shape of the run was joined with each that it touches on its layer or as a cut
 abbrev pub JoinsRun : List Connect → List Shape → List RunShape → List ℕ → List ℕ → Type 0

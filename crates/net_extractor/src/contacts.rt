@@ -1,7 +1,8 @@
 ghost use Rattle.std.specs.Prelude.{◌≡◌, ◌↔◌, ◌<◌, ℕ, length, Contains, IsTrue};
 ghost use Rattle.or_geom.specs.Gathering.{SomeHas};
 ghost use Rattle.tech_rules.specs.Touch.{ShareArea};
-ghost use Rattle.net_extractor.specs.Contacts.{AreWithin, IsJoinedAt, IsJoinedTo, IsOverAt, IsOverTo, IsLesser};
+ghost use Rattle.net_extractor.specs.Contacts.{ArePlacesBelow, IsJoinedAt, IsJoinedBefore, IsJoinedTo};
+ghost use Rattle.net_extractor.specs.Contacts.{SharesAreaAt, SharesAreaTo};
 ghost use Rattle.net_extractor.specs.Sets.{IsFalling, JoinsSets};
 
 use crate::run::{RunShape, shape_at};
@@ -33,7 +34,7 @@ fn share_area(a: Rect, b: Rect) -> bool
 /// found from the other: one time is enough.
 #[inline(always)]
 fn is_lesser(own: RunShape, place: usize, rect: Rect) -> bool
-    ensures { IsTrue result ↔ IsLesser place rect own }
+    ensures { IsTrue result ↔ IsJoinedBefore place rect own }
 {
     own.place < place && joined(own.rect, rect)
 }
@@ -42,7 +43,7 @@ fn is_lesser(own: RunShape, place: usize, rect: Rect) -> bool
 #[inline(always)]
 fn join_lesser(run: &[RunShape], place: usize, rect: Rect, above: &mut [u32])
     requires place { place < length above.old }
-    requires run { AreWithin (length above.old) run.now }
+    requires run { ArePlacesBelow (length above.old) run.now }
     requires falls { IsFalling above.old }
     ensures { JoinsSets (λ a b. SomeHas (λ own. IsJoinedTo place rect own a b) run.now) above.old above.new }
 {
@@ -57,9 +58,9 @@ fn join_lesser(run: &[RunShape], place: usize, rect: Rect, above: &mut [u32])
 #[inline(always)]
 fn join_over(run: &[RunShape], place: usize, rect: Rect, above: &mut [u32])
     requires place { place < length above.old }
-    requires run { AreWithin (length above.old) run.now }
+    requires run { ArePlacesBelow (length above.old) run.now }
     requires falls { IsFalling above.old }
-    ensures { JoinsSets (λ a b. SomeHas (λ own. IsOverTo place rect own a b) run.now) above.old above.new }
+    ensures { JoinsSets (λ a b. SomeHas (λ own. SharesAreaTo place rect own a b) run.now) above.old above.new }
 {
     for own in run {
         if share_area(own.rect, rect) {
@@ -72,7 +73,7 @@ fn join_over(run: &[RunShape], place: usize, rect: Rect, above: &mut [u32])
 pub fn join_joined(shapes: &[Shape], run: &[RunShape], places: &[usize], above: &mut [u32])
     requires sized { length above.old ≡ length shapes.now }
     requires places { (place : ℕ) → Contains places.now place → place < length shapes.now }
-    requires run { AreWithin (length above.old) run.now }
+    requires run { ArePlacesBelow (length above.old) run.now }
     requires falls { IsFalling above.old }
     ensures { JoinsSets (λ a b. SomeHas (λ place. IsJoinedAt shapes.now run.now place a b) places.now) above.old
         above.new }
@@ -87,9 +88,9 @@ pub fn join_joined(shapes: &[Shape], run: &[RunShape], places: &[usize], above: 
 pub fn join_overlapping(shapes: &[Shape], run: &[RunShape], places: &[usize], above: &mut [u32])
     requires sized { length above.old ≡ length shapes.now }
     requires places { (place : ℕ) → Contains places.now place → place < length shapes.now }
-    requires run { AreWithin (length above.old) run.now }
+    requires run { ArePlacesBelow (length above.old) run.now }
     requires falls { IsFalling above.old }
-    ensures { JoinsSets (λ a b. SomeHas (λ place. IsOverAt shapes.now run.now place a b) places.now) above.old
+    ensures { JoinsSets (λ a b. SomeHas (λ place. SharesAreaAt shapes.now run.now place a b) places.now) above.old
         above.new }
 {
     for place in places {

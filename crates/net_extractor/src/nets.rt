@@ -66,7 +66,8 @@ fn nets_of<'b>(
 /// two nets are equal exactly where the bound shapes are on one net, and the numbers run from 0 by first appearance.
 /// The shapes are in order and distinct, `bins` is their index, and there are at most 2^22 labels.
 ///
-/// The memory grows with the shapes and labels, and not with the pairs of shapes that touch. The labels themselves are not copied.
+/// The memory grows with the shapes and labels, and not with the pairs of shapes that touch. The labels themselves are
+/// not copied.
 pub fn extract<'b, R: Threads + Sync>(
     _rt: &R,
     alloc: Global,

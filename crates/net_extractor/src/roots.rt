@@ -9,7 +9,7 @@ ghost use Rattle.net_extractor.specs.Sets.{IsFalling, JoinsSets};
 
 use crate::contacts::{join_joined, join_overlapping};
 use crate::links::{add_cut_to, is_conductor};
-use crate::run::{Run, RunShape, take_run};
+use crate::run::{NearRun, RunShape, take_run};
 use crate::sets::{each_alone, flatten};
 use or_geom::Memory;
 use shape_bins::Bins;
@@ -29,7 +29,7 @@ struct Scratch {
 fn join_on_layer(
     connections: &[Connect],
     bins: &Bins,
-    run: Run,
+    run: NearRun,
     own: &[RunShape],
     places: &mut Vec<usize>,
     above: &mut [u32],
@@ -52,7 +52,7 @@ fn join_on_layer(
 fn join_over_layer(
     bins: &Bins,
     layer: u16,
-    run: Run,
+    run: NearRun,
     own: &[RunShape],
     places: &mut Vec<usize>,
     above: &mut [u32],
@@ -72,7 +72,7 @@ fn join_over_layer(
 fn join_over_layers(
     bins: &Bins,
     layers: &[u16],
-    run: Run,
+    run: NearRun,
     own: &[RunShape],
     places: &mut Vec<usize>,
     above: &mut [u32],
@@ -93,7 +93,7 @@ fn join_over_layers(
 fn join_run(
     connections: &[Connect],
     bins: &Bins,
-    run: Run,
+    run: NearRun,
     above: &mut [u32],
     scratch: &mut Scratch,
 ) -> Result<(), Memory>
@@ -176,8 +176,8 @@ fn join_touching(
 
 /// For each shape the place of one that stands for its net: two shapes have one exactly where they are on one net.
 ///
-/// The shapes of each net are joined, pair by pair of those that touch, in disjoint sets. Near shapes of a layer are taken
-/// together, so that one query answers for all of them.
+/// The shapes of each net are joined, pair by pair of those that touch, in disjoint sets. Near shapes of a layer are
+/// taken together, so that one query answers for all of them.
 pub fn net_roots(alloc: Global, connections: &[Connect], bins: &Bins) -> Result<Vec<u32>, Memory>
     requires rises { IsStrictlySortedBy shape_order bins.now }
     ensures { IfOk result (λ roots. AreNetRoots connections.now bins.now roots.items) }

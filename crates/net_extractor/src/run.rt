@@ -1,5 +1,5 @@
-ghost use Rattle.std.specs.Prelude.{◌<◌, ◌≡◌, length, slice_get, slice_index, Some, IfOk, IfSome};
-ghost use Rattle.net_extractor.specs.Runs.{IsRun, IsWider};
+ghost use Rattle.std.specs.Prelude.{◌<◌, ◌≡◌, length, slice_get, slice_index, Some, IfOk, IfSome, OnOk};
+ghost use Rattle.net_extractor.specs.Runs.{IsNearRun, IsShapeAdded, IsWider};
 
 use or_geom::{Memory, Rect, Shape, around};
 
@@ -19,7 +19,7 @@ pub struct RunShape {
 /// Shapes of one layer that stand one after another in an order: their layer, a rectangle that contains them, and the
 /// position in the order where they end.
 #[derive(Clone, Copy)]
-pub struct Run {
+pub struct NearRun {
     pub layer: u16,
     pub hull: Rect,
     pub end: usize,
@@ -41,9 +41,9 @@ fn half_way(rect: Rect) -> i64 {
     across.saturating_add(upward)
 }
 
-/// The rectangle around the run and the shape, if the run goes on with it: it is of the run's layer, and the rectangle is
-/// not much longer than the shapes, of which `length` is the sum of the halves of their ways around.
-fn hull_with(run: Run, shape: Shape, length: i64) -> Option<Rect>
+/// The rectangle around the run and the shape, if the run goes on with it: it is of the run's layer, and the rectangle
+/// is not much longer than the shapes, of which `length` is the sum of the halves of their ways around.
+fn hull_with(run: NearRun, shape: Shape, length: i64) -> Option<Rect>
     ensures { IfSome result (IsWider run shape) }
 {
     if shape.layer != run.layer {
@@ -56,6 +56,25 @@ fn hull_with(run: Run, shape: Shape, length: i64) -> Option<Rect>
     Some(hull)
 }
 
+/// The run of one shape, which ends at a position.
+fn run_of(shape: Shape, end: usize) -> NearRun
+    ensures { result ≡ record { layer = shape.layer; hull = shape.rect; end = end } }
+{
+    NearRun {
+        layer: shape.layer,
+        hull: shape.rect,
+        end,
+    }
+}
+
+/// Adds a shape to those of a run.
+#[inline(always)]
+fn add_shape(own: &mut Vec<RunShape>, place: usize, rect: Rect) -> Result<(), Memory>
+    ensures { OnOk result (IsShapeAdded place rect own.old.items own.new.items) }
+{
+    Ok(own.push(RunShape { place, rect })?)
+}
+
 /// The run that begins at a position of the order. Its shapes are set in `own`. Where a run ends is chosen so that one
 /// query for its rectangle takes the place of a query for each shape, and finds little more.
 pub fn take_run(
@@ -63,23 +82,16 @@ pub fn take_run(
     order: &[u32],
     begin: usize,
     own: &mut Vec<RunShape>,
-) -> Result<Run, Memory>
+) -> Result<NearRun, Memory>
     requires begins { begin < length order.now }
     requires inside { slice_index order.now begin < length shapes.now }
-    ensures { IfOk result (λ run. IsRun shapes.now order.now begin run own.new.items) }
+    ensures { IfOk result (λ run. IsNearRun shapes.now order.now begin run own.new.items) }
 {
     let place = order[begin] as usize;
     let first = shape_at(shapes, place);
     own.clear();
-    own.push(RunShape {
-        place,
-        rect: first.rect,
-    })?;
-    let mut run = Run {
-        layer: first.layer,
-        hull: first.rect,
-        end: begin + 1,
-    };
+    add_shape(own, place, first.rect)?;
+    let mut run = run_of(first, begin + 1);
     let mut length = half_way(first.rect);
     while run.end < order.len() && own.len() < MOST {
         let place = order[run.end] as usize;
@@ -91,11 +103,8 @@ pub fn take_run(
         let Some(hull) = hull_with(run, shape, length) else {
             break;
         };
-        own.push(RunShape {
-            place,
-            rect: shape.rect,
-        })?;
-        run = Run {
+        add_shape(own, place, shape.rect)?;
+        run = NearRun {
             layer: run.layer,
             hull,
             end: run.end + 1,

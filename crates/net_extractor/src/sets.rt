@@ -1,5 +1,6 @@
 ghost use Rattle.std.specs.Prelude.{◌<◌, ℕ, length, Contains, IfOk};
-ghost use Rattle.net_extractor.specs.Sets.{AreAlike, AreAlone, AreFlat, FindsRoot, IsFalling, IsPair, JoinsSets};
+ghost use Rattle.net_extractor.specs.Sets.{AreAlone, AreRootsOver, AreSameSets, AreThesePlaces, FindsRoot, IsFalling};
+ghost use Rattle.net_extractor.specs.Sets.{JoinsSets};
 
 use or_geom::Memory;
 use std::alloc::Global;
@@ -18,8 +19,8 @@ pub fn each_alone(alloc: Global, order: &[u32], count: usize) -> Result<Vec<u32>
     Ok(above)
 }
 
-/// The root of the set that the place is in. The way to it is halved: what stands over a place on it is replaced by what
-/// stands over that, and so later ways are shorter.
+/// The root of the set that the place is in. The way to it is halved: what stands over a place on it is replaced by
+/// what stands over that, and so later ways are shorter.
 #[inline(always)]
 fn root(above: &mut [u32], place: usize) -> u32
     requires inside { place < length above.old }
@@ -43,7 +44,7 @@ pub fn join(above: &mut [u32], a: usize, b: usize)
     requires first { a < length above.old }
     requires second { b < length above.old }
     requires falls { IsFalling above.old }
-    ensures { JoinsSets (IsPair a b) above.old above.new }
+    ensures { JoinsSets (AreThesePlaces a b) above.old above.new }
 {
     let first = root(above, a);
     let second = root(above, b);
@@ -57,8 +58,8 @@ pub fn join(above: &mut [u32], a: usize, b: usize)
 /// Sets the root of its set over each place. What stands over a place is no greater, so its root is known before.
 pub fn flatten(above: &mut [u32])
     requires { IsFalling above.old }
-    ensures alike { AreAlike above.old above.new }
-    ensures flat { AreFlat above.new }
+    ensures alike { AreSameSets above.old above.new }
+    ensures flat { AreRootsOver above.new }
 {
     for place in 0..above.len() {
         let next = above[place] as usize;

@@ -3,7 +3,7 @@ use Rattle.std.proofs.lemmas.List.{drop_all}
 use Rattle.or_geom.proofs.ListLaws.{rest_at, contained_at}
 use Rattle.std.proofs.lemmas.Option.{slice_get_read}
 use Rattle.net_extractor.specs.Contacts.{IsJoinedTo}
-use Rattle.net_extractor.specs.Sets.{IsPair}
+use Rattle.net_extractor.specs.Sets.{AreThesePlaces}
 use Rattle.net_extractor.proofs.JoinLaws.{IsJoining, joins_as, joins_none, joining_goes_on, joining_ends}
 use Rattle.net_extractor.proofs.contacts.join_lesser.Goals as goal
 use Rattle.net_extractor.proofs.contacts.join_lesser.Goals.{then-is_lesser, else-is_lesser}
@@ -25,7 +25,7 @@ loop-own-preserved c =
       | then-is_lesser w ↦
           subst (IsJoining has run next c.args.above.now) (sym w.above-is)
           (joining_goes_on has run _ next own _ _ _ here c.loop-own.invariant
-          (joins_as (IsPair own.place c.args.place) (has own) _ _ (λ a b p. inl (record { lesser = w.if-is_lesser.ensures.0 refl; pair = p })) (λ a b h. inl h.pair) w.join.ensures))
+          (joins_as (AreThesePlaces own.place c.args.place) (has own) _ _ (λ a b p. inl (record { lesser = w.if-is_lesser.ensures.0 refl; pair = p })) (λ a b h. inl h.pair) w.join.ensures))
       | else-is_lesser w ↦
           subst (IsJoining has run next c.args.above.now) (sym w.above-is)
           (joining_goes_on has run _ next own _ _ _ here c.loop-own.invariant

@@ -2,8 +2,8 @@ use Rattle.std.proofs.Common.{◌+◌, inl, drop, refl, sym, subst, arith}
 use Rattle.std.proofs.lemmas.List.{drop_all}
 use Rattle.or_geom.proofs.ListLaws.{rest_at, contained_at}
 use Rattle.std.proofs.lemmas.Option.{slice_get_read}
-use Rattle.net_extractor.specs.Contacts.{IsOverTo}
-use Rattle.net_extractor.specs.Sets.{IsPair}
+use Rattle.net_extractor.specs.Contacts.{SharesAreaTo}
+use Rattle.net_extractor.specs.Sets.{AreThesePlaces}
 use Rattle.net_extractor.proofs.JoinLaws.{IsJoining, joins_as, joins_none, joining_goes_on, joining_ends}
 use Rattle.net_extractor.proofs.contacts.join_over.Goals as goal
 use Rattle.net_extractor.proofs.contacts.join_over.Goals.{then-share_area, else-share_area}
@@ -19,13 +19,13 @@ loop-own-preserved c =
     let own = c.own-item.result in
     let run = c.args.run.now in
     let next = drop (c.loop-own.own-index + 1) run in
-    let has = IsOverTo c.args.place c.args.rect in
+    let has = SharesAreaTo c.args.place c.args.rect in
     let here = rest_at run c.loop-own.own-index own c.loop-own-test.true c.own-item.is in
     elim c.if-share_area.branch [
       | then-share_area w ↦
           subst (IsJoining has run next c.args.above.now) (sym w.above-is)
           (joining_goes_on has run _ next own _ _ _ here c.loop-own.invariant
-          (joins_as (IsPair own.place c.args.place) (has own) _ _ (λ a b p. inl (record { over = w.if-share_area.ensures.0 refl; pair = p })) (λ a b h. inl h.pair) w.join.ensures))
+          (joins_as (AreThesePlaces own.place c.args.place) (has own) _ _ (λ a b p. inl (record { over = w.if-share_area.ensures.0 refl; pair = p })) (λ a b h. inl h.pair) w.join.ensures))
       | else-share_area w ↦
           subst (IsJoining has run next c.args.above.now) (sym w.above-is)
           (joining_goes_on has run _ next own _ _ _ here c.loop-own.invariant
@@ -33,4 +33,4 @@ loop-own-preserved c =
     ]
 
 pub returns : goal.returns
-returns c = joining_ends (IsOverTo c.args.place c.args.rect) c.args.run.now _ _ _ (drop_all c.loop-own.own-index c.args.run.now c.loop-own-test.false) c.loop-own.invariant
+returns c = joining_ends (SharesAreaTo c.args.place c.args.rect) c.args.run.now _ _ _ (drop_all c.loop-own.own-index c.args.run.now c.loop-own-test.false) c.loop-own.invariant

@@ -5,7 +5,7 @@ use Rattle.or_geom.specs.declared.shape.Shape.{Shape}
 use Rattle.or_geom.specs.Gathering.{SomeHas}
 use Rattle.or_geom.proofs.ListLaws.{contained_at, one_at}
 use Rattle.net_extractor.specs.declared.run.RunShape.{RunShape}
-use Rattle.net_extractor.specs.Contacts.{IsOverTo, IsOverAt}
+use Rattle.net_extractor.specs.Contacts.{SharesAreaTo, SharesAreaAt}
 use Rattle.label_binding.proofs.PlaceLaws.{rest_item}
 use Rattle.net_extractor.proofs.JoinLaws.{joins_as, joining_goes_on, joining_ends}
 use Rattle.net_extractor.proofs.contacts.join_overlapping.Goals as goal
@@ -31,11 +31,11 @@ loop-place-preserved c =
     let k = c.loop-place.place-index in
     let place = get_or places k 0 in
     let shape = c.shape_at-shape.result in
-    joining_goes_on (IsOverAt shapes run) places _ (drop (k + 1) places) place _ _ _ (rest_item places k 0 c.loop-place-test.true) c.loop-place.invariant
-    (joins_as (λ a b. SomeHas (λ (own : RunShape). IsOverTo place shape.rect own a b) run) (IsOverAt shapes run place) _ _
+    joining_goes_on (SharesAreaAt shapes run) places _ (drop (k + 1) places) place _ _ _ (rest_item places k 0 c.loop-place-test.true) c.loop-place.invariant
+    (joins_as (λ a b. SomeHas (λ (own : RunShape). SharesAreaTo place shape.rect own a b) run) (SharesAreaAt shapes run place) _ _
     (λ a b some. inl (record { shape = shape; there = c.shape_at-shape.ensures; some = some }))
-    (λ a b h. inl (subst (λ (s : Shape). SomeHas (λ (own : RunShape). IsOverTo place s.rect own a b) run) (one_at shapes place h.shape shape h.there c.shape_at-shape.ensures) h.some))
+    (λ a b h. inl (subst (λ (s : Shape). SomeHas (λ (own : RunShape). SharesAreaTo place s.rect own a b) run) (one_at shapes place h.shape shape h.there c.shape_at-shape.ensures) h.some))
     c.join_over.ensures)
 
 pub returns : goal.returns
-returns c = joining_ends (IsOverAt c.args.shapes.now c.args.run.now) c.args.places.now _ _ _ (drop_all c.loop-place.place-index c.args.places.now c.loop-place-test.false) c.loop-place.invariant
+returns c = joining_ends (SharesAreaAt c.args.shapes.now c.args.run.now) c.args.places.now _ _ _ (drop_all c.loop-place.place-index c.args.places.now c.loop-place-test.false) c.loop-place.invariant

@@ -1,7 +1,7 @@
 use Rattle.std.proofs.Common.{◌≡◌, ◌≤◌, ◌+◌, inl, length, get_or, ap, arith}
 use Rattle.net_extractor.specs.NetRoots.{IsTouchPair}
 use Rattle.net_extractor.specs.RunPairs.{IsListedPair}
-use Rattle.net_extractor.specs.Runs.{HasPlace, IsRun}
+use Rattle.net_extractor.specs.Runs.{HasPlace, IsNearRun}
 use Rattle.net_extractor.proofs.JoinLaws.{joins_as, joins_none}
 use Rattle.net_extractor.proofs.PairLaws.{no_pair, listed_pair, pair_listed}
 use Rattle.net_extractor.proofs.roots.join_from.Goals as goal
@@ -22,7 +22,7 @@ returns-clause-joins c =
     let order = c.args.order.now in
     let run = c.in_ok-run.run' in
     let own = c.take_run.new.own.items in
-    let is : IsRun shapes order c.args.begin run own = rw c.shapes-shapes.ensures at c.in_ok-run.ensures in
+    let is : IsNearRun shapes order c.args.begin run own = rw c.shapes-shapes.ensures at c.in_ok-run.ensures in
     joins_as (λ a b. HasPlace own a × IsTouchPair connections shapes a b) (IsListedPair connections shapes order c.args.begin run.end) _ _
     (λ a b h. inl (listed_pair connections shapes order c.args.begin run own a b is h))
     (λ a b h. inl (pair_listed connections shapes order c.args.begin run own a b is h))

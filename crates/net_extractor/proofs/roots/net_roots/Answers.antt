@@ -3,7 +3,7 @@ use Rattle.std.specs.Prelude.{Contains}
 use Rattle.std.proofs.lemmas.List.{take_at}
 use Rattle.net_extractor.specs.NetRoots.{AreNetRoots, IsTouchPair}
 use Rattle.net_extractor.specs.RunPairs.{IsListedPair}
-use Rattle.net_extractor.specs.Sets.{AreAlike, AreAlone, JoinsSets}
+use Rattle.net_extractor.specs.Sets.{AreSameSets, AreAlone, JoinsSets}
 use Rattle.net_extractor.proofs.JoinLaws.{joins_as}
 use Rattle.net_extractor.proofs.PairLaws.{touch_listed}
 use Rattle.net_extractor.proofs.RootLaws.{net_roots}
@@ -24,6 +24,6 @@ returns c =
     joins_as (IsListedPair connections shapes order 0 (length order)) (IsTouchPair connections shapes) alone now (λ a b h. inl h.1) (λ a b h. inl (touch_listed connections shapes order a b whole h)) listed in
     let first : length alone ≡ c.in_ok-above.above.len = omega arith in
     let second : c.deref_mut-2.result.now ≡ now = c.deref_mut-2.ensures.value ∙ take_at now _ c.in_ok-above.above.len (joins.sized ∙ first) in
-    let alike : AreAlike now roots = subst (λ (l : List ℕ). AreAlike l roots) second c.flatten.ensures.alike in
+    let alike : AreSameSets now roots = subst (λ (l : List ℕ). AreSameSets l roots) second c.flatten.ensures.alike in
     subst (AreNetRoots connections shapes) (sym (take_at roots _ c.in_ok-above.above.len (alike.sized ∙ (joins.sized ∙ first))))
     (net_roots connections shapes alone now roots c.requires.rises each joins alike c.flatten.ensures.flat)

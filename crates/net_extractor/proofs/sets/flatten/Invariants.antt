@@ -1,9 +1,9 @@
-use Rattle.net_extractor.specs.Sets.{AreAlike}
+use Rattle.net_extractor.specs.Sets.{AreSameSets}
 use Rattle.net_extractor.proofs.SetLaws.{AreFlatTo}
 use Rattle.net_extractor.proofs.sets.flatten.Given as goal
 
 abbrev pub invariant-loop-place : goal.invariant-loop-place
 invariant-loop-place l = record {
-  alike : AreAlike l.fn.above l.above;
+  alike : AreSameSets l.fn.above l.above;
   flat : AreFlatTo l.above l.place;
 }

@@ -1,11 +1,11 @@
 use Rattle.std.proofs.Common.{◌≡◌, Some}
 use Rattle.std.specs.Prelude.{slice_get}
-use Rattle.net_extractor.specs.Sets.{AreAlike, AreTogether}
+use Rattle.net_extractor.specs.Sets.{AreSameSets, AreTogether}
 use Rattle.net_extractor.proofs.sets.root.Given as goal
 
 abbrev pub invariant-loop-next : goal.invariant-loop-next
 invariant-loop-next l = record {
-  alike : AreAlike l.fn.above l.above;
+  alike : AreSameSets l.fn.above l.above;
   leads : AreTogether l.fn.above l.fn.place l.at;
   up : slice_get l.above l.at ≡ Some l.next;
 }
