@@ -38,7 +38,7 @@ fn root(above: &mut [u32], place: usize) -> u32
     next
 }
 
-/// JoinsSets the sets that the places are in: the lesser of their roots is the root of both.
+/// Joins the sets that the places are in: the lesser of their roots is the root of both.
 #[inline(always)]
 pub fn join(above: &mut [u32], a: usize, b: usize)
     requires first { a < length above.old }
