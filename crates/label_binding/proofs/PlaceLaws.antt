@@ -1,9 +1,9 @@
 -- What stands at a place of a list.
-use Rattle.std.proofs.Common.{◌≡◌, inl, inr, ℕ, ◌+◌, ◌<◌, List, ◌∷◌, length, get_or, drop, refl, sym, subst, arith, Some}
+use Rattle.std.proofs.Common.{◌≡◌, inl, inr, ℕ, ◌+◌, ◌<◌, List, refl, sym, subst, arith, Some}
 use Rattle.std.specs.Prelude.{slice_get, Contains}
 use Rattle.std.proofs.lemmas.Bool.{cases_lt}
-use Rattle.std.proofs.lemmas.Option.{slice_get_read, slice_get-get_or, get_or_from_slice_get}
-use Rattle.or_geom.proofs.ListLaws.{one_at, rest_at}
+use Rattle.std.proofs.lemmas.Option.{slice_get_read}
+use Rattle.or_geom.proofs.ListLaws.{one_at}
 
 -- what holds of each item before a place, and of the one there, holds of each before the next place
 pub each_more : {X : Type 0} (P : ℕ → X → Type 0) (xs : List X) (i : ℕ) (x : X) → slice_get xs i ≡ Some x → P i x → ((k : ℕ) (y : X) → k < i → slice_get xs k ≡ Some y → P k y)
@@ -18,7 +18,3 @@ each_more {X} P xs i x here holds before k y below there = elim (cases_lt k i) [
 
 pub at_contained : {X : Type 0} (xs : List X) (x : X) (h : Contains xs x) → slice_get xs h.0 ≡ Some x
 at_contained xs x h = slice_get_read xs _ h.0 x refl h.1 (sym h.2)
-
--- the items from one on, whatever is read where there is none
-pub rest_item : {X : Type 0} (xs : List X) (i : ℕ) (d : X) → i < length xs → drop i xs ≡ get_or xs i d ∷ drop (i + 1) xs
-rest_item xs i d lt = rest_at xs i (get_or xs i d) lt (sym (get_or_from_slice_get xs i (get_or xs i d) (get_or xs i d) (slice_get-get_or xs i d lt)))

@@ -1,3 +1,4 @@
+mod RestLaws
 pub mod AreaLaws
 pub mod MappedLaws
 pub mod NetLaws

@@ -6,7 +6,7 @@ use Rattle.or_geom.specs.Gathering.{SomeHas}
 use Rattle.or_geom.proofs.ListLaws.{contained_at, one_at}
 use Rattle.net_extractor.specs.declared.run.RunShape.{RunShape}
 use Rattle.net_extractor.specs.Contacts.{SharesAreaTo, SharesAreaAt}
-use Rattle.label_binding.proofs.PlaceLaws.{rest_item}
+use Rattle.net_extractor.proofs.RestLaws.{rest_item}
 use Rattle.net_extractor.proofs.JoinLaws.{joins_as, joining_goes_on, joining_ends}
 use Rattle.net_extractor.proofs.contacts.join_overlapping.Goals as goal
 
