@@ -13,8 +13,8 @@ ghost use Rattle.cell_hierarchy.specs.FlatLists.{AreFlatShapes};
 ghost use Rattle.cell_hierarchy.specs.FlatSet.{IsMoved};
 ghost use Rattle.leaf_contacts.specs.Contact.{HasLooseContact};
 ghost use Rattle.leaf_contacts.specs.Marks.{AreLayoutEntries, AreMarks, AreNearLeaves, AreStandsIn, HasContactAt};
-ghost use Rattle.leaf_contacts.specs.Marks.{IsContactOf, IsContactWith, IsListedElsewhere};
-ghost use Rattle.leaf_contacts.specs.Marks.{IsNearOnLayers, IsTouchedElsewhere, IsTouching, ShapeEntry, TouchesElsewhere};
+ghost use Rattle.leaf_contacts.specs.Marks.{IsContactOf, IsContactWith, IsListedElsewhere, IsNearOnLayers};
+ghost use Rattle.leaf_contacts.specs.Marks.{IsTouchedElsewhere, IsTouching, ShapeEntry, TouchesElsewhere};
 ghost use Rattle.leaf_contacts.specs.Stands.{AreReachedCells};
 
 use crate::cells::{ReachedCells, is_cell_named, summaries_of};
@@ -68,12 +68,7 @@ fn hull_of(first: Shape, shapes: &[Shape]) -> Rect
 }
 
 /// Adds the places of all shapes on the first layers whose closed box meets the area.
-fn add_near(
-    bins: &Bins,
-    layers: usize,
-    area: Rect,
-    places: &mut Vec<usize>,
-) -> Result<(), Memory>
+fn add_near(bins: &Bins, layers: usize, area: Rect, places: &mut Vec<usize>) -> Result<(), Memory>
     requires { layers ≤ 64 }
     ensures { OnOk result (Adds places.old.items places.new.items (IsNearOnLayers bins.now area layers)) }
 {
@@ -118,7 +113,12 @@ fn touches_one(connects: &[Connect], moved: &[Shape], other: Shape) -> bool
 
 /// Whether one of the shapes touches the flat shape at this place, and that stands elsewhere than in the instance. Few
 /// of those nearby do, so this is asked first.
-fn touches_at(layout: &MarkedLayout, moved: &[Shape], instance: &[ReferenceStep], place: usize) -> bool
+fn touches_at(
+    layout: &MarkedLayout,
+    moved: &[Shape],
+    instance: &[ReferenceStep],
+    place: usize,
+) -> bool
     requires within { place < length layout.now.bins.now }
     requires marks { length layout.now.marks.now ≡ length layout.now.bins.now }
     ensures { (entries : List ShapeEntry) → AreMarks layout.now.bins.now entries layout.now.marks.now
@@ -167,7 +167,12 @@ fn touches_elsewhere(
 {
     let hull = hull_of(first, moved);
     places.clear();
-    add_near(layout.bins, layout.tech.layers.as_slice().len(), hull, places)?;
+    add_near(
+        layout.bins,
+        layout.tech.layers.as_slice().len(),
+        hull,
+        places,
+    )?;
     Ok(touches_one_of(layout, moved, instance, places.as_slice()))
 }
 
