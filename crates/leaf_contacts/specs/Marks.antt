@@ -1,13 +1,13 @@
 -- In which instances the shapes of a flat layout stand.
 use Rattle.std.specs.Prelude.{◌≡◌, ◌≢◌, ◌⊎◌, ℕ, ◌<◌, ◌^◌, List, length, Contains, Option, Some, slice_get, true, false, MatchOption}
 use Rattle.std.specs.Option.{option_copied}
+use Rattle.or_geom.specs.declared.shape.Rect.{Rect}
 use Rattle.or_geom.specs.declared.shape.Shape.{Shape}
-use Rattle.or_geom.specs.Adds.{Adds}
 use Rattle.or_geom.specs.Place.{IsWithin}
 use Rattle.or_geom.specs.Reachable.{AreReachable}
 use Rattle.shape_bins.specs.Hits.{IsNearShape}
 use Rattle.tech_rules.specs.declared.tech.Connect.{Connect}
-use Rattle.tech_rules.specs.Touch.{IsCutTo, Touch}
+use Rattle.tech_rules.specs.Touch.{Touch}
 use Rattle.or_geom.specs.Gathering.{SomeHas}
 use Rattle.leaf_nets.specs.declared.leaves.LooseLeaf.{LooseLeaf}
 use Rattle.leaf_contacts.specs.declared.contact.MarkedLayout.{MarkedLayout}
@@ -94,24 +94,28 @@ pub record AreAllEntries (tree : ReachedCells) (stands : List Stand) (entries : 
   pub each : (e : ShapeEntry) → Contains entries e → IsEntryIn tree stands e
   pub all : (stand : Stand) (summary : CellSummary) (inner : Shape) → Contains stands stand → slice_get tree.summaries.now stand.cell ≡ Some summary → Contains summary.shapes.items inner → HasEntryOf entries stand inner
 
--- the shape touches, or is, the one at this place, which stands elsewhere than in the instance
-pub record IsTouchedElsewhere (connections : List Connect) (shapes : List Shape) (entries : List ShapeEntry) (shape : Shape) (instance : List ReferenceStep) (place : ℕ) : Type 0 where
+-- the shape touches the other, or is it
+abbrev pub IsTouching : List Connect → Shape → Shape → Type 0
+IsTouching connections other shape = Touch connections shape other ⊎ (shape ≡ other)
+
+-- one of the shapes touches, or is, the one at this place, which stands elsewhere than in the instance
+pub record IsTouchedElsewhere (connections : List Connect) (shapes : List Shape) (entries : List ShapeEntry) (moved : List Shape) (instance : List ReferenceStep) (place : ℕ) : Type 0 where
   pub other : Shape
   pub there : slice_get shapes place ≡ Some other
   pub elsewhere : IsListedElsewhere entries other (Some instance)
-  pub touch : Touch connections shape other ⊎ (shape ≡ other)
+  pub touch : SomeHas (IsTouching connections other) moved
 
 -- the shape touches, or is, one that stands also elsewhere than in the instance
-pub record TouchesElsewhere (connections : List Connect) (entries : List ShapeEntry) (shape : Shape) (instance : List ReferenceStep) : Type 0 where
+pub record TouchesElsewhere (connections : List Connect) (entries : List ShapeEntry) (instance : List ReferenceStep) (shape : Shape) : Type 0 where
   pub other : Shape
   pub elsewhere : IsListedElsewhere entries other (Some instance)
-  pub touch : Touch connections shape other ⊎ (shape ≡ other)
+  pub touch : IsTouching connections other shape
 
 -- the loose shape, where its cell stands, does
 pub record IsContactOf (connections : List Connect) (entries : List ShapeEntry) (stand : Stand) (inner : Shape) : Type 0 where
   pub shape : Shape
   pub moved : IsMoved stand.place inner shape
-  pub touches : TouchesElsewhere connections entries shape stand.steps.now
+  pub touches : TouchesElsewhere connections entries stand.steps.now shape
 
 -- it is the leaf cell that stands there, and one of its loose shapes does
 pub record IsContactWith (connections : List Connect) (tree : ReachedCells) (entries : List ShapeEntry) (stand : Stand) (leaf : LooseLeaf) : Type 0 where
@@ -137,17 +141,8 @@ pub record AreLayoutEntries (layout : MarkedLayout) (entries : List ShapeEntry) 
 abbrev pub AreNearLeaves : List LooseLeaf → Type 0
 AreNearLeaves leaves = (leaf : LooseLeaf) → Contains leaves leaf → AreReachable leaf.shapes
 
--- shapes on these layers may touch, or be one: it is one layer, or the one is a cut that connects the other
-abbrev pub MayTouch : List Connect → ℕ → ℕ → Type 0
-MayTouch connections layer other = (layer ≡ other) ⊎ (IsCutTo connections layer other ⊎ IsCutTo connections other layer)
-
--- the shape at this place is on one of the first layers on which a shape may touch this one, and its closed box meets that of this one
-pub record IsNearOnLayers (connections : List Connect) (shapes : List Shape) (shape : Shape) (layers : ℕ) (place : ℕ) : Type 0 where
+-- the shape at this place is on one of the first layers, and its closed box meets the area
+pub record IsNearOnLayers (shapes : List Shape) (area : Rect) (layers : ℕ) (place : ℕ) : Type 0 where
   pub layer : ℕ
   pub below : layer < layers
-  pub touching : MayTouch connections shape.layer layer
-  pub near : IsNearShape shapes layer shape.rect place
-
--- the places of the layer's shapes whose closed box meets that of the shape are added, if shapes of the layer may touch it; else nothing is
-abbrev pub IsLayerAdded : List Connect → List Shape → Shape → ℕ → List ℕ → List ℕ → Type 0
-IsLayerAdded connections shapes shape layer old new = (MayTouch connections shape.layer layer × Adds old new (IsNearShape shapes layer shape.rect)) ⊎ ((MayTouch connections shape.layer layer → ⊥) × (new ≡ old))
+  pub near : IsNearShape shapes layer area place

@@ -2,29 +2,31 @@ ghost use Rattle.std.specs.Prelude.{◌≡◌, ◌↔◌, ◌≤◌, ◌<◌, �
 ghost use Rattle.std.specs.Prelude.{slice_get};
 ghost use Rattle.std.specs.Option.{option_copied};
 ghost use Rattle.or_geom.specs.Adds.{Adds};
-ghost use Rattle.or_geom.specs.Gathering.{SomeHas};
+ghost use Rattle.or_geom.specs.Containing.{HoldsRect};
+ghost use Rattle.or_geom.specs.Gathering.{SomeGives, SomeHas};
 ghost use Rattle.or_geom.specs.Place.{IsNearPoint};
 ghost use Rattle.or_geom.specs.Reachable.{AreReachable};
 ghost use Rattle.gds_library.specs.Writable.{IsWritable};
 ghost use Rattle.cell_chains.specs.Chains.{IsSound};
 ghost use Rattle.cell_chains.specs.Hierarchy.{AreCells};
 ghost use Rattle.cell_hierarchy.specs.FlatLists.{AreFlatShapes};
+ghost use Rattle.cell_hierarchy.specs.FlatSet.{IsMoved};
 ghost use Rattle.leaf_contacts.specs.Contact.{HasLooseContact};
 ghost use Rattle.leaf_contacts.specs.Marks.{AreLayoutEntries, AreMarks, AreNearLeaves, AreStandsIn, HasContactAt};
-ghost use Rattle.leaf_contacts.specs.Marks.{IsContactOf, IsContactWith, IsLayerAdded, IsListedElsewhere};
-ghost use Rattle.leaf_contacts.specs.Marks.{IsNearOnLayers, IsTouchedElsewhere, ShapeEntry, TouchesElsewhere};
+ghost use Rattle.leaf_contacts.specs.Marks.{IsContactOf, IsContactWith, IsListedElsewhere, IsNearOnLayers};
+ghost use Rattle.leaf_contacts.specs.Marks.{IsTouchedElsewhere, IsTouching, ShapeEntry, TouchesElsewhere};
 ghost use Rattle.leaf_contacts.specs.Stands.{AreReachedCells};
 
 use crate::cells::{ReachedCells, is_cell_named, summaries_of};
 use crate::levels::stands_of;
 use crate::marks::{Mark, is_elsewhere, marks_of};
 use crate::stand::{ReferenceStep, Stand, are_same};
-use crate::touching::{may_touch, touch_or_same};
+use crate::touching::touch_or_same;
 use bumpalo::Bump;
 use cell_chains::{Cell, ChainFault, cells_below};
 use gds_library::Library;
 use leaf_nets::LooseLeaf;
-use or_geom::{Memory, Name, Shape};
+use or_geom::{Memory, Name, Place, Rect, Shape, around};
 use shape_bins::Bins;
 use std::alloc::Global;
 use tech_rules::{Connect, Tech};
@@ -38,36 +40,40 @@ pub struct MarkedLayout<'a, 'b> {
     pub marks: &'a [Option<Mark<'b>>],
 }
 
-/// Adds the places of the shapes of the layer whose closed box meets that of the shape, if shapes of the layer may
-/// touch it.
-fn add_near_on(
-    bins: &Bins,
-    connects: &[Connect],
-    layer: u16,
-    shape: Shape,
-    places: &mut Vec<usize>,
-) -> Result<(), Memory>
-    ensures { OnOk result (IsLayerAdded connects.now bins.now shape layer places.old.items places.new.items) }
+/// Adds the shapes as they lie where their cell stands.
+fn add_moved(place: Place, loose: &[Shape], moved: &mut Vec<Shape>) -> Result<(), Memory>
+    requires near { IsNearPoint place.at }
+    requires loose { AreReachable loose.now }
+    ensures { OnOk result (Adds moved.old.items moved.new.items (SomeGives (IsMoved place) loose.now)) }
 {
-    if !may_touch(connects, shape.layer, layer) {
-        return Ok(());
+    for shape in loose {
+        let image = Shape {
+            layer: shape.layer,
+            rect: place.apply(shape.rect),
+        };
+        moved.push(image)?;
     }
-    bins.add_near(layer, shape.rect, places)
+    Ok(())
 }
 
-/// Adds the places of all shapes whose closed box meets that of the shape, on the layers on which a shape may touch it.
-fn add_near(
-    bins: &Bins,
-    connects: &[Connect],
-    layers: usize,
-    shape: Shape,
-    places: &mut Vec<usize>,
-) -> Result<(), Memory>
+/// A rectangle that contains each of the shapes. It grows from that of the first.
+fn hull_of(first: Shape, shapes: &[Shape]) -> Rect
+    ensures { (shape : Shape) → Contains shapes.now shape → HoldsRect result shape.rect }
+{
+    let mut hull = first.rect;
+    for shape in shapes {
+        hull = around(hull, shape.rect);
+    }
+    hull
+}
+
+/// Adds the places of all shapes on the first layers whose closed box meets the area.
+fn add_near(bins: &Bins, layers: usize, area: Rect, places: &mut Vec<usize>) -> Result<(), Memory>
     requires { layers ≤ 64 }
-    ensures { OnOk result (Adds places.old.items places.new.items (IsNearOnLayers connects.now bins.now shape layers)) }
+    ensures { OnOk result (Adds places.old.items places.new.items (IsNearOnLayers bins.now area layers)) }
 {
     for layer in 0..layers {
-        add_near_on(bins, connects, layer as u16, shape, places)?;
+        bins.add_near(layer as u16, area, places)?;
     }
     Ok(())
 }
@@ -93,70 +99,109 @@ fn shape_at(layout: &MarkedLayout, place: usize) -> Shape
     layout.bins.shapes()[place]
 }
 
-/// Whether the shape touches the flat shape at this place, and that stands elsewhere than in the instance.
-fn touches_at(layout: &MarkedLayout, shape: Shape, instance: &[ReferenceStep], place: usize) -> bool
-    requires within { place < length layout.now.bins.now }
-    requires marks { length layout.now.marks.now ≡ length layout.now.bins.now }
-    ensures { (entries : List ShapeEntry) → AreMarks layout.now.bins.now entries layout.now.marks.now
-        → IsTrue result ↔ IsTouchedElsewhere layout.now.tech.now.connects layout.now.bins.now entries shape
-        instance.now place }
+/// Whether one of the shapes touches the other, or is it.
+fn touches_one(connects: &[Connect], moved: &[Shape], other: Shape) -> bool
+    ensures { IsTrue result ↔ SomeHas (IsTouching connects.now other) moved.now }
 {
-    let other = shape_at(layout, place);
-    touch_or_same(layout.tech.connects.as_slice(), shape, other)
-        && stands_elsewhere(layout, place, instance)
-}
-
-/// Whether the shape touches one of the flat shapes at these places that stands elsewhere than in the instance.
-fn touches_one_of(
-    layout: &MarkedLayout,
-    shape: Shape,
-    instance: &[ReferenceStep],
-    places: &[usize],
-) -> bool
-    requires within { (place : ℕ) → Contains places.now place → place < length layout.now.bins.now }
-    requires marks { length layout.now.marks.now ≡ length layout.now.bins.now }
-    ensures { (entries : List ShapeEntry) → AreMarks layout.now.bins.now entries layout.now.marks.now
-        → IsTrue result ↔ SomeHas (IsTouchedElsewhere layout.now.tech.now.connects layout.now.bins.now entries shape
-        instance.now) places.now }
-{
-    for place in places {
-        if touches_at(layout, shape, instance, *place) {
+    for shape in moved {
+        if touch_or_same(connects, *shape, other) {
             return true;
         }
     }
     false
 }
 
-/// Whether the shape touches one that stands elsewhere than in the instance. `places` is a list to use again.
+/// Whether one of the shapes touches the flat shape at this place, and that stands elsewhere than in the instance. Few
+/// of those nearby do, so this is asked first.
+fn touches_at(
+    layout: &MarkedLayout,
+    moved: &[Shape],
+    instance: &[ReferenceStep],
+    place: usize,
+) -> bool
+    requires within { place < length layout.now.bins.now }
+    requires marks { length layout.now.marks.now ≡ length layout.now.bins.now }
+    ensures { (entries : List ShapeEntry) → AreMarks layout.now.bins.now entries layout.now.marks.now
+        → IsTrue result ↔ IsTouchedElsewhere layout.now.tech.now.connects layout.now.bins.now entries moved.now
+        instance.now place }
+{
+    let other = shape_at(layout, place);
+    stands_elsewhere(layout, place, instance)
+        && touches_one(layout.tech.connects.as_slice(), moved, other)
+}
+
+/// Whether one of the shapes touches one of the flat shapes at these places that stands elsewhere than in the instance.
+fn touches_one_of(
+    layout: &MarkedLayout,
+    moved: &[Shape],
+    instance: &[ReferenceStep],
+    places: &[usize],
+) -> bool
+    requires within { (place : ℕ) → Contains places.now place → place < length layout.now.bins.now }
+    requires marks { length layout.now.marks.now ≡ length layout.now.bins.now }
+    ensures { (entries : List ShapeEntry) → AreMarks layout.now.bins.now entries layout.now.marks.now
+        → IsTrue result ↔ SomeHas (IsTouchedElsewhere layout.now.tech.now.connects layout.now.bins.now entries moved.now
+        instance.now) places.now }
+{
+    for place in places {
+        if touches_at(layout, moved, instance, *place) {
+            return true;
+        }
+    }
+    false
+}
+
+/// Whether one of the shapes, of which this is the first, touches one that stands elsewhere than in the instance. The
+/// bins are asked once a layer for all of them. `places` is a list to use again.
 fn touches_elsewhere(
     layout: &MarkedLayout,
-    shape: Shape,
+    first: Shape,
+    moved: &[Shape],
     instance: &[ReferenceStep],
     places: &mut Vec<usize>,
 ) -> Result<bool, Memory>
     requires few { length layout.now.tech.now.layers ≤ 64 }
     requires marks { length layout.now.marks.now ≡ length layout.now.bins.now }
     ensures { IfOk result (λ found. (entries : List ShapeEntry) → AreLayoutEntries layout.now entries
-        → IsTrue found ↔ TouchesElsewhere layout.now.tech.now.connects entries shape instance.now) }
+        → IsTrue found ↔ SomeHas (TouchesElsewhere layout.now.tech.now.connects entries instance.now) moved.now) }
 {
+    let hull = hull_of(first, moved);
     places.clear();
     add_near(
         layout.bins,
-        layout.tech.connects.as_slice(),
         layout.tech.layers.as_slice().len(),
-        shape,
+        hull,
         places,
     )?;
-    Ok(touches_one_of(layout, shape, instance, places.as_slice()))
+    Ok(touches_one_of(layout, moved, instance, places.as_slice()))
+}
+
+/// The same of any shapes, also of none.
+fn some_touch_elsewhere(
+    layout: &MarkedLayout,
+    moved: &[Shape],
+    instance: &[ReferenceStep],
+    places: &mut Vec<usize>,
+) -> Result<bool, Memory>
+    requires few { length layout.now.tech.now.layers ≤ 64 }
+    requires marks { length layout.now.marks.now ≡ length layout.now.bins.now }
+    ensures { IfOk result (λ found. (entries : List ShapeEntry) → AreLayoutEntries layout.now entries
+        → IsTrue found ↔ SomeHas (TouchesElsewhere layout.now.tech.now.connects entries instance.now) moved.now) }
+{
+    match moved.split_first() {
+        Some((first, _)) => touches_elsewhere(layout, *first, moved, instance, places),
+        None => Ok(false),
+    }
 }
 
 /// Whether a loose shape of a leaf cell, moved to where an instance of the cell stands, touches a shape outside of that
-/// instance. `places` is a list to use again.
+/// instance. `places` and `moved` are lists to use again.
 fn has_contact_of(
     layout: &MarkedLayout,
     loose: &[Shape],
     stand: &Stand,
     places: &mut Vec<usize>,
+    moved: &mut Vec<Shape>,
 ) -> Result<bool, Memory>
     requires few { length layout.now.tech.now.layers ≤ 64 }
     requires marks { length layout.now.marks.now ≡ length layout.now.bins.now }
@@ -165,17 +210,9 @@ fn has_contact_of(
     ensures { IfOk result (λ found. (entries : List ShapeEntry) → AreLayoutEntries layout.now entries
         → IsTrue found ↔ SomeHas (IsContactOf layout.now.tech.now.connects entries stand.now) loose.now) }
 {
-    for shape in loose {
-        let moved = Shape {
-            layer: shape.layer,
-            rect: stand.place.apply(shape.rect),
-        };
-        let touches = touches_elsewhere(layout, moved, stand.steps, places)?;
-        if touches {
-            return Ok(true);
-        }
-    }
-    Ok(false)
+    moved.clear();
+    add_moved(stand.place, loose, moved)?;
+    some_touch_elsewhere(layout, moved.as_slice(), stand.steps, places)
 }
 
 /// Whether the stand is that of a leaf cell, and not one inside of it.
@@ -194,6 +231,7 @@ fn has_contact_with(
     leaf: &LooseLeaf,
     stand: &Stand,
     places: &mut Vec<usize>,
+    moved: &mut Vec<Shape>,
 ) -> Result<bool, Memory>
     requires few { length layout.now.tech.now.layers ≤ 64 }
     requires tree { AreReachedCells layout.now.tree.now }
@@ -207,7 +245,7 @@ fn has_contact_with(
     if !is_cell_named(layout.tree, stand.cell, &leaf.cell) {
         return Ok(false);
     }
-    has_contact_of(layout, leaf.shapes.as_slice(), stand, places)
+    has_contact_of(layout, leaf.shapes.as_slice(), stand, places, moved)
 }
 
 /// Whether a loose shape of the leaf cell that stands there touches a shape elsewhere.
@@ -215,6 +253,7 @@ fn has_contact_at(
     layout: &MarkedLayout,
     stand: &Stand,
     places: &mut Vec<usize>,
+    moved: &mut Vec<Shape>,
 ) -> Result<bool, Memory>
     requires few { length layout.now.tech.now.layers ≤ 64 }
     requires tree { AreReachedCells layout.now.tree.now }
@@ -229,7 +268,7 @@ fn has_contact_at(
         return Ok(false);
     }
     for leaf in layout.tree.leaves {
-        let found = has_contact_with(layout, leaf, stand, places)?;
+        let found = has_contact_with(layout, leaf, stand, places, moved)?;
         if found {
             return Ok(true);
         }
@@ -248,8 +287,9 @@ fn has_contact(alloc: Global, layout: &MarkedLayout, stands: &[Stand]) -> Result
         → IsTrue found ↔ SomeHas (HasContactAt layout.now.tech.now.connects layout.now.tree.now entries) stands.now) }
 {
     let mut places = Vec::new(alloc);
+    let mut moved = Vec::new(alloc);
     for stand in stands {
-        let found = has_contact_at(layout, stand, &mut places)?;
+        let found = has_contact_at(layout, stand, &mut places, &mut moved)?;
         if found {
             return Ok(true);
         }

@@ -1,5 +1,4 @@
 ghost use Rattle.std.specs.Prelude.{◌≡◌, ◌↔◌, ◌⊎◌, Contains, IsTrue};
-ghost use Rattle.leaf_contacts.specs.Marks.{MayTouch};
 ghost use Rattle.tech_rules.specs.Touch.{IsConductor, IsCutTo, Joins, ShareArea, Touch, TouchByCut, TouchOnLayer};
 
 use or_geom::{Rect, Shape, joined};
@@ -88,16 +87,6 @@ fn touch(connects: &[Connect], a: Shape, b: Shape) -> bool
         return true;
     }
     touch_by_cut(connects, a, b) || touch_by_cut(connects, b, a)
-}
-
-/// Whether shapes on the two layers may touch, or be one: it is one layer, or the one is a cut that connects the other.
-pub fn may_touch(connects: &[Connect], layer: u16, other: u16) -> bool
-    ensures { IsTrue result ↔ MayTouch connects.now layer other }
-{
-    if layer == other {
-        return true;
-    }
-    is_cut_to(connects, layer, other) || is_cut_to(connects, other, layer)
 }
 
 /// Whether the shapes are one.

@@ -5,14 +5,14 @@ use Rattle.leaf_contacts.proofs.NearbyLaws.{near_none, near_more}
 use Rattle.leaf_contacts.proofs.contact.add_near.Goals as goal
 
 pub loop-layer-init : goal.loop-layer-init
-loop-layer-init c = near_none c.args.connects.now c.args.bins.now c.args.shape c.args.places.now.items
+loop-layer-init c = near_none c.args.bins.now c.args.area c.args.places.now.items
 
 pub loop-layer-preserved : goal.loop-layer-preserved
-loop-layer-preserved c = near_more c.args.connects.now c.args.bins.now c.args.shape c.loop-layer.layer c.args.places.now.items c.loop-layer.places.items _ c.loop-layer.invariant c.in_ok-add_near_on.ensures
+loop-layer-preserved c = near_more c.args.bins.now c.args.area c.loop-layer.layer c.args.places.now.items c.loop-layer.places.items _ c.loop-layer.invariant c.in_ok-add_near.ensures
 
 pub returns : goal.returns
 returns c =
     let over = c.loop-layer-test.false in
     let within = c.loop-layer.auto.layer-end in
     let e : c.loop-layer.layer ≡ c.args.layers = omega (arith, over, within) in
-    subst (λ (n : ℕ). Adds c.args.places.now.items c.loop-layer.places.items (IsNearOnLayers c.args.connects.now c.args.bins.now c.args.shape n)) e c.loop-layer.invariant
+    subst (λ (n : ℕ). Adds c.args.places.now.items c.loop-layer.places.items (IsNearOnLayers c.args.bins.now c.args.area n)) e c.loop-layer.invariant

@@ -1,18 +1,20 @@
-use Rattle.std.proofs.Common.{◌≡◌, ◌⊎◌, List, refl, subst, sym}
+use Rattle.std.proofs.Common.{◌↔◌, List, refl, subst}
+use Rattle.std.specs.Prelude.{IsTrue}
+use Rattle.or_geom.specs.Gathering.{SomeHas}
 use Rattle.tech_rules.specs.declared.tech.Connect.{Connect}
-use Rattle.tech_rules.specs.Touch.{Touch}
+use Rattle.leaf_contacts.specs.Marks.{IsTouching}
 use Rattle.leaf_contacts.proofs.NearbyLaws.{touched_at, untouched_at}
 use Rattle.leaf_contacts.proofs.contact.touches_at.Goals as goal
 
-pub returns-then-touch_or_same : goal.returns-then-touch_or_same
-returns-then-touch_or_same c entries are =
-    touched_at c.args.layout.now.tech.now.connects c.args.layout.now.bins.now entries c.args.shape c.args.instance.now c.args.place c.shape_at-other.result c.stands_elsewhere.result c.shape_at-other.ensures
-    (subst (λ (l : List Connect). Touch l c.args.shape c.shape_at-other.result ⊎ (c.args.shape ≡ c.shape_at-other.result)) c.as_slice.ensures (c.if-touch_or_same.ensures.0 refl))
-    (c.stands_elsewhere.ensures entries c.shape_at-other.result are c.shape_at-other.ensures)
+pub returns-then-stands_elsewhere : goal.returns-then-stands_elsewhere
+returns-then-stands_elsewhere c entries are =
+    touched_at c.args.layout.now.tech.now.connects c.args.layout.now.bins.now entries c.args.moved.now c.args.instance.now c.args.place c.shape_at-other.result c.touches_one.result c.shape_at-other.ensures
+    ((c.if-stands_elsewhere.ensures entries c.shape_at-other.result are c.shape_at-other.ensures).0 refl)
+    (subst (λ (l : List Connect). IsTrue c.touches_one.result ↔ SomeHas (IsTouching l c.shape_at-other.result) c.args.moved.now) c.as_slice.ensures c.touches_one.ensures)
 
-pub returns-else-touch_or_same : goal.returns-else-touch_or_same
-returns-else-touch_or_same c entries are = (
-  λ t. let f = c.if-touch_or_same.false in absurd cc,
-  λ h. absurd (untouched_at c.args.layout.now.tech.now.connects c.args.layout.now.bins.now entries c.args.shape c.args.instance.now c.args.place c.shape_at-other.result c.shape_at-other.ensures
-      (λ touch. let t = c.if-touch_or_same.ensures.1 (subst (λ (l : List Connect). Touch l c.args.shape c.shape_at-other.result ⊎ (c.args.shape ≡ c.shape_at-other.result)) (sym c.as_slice.ensures) touch) in absurd cc) h),
+pub returns-else-stands_elsewhere : goal.returns-else-stands_elsewhere
+returns-else-stands_elsewhere c entries are = (
+  λ t. let f = c.if-stands_elsewhere.false in absurd cc,
+  λ h. absurd (untouched_at c.args.layout.now.tech.now.connects c.args.layout.now.bins.now entries c.args.moved.now c.args.instance.now c.args.place c.shape_at-other.result c.shape_at-other.ensures
+      (λ e. let t = (c.if-stands_elsewhere.ensures entries c.shape_at-other.result are c.shape_at-other.ensures).1 e in absurd cc) h),
 )
