@@ -1,7 +1,7 @@
 use gds_library::Library;
 use kit_check::Maker;
-use macro_maker::Assembler;
 use leaf_tables::{Kit, PartFault};
+use macro_maker::Assembler;
 use netlist::Deck;
 use or_geom::Name;
 use sram_plan::Plan;
