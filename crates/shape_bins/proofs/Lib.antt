@@ -6,8 +6,6 @@ pub mod TreeLaws
 pub mod ForestLaws
 pub mod OrderLaws
 pub mod CoverLaws
-pub mod NumberLaws
-pub mod FullLaws
 pub mod FilledLaws
 pub mod RunLaws
 pub mod ClearLaws

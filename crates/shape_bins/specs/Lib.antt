@@ -8,8 +8,6 @@ pub mod Least
 pub mod Order
 pub mod Hits
 pub mod Forest
-pub mod Numbers
-pub mod Full
 pub mod Filled
 pub mod Runs
 pub mod Clear

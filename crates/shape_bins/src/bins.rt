@@ -1,4 +1,4 @@
-ghost use Rattle.std.specs.Prelude.{◌≡◌, ◌↔◌, ◌<◌, ◌≤◌, ℕ, length, Contains, IsTrue, IfOk, IfSome, MatchOption, OnOk};
+ghost use Rattle.std.specs.Prelude.{◌≡◌, ◌↔◌, ◌<◌, ◌≤◌, length, IsTrue, IfOk, IfSome, MatchOption, OnOk};
 ghost use Rattle.or_geom.specs.Adds.{Adds};
 ghost use Rattle.or_geom.specs.Covered.{HasCellInSome, IsCovered};
 ghost use Rattle.or_geom.specs.Row.{IsFound};
@@ -53,16 +53,8 @@ impl<'b> Bins<'b> {
         self.forest.shapes
     }
 
-    /// The places of all shapes, layer by layer, mostly so that near shapes of a layer come one after another. Only that
-    /// each shape's place is there is claimed.
-    pub fn near_order(&self) -> &[u32]
-        ensures { (place : ℕ) → place < length self.now → Contains result.now place }
-    {
-        self.forest.places
-    }
-
-    /// The shapes with the trees over them.
-    pub(crate) fn forest(&self) -> Forest<'b>
+    /// The shapes with a tree over those of each layer, for a walk that passes over more than a query does.
+    pub fn forest(&self) -> Forest<'b>
         ensures shapes { result.shapes.now ≡ self.now }
         ensures forest { IsForest result }
     {

@@ -8,8 +8,6 @@ mod filled;
 mod forest;
 mod layers;
 mod node;
-mod numbering;
-mod numbers;
 mod order;
 mod query;
 mod runs;
@@ -18,5 +16,7 @@ mod walk;
 
 pub use bins::{Bins, bins_are_shared, index};
 pub use clear::ClearBox;
-pub use numbers::ShapeNumbers;
-pub use query::Query;
+pub use forest::Forest;
+pub use node::Node;
+pub use query::{Query, overlap};
+pub use walk::{add_of_leaf, is_wanted};

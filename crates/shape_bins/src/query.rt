@@ -45,7 +45,7 @@ fn meet(a: Rect, b: Rect) -> bool
 
 /// Whether the rectangles share area.
 #[inline(always)]
-fn overlap(a: Rect, b: Rect) -> bool
+pub fn overlap(a: Rect, b: Rect) -> bool
     ensures { IsTrue result ↔ Overlap a b }
 {
     if a.x2 <= b.x1 {

@@ -22,7 +22,7 @@ pub fn is_wanted(node: Node, layer: u16, query: Query) -> bool
 }
 
 /// Adds the places of the leaf's shapes that are looked for.
-fn add_of_leaf(
+pub fn add_of_leaf(
     forest: Forest<'_>,
     leaf: Node,
     query: Query,
