@@ -14,19 +14,19 @@ use Rattle.sram_macro.specs.declared.assembly.Macro.{Macro}
 use Rattle.sram_macro.specs.Macro.{IsMacro}
 use Rattle.kit_check.specs.Good.{IsGoodKit}
 use Rattle.kit_check.specs.Judged.{IsFaultlessMacro}
-use Rattle.kit_check.specs.Short.{IsShortlySound}
+use Rattle.kit_check.specs.Quick.{IsPassingMacro}
 use Rattle.macro_maker.specs.Assembled.{IsAssembled}
 use Rattle.good_places.specs.Windows.{IsWindowOf}
 
--- a macro of the memory, which is a listed window's: it is in order wherever the short check looks
-pub record HasShortWindow (kit : Kit) (memory : Organization) : Type 0 where
+-- a macro of the memory, which is a listed window's: it is in order wherever the quick check looks
+pub record HasPassingWindow (kit : Kit) (memory : Organization) : Type 0 where
   pub plan : Plan
   pub is : organization plan ≡ memory
   pub numbers : ArePlanNumbers (numbers_of plan)
   pub name : List ℕ
   pub macro : Macro
   pub made : IsMacro kit plan Stored name macro
-  pub sound : IsShortlySound kit name (organization plan) macro.lib macro.deck
+  pub sound : IsPassingMacro kit name (organization plan) macro.lib macro.deck
 
 -- a macro of the memory, which is a window's: nothing is wrong with it
 pub record HasSoundWindow (kit : Kit) (memory : Organization) : Type 0 where

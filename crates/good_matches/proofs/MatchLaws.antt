@@ -24,8 +24,8 @@ use Rattle.sram_macro.specs.declared.assembly.Macro.{Macro}
 use Rattle.sram_macro.specs.Macro.{IsMacro}
 use Rattle.kit_rules.specs.Reach.{reach_with}
 use Rattle.kit_check.specs.Makers.{role_cells}
-use Rattle.kit_check.specs.Short.{PassesShortCheck}
-use Rattle.kit_check.proofs.ShortLaws.{good_is_short}
+use Rattle.kit_check.specs.Quick.{PassesQuickCheck}
+use Rattle.kit_check.proofs.QuickLaws.{good_kits_pass}
 use Rattle.macro_maker.specs.Assembled.{IsAssembled}
 use Rattle.good_nets.specs.Parts.{AreSeen}
 use Rattle.good_reports.proofs.ReportLaws.{written_plan, written_of_rows}
@@ -52,8 +52,8 @@ use Rattle.good_matches.specs.Matches.{MatchesNetlist, GoodKitsMatch}
 use Rattle.good_matches.proofs.SourceLaws.{overhang, only, seen_source, shapes_pass, shapes_inside}
 use Rattle.good_matches.proofs.WindowLaws.{rows_equal_of, seen_window}
 
--- A plan whose memory is written, for a kit that passes the short check.
-module _ (kit : Kit) (plan : Plan) (name : List ℕ) (is : IsKit kit) (good : PassesShortCheck IsAssembled kit) (planned : IsWrittenOfRows plan) (words : IsWrittenPlan (organization plan)) where
+-- A plan whose memory is written, for a kit that passes the quick check.
+module _ (kit : Kit) (plan : Plan) (name : List ℕ) (is : IsKit kit) (good : PassesQuickCheck IsAssembled kit) (planned : IsWrittenOfRows plan) (words : IsWrittenPlan (organization plan)) where
   numbers : ArePlanNumbers (numbers_of plan)
   numbers = planned.numbers
 
@@ -112,4 +112,4 @@ module _ (kit : Kit) (plan : Plan) (name : List ℕ) (is : IsKit kit) (good : Pa
 
 pub good_kits_match : GoodKitsMatch
 good_kits_match kit config plan name is good is_config of =
-    matches_netlist kit plan name is (good_is_short IsAssembled kit good) (written_of_rows config plan is_config of) (written_plan config plan is_config of (plan_numbers config plan is_config of))
+    matches_netlist kit plan name is (good_kits_pass IsAssembled kit good) (written_of_rows config plan is_config of) (written_plan config plan is_config of (plan_numbers config plan is_config of))

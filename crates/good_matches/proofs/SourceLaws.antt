@@ -18,7 +18,7 @@ use Rattle.macro_layout.specs.Places.{leaf_cell}
 use Rattle.floorplan.specs.LayoutOfKit.{layout_kit}
 use Rattle.floorplan.proofs.DemandLaws.{wire_there}
 use Rattle.kit_rules.specs.Reach.{IsOverhang, reach_with, greatest_minimum, minimum_of}
-use Rattle.kit_check.specs.Short.{PassesShortCheck}
+use Rattle.kit_check.specs.Quick.{PassesQuickCheck}
 use Rattle.macro_maker.specs.Assembled.{IsAssembled}
 use Rattle.good_windows.specs.Short.{HasShortReach}
 use Rattle.good_windows.proofs.PassLaws.{shapes_pass_little, leaves_draw_inside}
@@ -39,7 +39,7 @@ at_least_one (rule ∷ rules) = let r = at_least_one rules in go (minimum_of rul
   go : (a b : ℤ) → pos 1 ≤ℤ b → pos 1 ≤ℤ int_max a b
   go a b le = omega (arith, ints, clamps, le)
 
-module _ (kit : Kit) (is : IsKit kit) (good : PassesShortCheck IsAssembled kit) where
+module _ (kit : Kit) (is : IsKit kit) (good : PassesQuickCheck IsAssembled kit) where
   -- the greatest distance by which shapes pass their outlines
   pub overhang : (overhang : ℤ) × IsOverhang kit overhang
   overhang = overhang_there kit is

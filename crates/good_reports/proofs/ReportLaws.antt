@@ -31,8 +31,8 @@ use Rattle.floorplan.proofs.DemandLaws.{wire_there}
 use Rattle.sram_macro.specs.declared.assembly.Macro.{Macro}
 use Rattle.sram_macro.specs.Macro.{IsMacro}
 use Rattle.kit_rules.specs.Reach.{IsOverhang, IsShortReach, reach_with}
-use Rattle.kit_check.specs.Short.{PassesShortCheck}
-use Rattle.kit_check.proofs.ShortLaws.{good_is_short}
+use Rattle.kit_check.specs.Quick.{PassesQuickCheck}
+use Rattle.kit_check.proofs.QuickLaws.{good_kits_pass}
 use Rattle.macro_maker.specs.Assembled.{IsAssembled}
 use Rattle.good_places.specs.Windows.{IsWindowOf, IsWrittenPlan}
 use Rattle.good_windows.specs.Short.{HasShortReach}
@@ -86,8 +86,8 @@ window_written plan other (inr e) = subst IsWritten (sym e) (omega arith)
 not_empty : (rules : List Rule) (shapes : List Shape) (v : Violation) (more : List Violation) → IsReport rules shapes [] → IsReport rules shapes (v ∷ more) → ⊥
 not_empty rules shapes v more none some = contains_none v (none.each v (some.only v (contains_first v more)))
 
--- A plan whose memory is written, for a kit that passes the short check.
-module _ (kit : Kit) (plan : Plan) (is : IsKit kit) (good : PassesShortCheck IsAssembled kit) (planned : IsWrittenOfRows plan) (written : IsWrittenPlan (organization plan)) where
+-- A plan whose memory is written, for a kit that passes the quick check.
+module _ (kit : Kit) (plan : Plan) (is : IsKit kit) (good : PassesQuickCheck IsAssembled kit) (planned : IsWrittenOfRows plan) (written : IsWrittenPlan (organization plan)) where
   overhang : (overhang : ℤ) × IsOverhang kit overhang
   overhang = overhang_there kit is
 
@@ -123,4 +123,4 @@ module _ (kit : Kit) (plan : Plan) (is : IsKit kit) (good : PassesShortCheck IsA
 
 pub good_kits_break_no_rule : GoodKitsBreakNoRule
 good_kits_break_no_rule kit config plan name is good is_config of =
-    breaks_no_rule kit plan is (good_is_short IsAssembled kit good) (written_of_rows config plan is_config of) (written_plan config plan is_config of (plan_numbers config plan is_config of)) name
+    breaks_no_rule kit plan is (good_kits_pass IsAssembled kit good) (written_of_rows config plan is_config of) (written_plan config plan is_config of (plan_numbers config plan is_config of)) name

@@ -9,5 +9,5 @@ pub mod ContactLaws
 pub mod ShareLaws
 pub mod WeakLaws
 pub mod FirstLaws
-pub mod ShortShareLaws
-pub mod ShortLaws
+pub mod QuickShareLaws
+pub mod QuickLaws

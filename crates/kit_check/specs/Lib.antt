@@ -5,4 +5,4 @@ pub mod Makers
 pub mod Judged
 pub mod Good
 pub mod Shares
-pub mod Short
+pub mod Quick

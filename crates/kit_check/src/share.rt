@@ -74,7 +74,7 @@ fn earlier(a: Option<Found>, b: Option<Found>) -> Option<Found>
 }
 
 /// What the worker of this number found.
-fn found_by(found: &[Result<Option<Found>, Memory>], worker: usize) -> Result<Option<Found>, Memory>
+pub fn found_by<T: Copy>(found: &[Result<T, Memory>], worker: usize) -> Result<T, Memory>
     requires { worker < length found.now }
     ensures { slice_get found.now worker ≡ Some result }
 {

@@ -6,17 +6,17 @@ ghost use Rattle.macro_maker.specs.Assembled.{IsAssembled};
 ghost use Rattle.kit_command.specs.WeakLines.{IsKitAnswered};
 
 use crate::lines::weak_reply;
-use kit_check::{Weak, passes_short_check, weakness};
+use kit_check::{Weak, passes_quick_check, weakness};
 use leaf_tables::Kit;
 use macro_facts::{macros_are_whole, macros_have_rows, unused_names_are_free};
 use macro_maker::Assembler;
 use or_geom::Memory;
 use reply_lines::{Refusal, Reply};
-use short_checks::short_checks_suffice;
+use quick_checks::quick_checks_suffice;
 use std::alloc::Global;
 use std::thread::Threads;
 
-/// The first weakness of a kit, if it has one. A kit that passes the short check has none: only of one that doesn't, all
+/// The first weakness of a kit, if it has one. A kit that passes the quick check has none: only of one that doesn't, all
 /// windows are looked at.
 fn first_weakness<R: Threads + Sync>(
     rt: &R,
@@ -30,12 +30,12 @@ fn first_weakness<R: Threads + Sync>(
     ensures { IfOk result (IsWeakness IsAssembled kit.now) }
 {
     // The calls do nothing when the program runs: their contracts are the laws by which macros can be flattened, no name
-    // is taken, and a kit that passes the short check is good.
+    // is taken, and a kit that passes the quick check is good.
     macros_are_whole();
     macros_have_rows();
     unused_names_are_free();
-    short_checks_suffice();
-    if passes_short_check(rt, alloc, kit, &Assembler, workers)? {
+    quick_checks_suffice();
+    if passes_quick_check(rt, alloc, kit, &Assembler, workers)? {
         return Ok(None);
     }
     weakness(rt, alloc, kit, &Assembler, workers)

@@ -40,7 +40,7 @@ use Rattle.sram_macro.specs.Layout.{IsMainFault}
 use Rattle.sram_macro.specs.Macro.{IsMacro, IsPartsFault, names_of_macro}
 use Rattle.sram_macro.specs.Names.{first_taken}
 use Rattle.kit_check.specs.Windows.{all_windows, plan_of}
-use Rattle.kit_check.specs.Short.{IsPassingAnswer, PassesShortCheck}
+use Rattle.kit_check.specs.Quick.{IsPassingAnswer, PassesQuickCheck}
 use Rattle.kit_check.proofs.WindowLaws.{are_planned}
 use Rattle.macro_maker.specs.Assembled.{IsAssembled}
 use Rattle.kit_routes.specs.Routes.{IsMacroRefused, AreNamesFree, IsWiderThanBit}
@@ -152,7 +152,7 @@ judged kit plan name wire (Err (part_fault.TapsClose a b)) wired is sound = absu
 judged kit plan name wire (Err (part_fault.NameTaken n)) wired is sound = absurd sound
 judged kit plan name wire (Err part_fault.Memory) wired is sound = absurd sound
 
-pub model_judged : (kit : Kit) (plan : Plan) (wire : Wire) → kit.tech.wire ≡ Some wire → PassesShortCheck IsAssembled kit → IsPlanned plan → IsJudged kit (model (organization plan)) wire
+pub model_judged : (kit : Kit) (plan : Plan) (wire : Wire) → kit.tech.wire ≡ Some wire → PassesQuickCheck IsAssembled kit → IsPlanned plan → IsJudged kit (model (organization plan)) wire
 model_judged kit plan wire wired good is =
     let w = window_at plan is in
     let good_one = good.windows.each w.0 (window_for plan) w.1 in
@@ -181,7 +181,7 @@ main_apart kit plan is planned laid c = by c.close
         (λ h. laid.main (inr (to_close (pitch is.wire) (pin_xs (main_bottom (model (organization plan)) (layout_kit kit) laid.floorplan)) h)))
         (of_close (pitch is.wire) (pin_xs (main_bottom (organization plan) (layout_kit kit) c.floorplan)) bottom)
 
-channels_apart : (kit : Kit) (plan : Plan) (is : IsKit kit) → PassesShortCheck IsAssembled kit → IsPlanned plan → HasCloseChannel kit (organization plan) is.wire → ⊥
+channels_apart : (kit : Kit) (plan : Plan) (is : IsKit kit) → PassesQuickCheck IsAssembled kit → IsPlanned plan → HasCloseChannel kit (organization plan) is.wire → ⊥
 channels_apart kit plan is good planned c = by (model_judged kit plan is.wire is.wired good planned) c.one
   where
     by : IsJudged kit (model (organization plan)) is.wire → HasClosePins (column_channel (organization plan) (layout_kit kit) is.wire) is.wire ⊎ HasCloseMain kit (organization plan) is.wire → ⊥
@@ -189,7 +189,7 @@ channels_apart kit plan is good planned c = by (model_judged kit plan is.wire is
     by (inl laid) (inl column) = columns_apart (organization plan) (model (organization plan)) (layout_kit kit) is.wire (pins_in_cells kit is) refl (omega arith) laid.wide (laid.of.apart is.wire is.wired) column
     by (inl laid) (inr main) = main_apart kit plan is planned laid main
 
-pub pins_free : (kit : Kit) (plan : Plan) (name : List ℕ) (is : IsKit kit) → PassesShortCheck IsAssembled kit → IsPlanned plan → (side : ℕ) (a b : ℤ) → IsMacroRefused kit plan name (part_fault.Close side a b) → ⊥
+pub pins_free : (kit : Kit) (plan : Plan) (name : List ℕ) (is : IsKit kit) → PassesQuickCheck IsAssembled kit → IsPlanned plan → (side : ℕ) (a b : ℤ) → IsMacroRefused kit plan name (part_fault.Close side a b) → ⊥
 pins_free kit plan name is good planned side a b (_, inl taken) = taken
 pins_free kit plan name is good planned side a b (_, inr (free, parts)) = channels_apart kit plan is good planned (close_parts kit (organization plan) is.wire side a b is.wired parts)
 

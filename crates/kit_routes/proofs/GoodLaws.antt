@@ -23,8 +23,8 @@ use Rattle.port_data.specs.Column.{AreWideSlices, IsColumnOf}
 use Rattle.bank_layout.specs.BankTaps.{AreTapsClose}
 use Rattle.sram_macro.specs.Layout.{IsMainFault}
 use Rattle.sram_macro.specs.Macro.{IsPartsFault}
-use Rattle.kit_check.specs.Short.{PassesShortCheck}
-use Rattle.kit_check.proofs.ShortLaws.{good_is_short}
+use Rattle.kit_check.specs.Quick.{PassesQuickCheck}
+use Rattle.kit_check.proofs.QuickLaws.{good_kits_pass}
 use Rattle.macro_maker.specs.Assembled.{IsAssembled}
 use Rattle.kit_routes.specs.Routes.{IsMacroRefused, GoodKitsRoute}
 use Rattle.route_laws.proofs.KindLaws.{some_written}
@@ -55,7 +55,7 @@ taps_parts kit plan wire a b wired (inr (wide, (column, of, (w, e, inl p)))) =
     (record { wide = wide; column = column; of = of; tracks = p.tracks; floorplan = p.floorplan; stands = p.stands; close = p.is })
 taps_parts kit plan wire a b wired (inr (wide, (column, of, (w, e, inr p)))) = absurd (no_main kit plan w a b p.route p.is p.same)
 
-taps_free : (kit : Kit) (plan : Plan) (name : List ℕ) (is : IsKit kit) → PassesShortCheck IsAssembled kit → IsPlanned plan → (a b : ℤ) → IsMacroRefused kit plan name (part_fault.TapsClose a b) → ⊥
+taps_free : (kit : Kit) (plan : Plan) (name : List ℕ) (is : IsKit kit) → PassesQuickCheck IsAssembled kit → IsPlanned plan → (a b : ℤ) → IsMacroRefused kit plan name (part_fault.TapsClose a b) → ⊥
 taps_free kit plan name is good planned a b (_, inl taken) = taken
 taps_free kit plan name is good planned a b (_, inr (free, parts)) =
     let c = taps_parts kit (organization plan) is.wire a b is.wired parts in
@@ -73,7 +73,7 @@ planned_of config plan is of =
 pub good_kits_route : GoodKitsRoute
 good_kits_route kit config plan name is good is_config of =
     let planned = planned_of config plan is_config of in
-    let short = good_is_short IsAssembled kit good in
+    let short = good_kits_pass IsAssembled kit good in
     record {
       pins = pins_free kit plan name is short planned;
       taps = taps_free kit plan name is short planned;

@@ -1,5 +1,0 @@
-use Rattle.kit_check.specs.Short.{AllFoundTrue}
-use Rattle.kit_check.proofs.short_share.all_pass.Given as goal
-
-abbrev pub invariant-loop-worker : goal.invariant-loop-worker
-invariant-loop-worker l = AllFoundTrue l.found l.worker

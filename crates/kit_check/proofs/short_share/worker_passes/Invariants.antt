@@ -1,5 +1,0 @@
-use Rattle.kit_check.proofs.ShortShareLaws.{PassBefore}
-use Rattle.kit_check.proofs.short_share.worker_passes.Given as goal
-
-abbrev pub invariant-loop-index : goal.invariant-loop-index
-invariant-loop-index g l = PassBefore l.workers l.worker (g.M.Maker.answers l.trial.maker.now) l.trial.kit.now l.trial.name.now l.index
