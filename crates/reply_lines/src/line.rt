@@ -7,6 +7,9 @@ use or_geom::Memory;
 use std::alloc::Global;
 use std::marker::Model;
 
+/// Room for a line as most are, so that its buffer doesn't grow: a list of nets may have millions of lines.
+const LINE_BYTES: usize = 64;
+
 /// A printed line in the making: words with single spaces between them, in one buffer. Contracts see it as its bytes so
 /// far.
 #[derive(Debug, Drop)]
@@ -27,9 +30,9 @@ impl ReplyLine {
     pub fn of(alloc: Global, word: &[u8]) -> Result<Self, Memory>
         ensures { IfOk result (λ line. line ≡ word.now) }
     {
-        Ok(ReplyLine {
-            text: Vec::from_slice(alloc, word)?,
-        })
+        let mut text = Vec::with_capacity(alloc, LINE_BYTES)?;
+        text.extend_from_slice(word)?;
+        Ok(ReplyLine { text })
     }
 
     /// A line that begins with a number.
