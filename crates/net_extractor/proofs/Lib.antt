@@ -13,6 +13,7 @@ mod EntryLaws
 mod ShapeNetLaws
 mod PinLaws
 mod KeyLaws
+mod KeyTextLaws
 mod MixedLaws
 mod ConflictLaws
 mod MatchingLaws

@@ -1,6 +1,8 @@
 -- Strangers among labels, found one by one.
-use Rattle.std.proofs.Common.{◌≡◌, ℕ, ◌+◌, ◌<◌, ◌≤◌, List, [], length, get_or, map, Some, sym, ap, subst, ◌∙◌, arith}
+use Rattle.std.proofs.Common.{◌≡◌, ℕ, ◌+◌, ◌<◌, ◌≤◌, true, nat_eq, List, [], length, get_or, map, Some, sym, ap, subst, ◌∙◌, arith}
 use Rattle.std.specs.Prelude.{slice_get}
+use Rattle.std.proofs.lemmas.Bool.{eqb-true}
+use Rattle.std.proofs.lemmas.List.{nil_from_length}
 use Rattle.std.proofs.lemmas.Option.{slice_get_within, slice_get-get_or}
 use Rattle.or_geom.specs.Gathering.{SomeHas}
 use Rattle.or_geom.proofs.GatheringLaws.{some_has, who_has}
@@ -40,6 +42,14 @@ none_more entries pins place d path lower lt is low placed before =
     (λ s.
     let w = who_has (IsPlacedBy lower) pins placed in
     s.nowhere w.0 w.1 (subst (λ (t : List ℕ). IsPlacedBy t w.0) (low ∙ ap in_lower_case is) w.2))
+    before
+
+-- a label with an empty path is none
+pub none_more_empty : (entries : List NetLabel) (pins : List RowPin) (place : ℕ) (d : NetLabel) (path : List ℕ) → place < length entries → path ≡ (plain_net (get_or entries place d)).path → true ≡ nat_eq (length path) 0
+    → AreNoneBefore entries pins place → AreNoneBefore entries pins (place + 1)
+none_more_empty entries pins place d path lt is test before =
+    each_more (λ k (e : NetLabel). IsStranger pins (plain_net e) → ⊥) entries place (get_or entries place d) (slice_get-get_or entries place d lt)
+    (λ s. s.inner (sym is ∙ nil_from_length path (eqb-true (length path) 0 (sym test))))
     before
 
 pub none_all : (entries : List NetLabel) (pins : List RowPin) (place : ℕ) → length entries ≤ place → AreNoneBefore entries pins place → AreNoStrangers (map plain_net entries) pins

@@ -12,6 +12,7 @@ pub mod Numbering
 pub mod Entries
 pub mod Difference
 pub mod FirstDifference
+pub mod KeyTexts
 pub mod KeyPlaces
 pub mod PinNets
 pub mod Strangers

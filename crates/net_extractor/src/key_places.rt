@@ -1,8 +1,9 @@
 ghost use Rattle.std.specs.Prelude.{◌≡◌, List, ℕ, IfOk};
 ghost use Rattle.net_extractor.specs.KeyPlaces.{first_place, place_under};
 
+use crate::key_texts::KeyTexts;
 use indexmap::IndexMap;
-use or_geom::{Memory, Name};
+use or_geom::Memory;
 use std::alloc::Global;
 
 /// The places of keys in a list. Of equal keys the first counts.
@@ -12,7 +13,7 @@ pub struct KeyPlaces<'a> {
 }
 
 /// The places of these keys.
-pub fn key_places<'a>(alloc: Global, keys: &'a [Name]) -> Result<KeyPlaces<'a>, Memory>
+pub fn key_places<'a>(alloc: Global, keys: &'a KeyTexts) -> Result<KeyPlaces<'a>, Memory>
     ensures { IfOk result (λ table. (key : List ℕ) → place_under table key ≡ first_place keys.now key) }
 {
     let mut places = IndexMap::new(alloc);
@@ -20,7 +21,7 @@ pub fn key_places<'a>(alloc: Global, keys: &'a [Name]) -> Result<KeyPlaces<'a>, 
     // From the last to the first, so that the first of equal keys is what stays.
     while place > 0 {
         place -= 1;
-        places.insert(keys[place].as_bytes(), place)?;
+        places.insert(keys.get(place), place)?;
     }
     Ok(KeyPlaces { places })
 }

@@ -1,53 +1,64 @@
-ghost use Rattle.std.specs.Prelude.{◌≡◌, ◌<◌, ℕ, List, length, map, IfOk, IsTrue};
+ghost use Rattle.std.specs.Prelude.{◌≡◌, ◌++◌, ◌<◌, ℕ, List, length, map, IfOk, OnOk, IsTrue};
 ghost use Rattle.net_extractor.specs.KeyPlaces.{AreMixed, IsFirstFor, IsMixedAt, IsOnNetAt, KeepsMarks, first_place};
-ghost use Rattle.net_extractor.specs.KeyPlaces.{path_name_key, label_key, pin_key, place_under};
+ghost use Rattle.net_extractor.specs.KeyPlaces.{label_key, pin_key, place_under};
 ghost use Rattle.net_extractor.specs.PlainNets.{plain_net};
 
 use crate::key_places::KeyPlaces;
+use crate::key_texts::KeyTexts;
 use crate::label::NetLabel;
-use crate::strangers::lowered;
+use crate::strangers::add_lowered;
 use netlist::RowPin;
-use or_geom::{Memory, Name};
+use or_geom::Memory;
 use std::alloc::Global;
 
-/// A path and a name in one text. The byte between them stands in neither.
-fn key_text(alloc: Global, path: &[u8], name: &[u8]) -> Result<Name, Memory>
-    ensures { IfOk result (λ key. key ≡ path_name_key path.now name.now) }
+/// Makes the text the key of a pin: its path and its name. The byte between them stands in neither.
+pub fn put_pin_key(key: &mut Vec<u8>, pin: &RowPin) -> Result<(), Memory>
+    ensures { OnOk result (key.new.items ≡ pin_key pin.now) }
 {
-    let mut bytes = Vec::from_slice(alloc, path)?;
-    bytes.push(0)?;
-    bytes.extend_from_slice(name)?;
-    Ok(Name::from_vec(bytes))
+    key.clear();
+    key.extend_from_slice(pin.path.as_bytes())?;
+    key.push(0)?;
+    key.extend_from_slice(pin.pin.as_bytes())?;
+    Ok(())
 }
 
-/// The key of a pin.
-pub fn key_of_pin(alloc: Global, pin: &RowPin) -> Result<Name, Memory>
-    ensures { IfOk result (λ key. key ≡ pin_key pin.now) }
-{
-    key_text(alloc, pin.path.as_bytes(), pin.pin.as_bytes())
-}
-
-/// The key of a label: that of its pin where it is bound, or one that no pin has.
-fn key_of_label(alloc: Global, entry: &NetLabel) -> Result<Name, Memory>
-    ensures { IfOk result (λ key. key ≡ label_key (plain_net entry.now)) }
+/// Adds the key of a label: that of its pin where it is bound, or one that no pin has.
+fn add_label_key(bytes: &mut Vec<u8>, entry: &NetLabel) -> Result<(), Memory>
+    ensures { OnOk result (bytes.new.items ≡ bytes.old.items ++ label_key (plain_net entry.now)) }
 {
     let Some(_) = entry.net else {
-        return Ok(Name::from_bytes(alloc, &[])?);
+        return Ok(());
     };
-    let path = lowered(alloc, entry.label.path.as_bytes())?;
-    let name = lowered(alloc, entry.label.name.as_bytes())?;
-    key_text(alloc, &path, &name)
+    add_lowered(bytes, entry.label.path.as_bytes())?;
+    bytes.push(0)?;
+    add_lowered(bytes, entry.label.name.as_bytes())
+}
+
+/// How many bytes the keys of the labels take. Nothing is claimed of it: it is the room that is asked for.
+fn room_for(labels: &[NetLabel]) -> usize {
+    let mut room: usize = 0;
+    for entry in labels {
+        if entry.net.is_none() {
+            continue;
+        }
+        let label = entry.label;
+        let key = label.path.len().saturating_add(label.name.len());
+        room = room.saturating_add(key).saturating_add(1);
+    }
+    room
 }
 
 /// The keys of the labels.
-pub fn keys_of(alloc: Global, labels: &[NetLabel]) -> Result<Vec<Name>, Memory>
-    ensures { IfOk result (λ keys. keys.items ≡ map label_key (map plain_net labels.now)) }
+pub fn keys_of(alloc: Global, labels: &[NetLabel]) -> Result<KeyTexts, Memory>
+    ensures { IfOk result (λ keys. keys ≡ map label_key (map plain_net labels.now)) }
 {
-    let mut keys = Vec::new(alloc);
+    let mut bytes = Vec::with_capacity(alloc, room_for(labels))?;
+    let mut ends = Vec::with_capacity(alloc, labels.len())?;
     for label in labels {
-        keys.push(key_of_label(alloc, label)?)?;
+        add_label_key(&mut bytes, label)?;
+        ends.push(bytes.len())?;
     }
-    Ok(keys)
+    Ok(KeyTexts::from_parts(bytes, ends))
 }
 
 /// Whether the label at the place, if there is one, is on this net.
@@ -89,7 +100,7 @@ fn mark_mixed(labels: &[NetLabel], place: usize, first: Option<usize>, marks: &m
 pub fn mixed_marks(
     alloc: Global,
     labels: &[NetLabel],
-    keys: &[Name],
+    keys: &KeyTexts,
     table: &KeyPlaces,
 ) -> Result<Vec<bool>, Memory>
     requires keys { keys.now ≡ map label_key (map plain_net labels.now) }
@@ -98,7 +109,7 @@ pub fn mixed_marks(
 {
     let mut marks = vec![in alloc; false; labels.len()]?;
     for place in 0..labels.len() {
-        let first = table.find(keys[place].as_bytes());
+        let first = table.find(keys.get(place));
         mark_mixed(labels, place, first, &mut marks);
     }
     Ok(marks)

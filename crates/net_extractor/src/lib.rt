@@ -6,6 +6,7 @@ mod conflicts;
 mod contacts;
 mod difference;
 mod key_places;
+mod key_texts;
 mod keys;
 mod label;
 mod laws;

@@ -7,7 +7,7 @@ ghost use Rattle.net_extractor.specs.PinNets.{IsElsewhere, IsPinNet, IsPinNets};
 ghost use Rattle.net_extractor.specs.PlainNets.{plain_net};
 
 use crate::key_places::{KeyPlaces, key_places};
-use crate::keys::{key_of_pin, keys_of, mixed_marks};
+use crate::keys::{keys_of, mixed_marks, put_pin_key};
 use crate::label::NetLabel;
 use netlist::RowPin;
 use or_geom::Memory;
@@ -126,9 +126,9 @@ fn net_by(labels: &[NetLabel], mixed: &[bool], pin: &RowPin, place: usize) -> Op
     })
 }
 
-/// The net of a pin, None where it has no bound label.
+/// The net of a pin, None where it has no bound label. Its key is written over what is in `key`.
 fn pin_net(
-    alloc: Global,
+    key: &mut Vec<u8>,
     labels: &[NetLabel],
     table: &KeyPlaces,
     mixed: &[bool],
@@ -140,8 +140,8 @@ fn pin_net(
     ensures { IfOk result (λ net. MatchOption net (IsLabelled (map plain_net labels.now) pin.now → ⊥)
         (IsPinNet (map plain_net labels.now) pin.now)) }
 {
-    let key = key_of_pin(alloc, pin)?;
-    let Some(place) = table.find(key.as_bytes()) else {
+    put_pin_key(key, pin)?;
+    let Some(place) = table.find(key) else {
         return Ok(None);
     };
     Ok(net_by(labels, mixed, pin, place))
@@ -160,9 +160,10 @@ fn nets_of_pins(
     requires mixed { AreMixed (map plain_net labels.now) mixed.now }
     ensures { IfOk result (IsPinNets (map plain_net labels.now) pins.now) }
 {
-    let mut nets = Vec::new(alloc);
+    let mut key = Vec::new(alloc);
+    let mut nets = Vec::with_capacity(alloc, pins.len())?;
     for place in 0..pins.len() {
-        let found = pin_net(alloc, labels, table, mixed, &pins[place])?;
+        let found = pin_net(&mut key, labels, table, mixed, &pins[place])?;
         let Some(net) = found else {
             return Ok(PinNets::Unlabelled(place));
         };

@@ -1,4 +1,4 @@
-ghost use Rattle.std.specs.Prelude.{◌≡◌, ◌≢◌, ◌++◌, ◌↔◌, ℕ, List, map, IsTrue, IfOk, MatchOption};
+ghost use Rattle.std.specs.Prelude.{◌≡◌, ◌≢◌, ◌++◌, ◌↔◌, ℕ, List, map, IsTrue, IfOk, OnOk, MatchOption};
 ghost use Rattle.label_binding.specs.LowerCase.{in_lower_case};
 ghost use Rattle.net_extractor.specs.Difference.{IsAbove, IsOnOnePath};
 ghost use Rattle.net_extractor.specs.FirstDifference.{AreNoStrangers, IsStrangerAt};
@@ -134,11 +134,22 @@ fn is_placed(path: &[u8], pins: &[RowPin], instances: &[(&[u8], usize)], likely:
     is_placed_among(path, pins)
 }
 
-/// The text in lower case.
-pub fn lowered(alloc: Global, text: &[u8]) -> Result<Vec<u8>, Memory>
-    ensures { IfOk result (λ lower. lower.items ≡ in_lower_case text.now) }
+/// Adds the text in lower case.
+pub fn add_lowered(bytes: &mut Vec<u8>, text: &[u8]) -> Result<(), Memory>
+    ensures { OnOk result (bytes.new.items ≡ bytes.old.items ++ in_lower_case text.now) }
 {
-    Ok(text.to_ascii_lowercase(alloc)?)
+    let start = bytes.len();
+    bytes.extend_from_slice(text)?;
+    bytes[start..].make_ascii_lowercase();
+    Ok(())
+}
+
+/// Makes the other text this one in lower case.
+fn put_lowered(lower: &mut Vec<u8>, text: &[u8]) -> Result<(), Memory>
+    ensures { OnOk result (lower.new.items ≡ in_lower_case text.now) }
+{
+    lower.clear();
+    add_lowered(lower, text)
 }
 
 /// The place of the first label that stands in an instance, and at no leaf instance that has a pin.
@@ -153,12 +164,13 @@ pub fn first_stranger(
     let instances = instances_of(alloc, pins)?;
     // Labels of one instance mostly follow one another.
     let mut likely = 0;
+    let mut lower = Vec::new(alloc);
     for place in 0..labels.len() {
         let path = labels[place].label.path.as_bytes();
         if path.is_empty() {
             continue;
         }
-        let lower = lowered(alloc, path)?;
+        put_lowered(&mut lower, path)?;
         if !is_placed(&lower, pins, &instances, &mut likely) {
             return Ok(Some(place));
         }
