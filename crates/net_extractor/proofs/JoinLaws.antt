@@ -9,7 +9,7 @@ use Rattle.or_geom.proofs.ListLaws.{one_at}
 use Rattle.tech_rules.specs.Linked.{AreLinked}
 use Rattle.tech_rules.proofs.LinkedLaws.{linked_on, linked_next, linked_back}
 use Rattle.net_extractor.specs.Sets.{IsFalling, IsRootStep, Anywhere, AreTogether, Keeps, IsRoot, AreSameSets, FindsRoot, IsRootStepBy, JoinsSets, AreThesePlaces}
-use Rattle.net_extractor.proofs.SetLaws.{linked_by, itself, further, backward, upward, keeps_by, keeps_itself, keeps_on, alike_on, set_here, set_elsewhere, was_elsewhere, was_here}
+use Rattle.net_extractor.proofs.SetLaws.{linked_by, itself, further, backward, upward, keeps_by, keeps_on, alike_itself, alike_on, set_here, set_elsewhere, was_elsewhere, was_here}
 
 -- the pairs of which P holds, with the sets as they were
 by_turned : (above : List ℕ) (P : ℕ → ℕ → Type 0) (a b : ℕ) → IsRootStepBy above P a b → IsRootStepBy above P b a
@@ -26,14 +26,18 @@ by_one above P a b step = linked_next Anywhere (IsRootStepBy above P) a b tt ste
 by_on : (above : List ℕ) (P : ℕ → ℕ → Type 0) (a b c : ℕ) → AreLinked Anywhere (IsRootStepBy above P) a b → AreLinked Anywhere (IsRootStepBy above P) b c → AreLinked Anywhere (IsRootStepBy above P) a c
 by_on above P a b c one two = linked_on Anywhere (IsRootStepBy above P) a b c one two
 
-pub joins_none : (P : ℕ → ℕ → Type 0) (above : List ℕ) → IsFalling above → ((a b : ℕ) → P a b → ⊥) → JoinsSets P above above
-joins_none P above falls none = record {
-  sized = refl;
-  falls = falls;
-  kept = keeps_itself above;
-  each = λ a b p. absurd (none a b p);
-  only = λ a b way. by_one above P a b (inl way);
+-- pairs that are together already, where at most roots were found
+pub alike_together : (P : ℕ → ℕ → Type 0) (old new : List ℕ) → AreSameSets old new → ((a b : ℕ) → P a b → AreTogether new a b) → JoinsSets P old new
+alike_together P old new alike together = record {
+  sized = alike.sized;
+  falls = alike.falls;
+  kept = alike.kept;
+  each = together;
+  only = λ a b way. by_one old P a b (inl (alike.back.keeps a b way));
 }
+
+pub joins_none : (P : ℕ → ℕ → Type 0) (above : List ℕ) → IsFalling above → ((a b : ℕ) → P a b → ⊥) → JoinsSets P above above
+joins_none P above falls none = alike_together P above above (alike_itself above falls) (λ a b p. absurd (none a b p))
 
 -- the same of other pairs, which may be the same ones the other way round
 pub joins_as : (P Q : ℕ → ℕ → Type 0) (old new : List ℕ) → ((a b : ℕ) → P a b → Q a b ⊎ Q b a) → ((a b : ℕ) → Q a b → P a b ⊎ P b a) → JoinsSets P old new → JoinsSets Q old new
@@ -81,7 +85,16 @@ joins_both P Q old now new one two =
     }
 
 -- sets that are alike
-alike_joins : (P : ℕ → ℕ → Type 0) (old now new : List ℕ) → AreSameSets old now → JoinsSets P now new → JoinsSets P old new
+pub joins_alike : (P : ℕ → ℕ → Type 0) (old now new : List ℕ) → JoinsSets P old now → AreSameSets now new → JoinsSets P old new
+joins_alike P old now new joins alike = record {
+  sized = alike.sized ∙ joins.sized;
+  falls = alike.falls;
+  kept = keeps_on old now new joins.kept alike.kept;
+  each = λ a b p. alike.kept.keeps a b (joins.each a b p);
+  only = λ a b way. joins.only a b (alike.back.keeps a b way);
+}
+
+pub alike_joins : (P : ℕ → ℕ → Type 0) (old now new : List ℕ) → AreSameSets old now → JoinsSets P now new → JoinsSets P old new
 alike_joins P old now new alike joins = record {
   sized = joins.sized ∙ alike.sized;
   falls = joins.falls;

@@ -4,8 +4,10 @@ pub mod MappedLaws
 pub mod NetLaws
 mod SetLaws
 mod JoinLaws
+mod MarkLaws
 mod RunLaws
 mod PairLaws
+mod SearchLaws
 mod RootLaws
 mod NumberLaws
 pub mod ExtractLaws

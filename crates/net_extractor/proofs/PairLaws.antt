@@ -1,4 +1,4 @@
--- Which pairs the shapes of a run make with what queries find.
+-- Which pairs the shapes of a run make with what is found in a leaf.
 use Rattle.std.proofs.Common.{◌≡◌, ◌⊎◌, inl, inr, ℕ, ◌+◌, ◌<◌, ◌≤◌, List, [], length, get_or, Some, refl, sym, ap, subst, ◌∙◌, arith}
 use Rattle.std.specs.Prelude.{slice_get, Contains}
 use Rattle.std.proofs.lemmas.Bool.{cases_lt}
@@ -9,19 +9,22 @@ use Rattle.or_geom.specs.declared.shape.Shape.{Shape}
 use Rattle.or_geom.specs.Adds.{Adds}
 use Rattle.or_geom.specs.Containing.{HoldsRect}
 use Rattle.or_geom.specs.Gathering.{SomeHas}
-use Rattle.or_geom.specs.Joined.{AreJoined}
 use Rattle.or_geom.proofs.GatheringLaws.{some_has, who_has}
 use Rattle.or_geom.proofs.ListLaws.{one_at}
 use Rattle.tech_rules.specs.declared.tech.Connect.{Connect}
-use Rattle.tech_rules.specs.Touch.{IsConductor, IsCutTo, ShareArea}
-use Rattle.shape_bins.specs.Hits.{IsNearShape}
+use Rattle.tech_rules.specs.Touch.{IsConductor, IsCutTo}
+use Rattle.shape_bins.specs.declared.query.Query.TheVariants.{Meets}
+use Rattle.shape_bins.specs.Hits.{IsHit}
 use Rattle.shape_bins.specs.Meets.{Meet}
-use Rattle.shape_bins.specs.Places.{IsListedBetween}
+use Rattle.shape_bins.specs.Places.{HasBetween, IsListedBetween}
+use Rattle.net_extractor.specs.declared.contacts.Contact.{Contact}
+use Rattle.net_extractor.specs.declared.contacts.Contact.TheVariants.{Joined, Overlapping}
 use Rattle.net_extractor.specs.declared.run.NearRun.{NearRun}
 use Rattle.net_extractor.specs.declared.run.RunShape.{RunShape}
-use Rattle.net_extractor.specs.Contacts.{ArePlacesBelow, IsJoinedAt, IsJoinedTo, SharesAreaAt, SharesAreaTo}
+use Rattle.net_extractor.specs.Contacts.{AreInContact, ArePlacesBelow, IsInContactAt, IsInContactTo}
+use Rattle.net_extractor.specs.Marks.{IsPairBetween}
 use Rattle.net_extractor.specs.NetRoots.{IsTouchPair}
-use Rattle.net_extractor.specs.RunPairs.{IsCutPairOf, IsLayerPairOf, IsListedPair, IsOverPairOf}
+use Rattle.net_extractor.specs.RunPairs.{IsContactPairOf, IsCutPairOf, IsLayerPairOf, IsListedPair, IsOverPairOf, IsRunPair}
 use Rattle.net_extractor.specs.Runs.{AreOfRun, HasPlace, IsNearRun}
 
 -- the list has exactly the numbers that have P
@@ -38,31 +41,25 @@ all_added P none list e a =
       each = λ n p. subst (λ (l : List ℕ). Contains l n) (sym b.is) (b.each n p);
     }
 
--- what is joined with a rectangle in the hull, or shares area with one, meets the hull
-joined_near : (hull a b : Rect) → HoldsRect hull a → AreJoined a b → Meet b hull
-joined_near hull a b held j = record {
+-- what is in contact with a rectangle in the hull meets the hull
+contact_near : (contact : Contact) (hull a b : Rect) → HoldsRect hull a → AreInContact contact a b → Meet b hull
+contact_near Joined hull a b held j = record {
   left = omega (arith, ints, held.right, j.p_in_a.right, j.p_in_b.left);
   right = omega (arith, ints, held.left, j.p_in_a.left, j.p_in_b.right);
   low = omega (arith, ints, held.high, j.p_in_a.high, j.p_in_b.low);
   high = omega (arith, ints, held.low, j.p_in_a.low, j.p_in_b.high);
 }
-
-shared_near : (hull a b : Rect) → HoldsRect hull a → ShareArea a b → Meet b hull
-shared_near hull a b held s = record {
+contact_near Overlapping hull a b held s = record {
   left = omega (arith, ints, held.right, s.in_a.right, s.in_b.left);
   right = omega (arith, ints, held.left, s.in_a.left, s.in_b.right);
   low = omega (arith, ints, held.high, s.in_a.high, s.in_b.low);
   high = omega (arith, ints, held.low, s.in_a.low, s.in_b.high);
 }
 
--- what a query finds are places of shapes
-pub near_within : (shapes : List Shape) (layer : ℕ) (area : Rect) (places : List ℕ) → AreAll (IsNearShape shapes layer area) places → (place : ℕ) → Contains places place → place < length shapes
-near_within shapes layer area places near place h = let hit = near.only place h in slice_get_within shapes place hit.shape hit.there
-
 pub run_within : (shapes : List Shape) (run : NearRun) (own : List RunShape) (count : ℕ) → count ≡ length shapes → AreOfRun shapes run own → ArePlacesBelow count own
 run_within shapes run own count sized of shape h = let lt = slice_get_within shapes shape.place _ (of shape h).there in omega (arith, lt, sized)
 
-module _ (connections : List Connect) (shapes : List Shape) (run : NearRun) (own : List RunShape) (of : AreOfRun shapes run own) where
+module _ (shapes : List Shape) (run : NearRun) (own : List RunShape) (of : AreOfRun shapes run own) where
   -- a shape of the run as a shape of the list
   abbrev whole : RunShape → Shape
   whole o = record { layer = run.layer; rect = o.rect }
@@ -70,82 +67,69 @@ module _ (connections : List Connect) (shapes : List Shape) (run : NearRun) (own
   whole_at : (a : ℕ) (one : Shape) (p : HasPlace own a) → slice_get shapes a ≡ Some one → whole p.shape ≡ one
   whole_at a one p there = one_at shapes a (whole p.shape) one (subst (λ (k : ℕ). slice_get shapes k ≡ Some (whole p.shape)) p.is (of p.shape p.listed).there) there
 
-  pub layer_pair : (places : List ℕ) (place a b : ℕ) → AreAll (IsNearShape shapes run.layer run.hull) places → IsConductor connections run.layer → Contains places place → IsJoinedAt shapes own place a b → IsLayerPairOf connections shapes own a b
-  layer_pair places place a b near conductor h j =
+  whole_contact : (contact : Contact) (layer a b : ℕ) (h : IsContactPairOf shapes own contact layer a b) → AreInContact contact h.0.shape.rect h.1.other.rect
+  whole_contact contact layer a b h = subst (λ (s : Shape). AreInContact contact s.rect h.1.other.rect) (sym (whole_at a h.1.one h.0 h.1.first)) h.1.so.so
+
+  -- the second of a pair meets the hull
+  pub pair_hit : (contact : Contact) (layer a b : ℕ) → IsContactPairOf shapes own contact layer a b → IsHit shapes layer (Meets run.hull) b
+  pair_hit contact layer a b h = record {
+    shape = h.1.other;
+    there = h.1.second;
+    on = h.1.so.on;
+    fits = contact_near contact run.hull h.0.shape.rect h.1.other.rect (of h.0.shape h.0.listed).held (whole_contact contact layer a b h);
+  }
+
+  -- what is found between two positions makes the pairs of which the second stands there
+  pub contact_pair : (contact : Contact) (layer : ℕ) (places found : List ℕ) (first end place a b : ℕ) → AreAll (HasBetween (IsHit shapes layer (Meets run.hull)) places first end) found → Contains found place → IsInContactAt contact shapes own place a b
+      → IsPairBetween (IsContactPairOf shapes own contact layer) places first end a b
+  contact_pair contact layer places found first end place a b near h j =
       let hit = near.only place h in
-      let some = who_has (λ (o : RunShape). IsJoinedTo place j.shape.rect o a b) own j.some in
+      let some = who_has (λ (o : RunShape). IsInContactTo contact place j.shape.rect o a b) own j.some in
       let o = some.0 in
       let t = some.2 in
-      let first = t.pair.first in
-      let second = t.pair.second in
-      let before = t.lesser.before in
-      let same : hit.shape ≡ j.shape = one_at shapes place hit.shape j.shape hit.there j.there in (
-        record { shape = o; listed = some.1; is = sym first },
-        record {
-          before = omega (arith, first, second, before);
-          touch = record {
+      let same : hit.1.shape ≡ j.shape = one_at shapes place hit.1.shape j.shape hit.1.there j.there in (
+        (
+          record { shape = o; listed = some.1; is = sym t.pair.first },
+          record {
             one = whole o;
             other = j.shape;
-            first = subst (λ (k : ℕ). slice_get shapes k ≡ Some (whole o)) (sym first) (of o some.1).there;
-            second = subst (λ (k : ℕ). slice_get shapes k ≡ Some j.shape) (sym second) j.there;
-            so = record { one_layer = sym hit.on ∙ ap (λ (s : Shape). s.layer) same; conductor = conductor; joined = t.lesser.joined };
-          };
-        },
+            first = subst (λ (k : ℕ). slice_get shapes k ≡ Some (whole o)) (sym t.pair.first) (of o some.1).there;
+            second = subst (λ (k : ℕ). slice_get shapes k ≡ Some j.shape) (sym t.pair.second) j.there;
+            so = record { on = ap (λ (s : Shape). s.layer) (sym same) ∙ hit.1.on; so = t.so };
+          },
+        ),
+        subst (IsListedBetween places first end) (sym t.pair.second) hit.0,
       )
+
+  pub pair_contact : (contact : Contact) (layer : ℕ) (places found : List ℕ) (first end a b : ℕ) → AreAll (HasBetween (IsHit shapes layer (Meets run.hull)) places first end) found → IsPairBetween (IsContactPairOf shapes own contact layer) places first end a b
+      → SomeHas (λ (place : ℕ). IsInContactAt contact shapes own place a b) found
+  pair_contact contact layer places found first end a b near h =
+      let p = h.0.0 in
+      let t = h.0.1 in
+      some_has (λ (place : ℕ). IsInContactAt contact shapes own place a b) found b (near.each b (h.1, pair_hit contact layer a b h.0))
+      (record {
+        shape = t.other;
+        there = t.second;
+        some = some_has (λ (s : RunShape). IsInContactTo contact b t.other.rect s a b) own p.shape p.listed (record { so = whole_contact contact layer a b h.0; pair = record { first = sym p.is; second = refl } });
+      })
+
+module _ (connections : List Connect) (shapes : List Shape) (run : NearRun) (own : List RunShape) (of : AreOfRun shapes run own) where
+  -- what is joined on the run's layer, where that is a conductor
+  pub layer_pair : (a b : ℕ) → IsConductor connections run.layer → IsContactPairOf shapes own Joined run.layer a b → IsLayerPairOf connections shapes own a b
+  layer_pair a b conductor h =
+      let t = h.1 in
+      let on : t.one.layer ≡ run.layer = ap (λ (s : Shape). s.layer) (sym (whole_at shapes run own of a t.one h.0 t.first)) in
+      (h.0, record { one = t.one; other = t.other; first = t.first; second = t.second; so = record { one_layer = on ∙ sym t.so.on; conductor = subst (IsConductor connections) (sym on) conductor; joined = t.so.so } })
 
   -- the layer of a pair is a conductor
   pub conductor_of : (a b : ℕ) → IsLayerPairOf connections shapes own a b → IsConductor connections run.layer
-  conductor_of a b h = subst (λ (s : Shape). IsConductor connections s.layer) (sym (whole_at a h.1.touch.one h.0 h.1.touch.first)) h.1.touch.so.conductor
+  conductor_of a b h = subst (λ (s : Shape). IsConductor connections s.layer) (sym (whole_at shapes run own of a h.1.one h.0 h.1.first)) h.1.so.conductor
 
-  pub pair_joined : (places : List ℕ) (a b : ℕ) → AreAll (IsNearShape shapes run.layer run.hull) places → IsLayerPairOf connections shapes own a b → SomeHas (λ (place : ℕ). IsJoinedAt shapes own place a b) places
-  pair_joined places a b near h =
-      let p = h.0 in
-      let t = h.1.touch in
-      let before = h.1.before in
-      let is = p.is in
-      let o = p.shape in
-      let same = whole_at a t.one p t.first in
-      let joined : AreJoined o.rect t.other.rect = subst (λ (s : Shape). AreJoined s.rect t.other.rect) (sym same) t.so.joined in
-      let on : t.other.layer ≡ run.layer = sym t.so.one_layer ∙ ap (λ (s : Shape). s.layer) (sym same) in
-      let hit : IsNearShape shapes run.layer run.hull b = record { shape = t.other; there = t.second; on = on; fits = joined_near run.hull o.rect t.other.rect (of o p.listed).held joined } in
-      some_has (λ (place : ℕ). IsJoinedAt shapes own place a b) places b (near.each b hit)
-      (record {
-        shape = t.other;
-        there = t.second;
-        some = some_has (λ (s : RunShape). IsJoinedTo b t.other.rect s a b) own o p.listed (record { lesser = record { before = omega (arith, before, is); joined = joined }; pair = record { first = sym is; second = refl } });
-      })
-
-  pub over_pair : (layer : ℕ) (places : List ℕ) (place a b : ℕ) → AreAll (IsNearShape shapes layer run.hull) places → Contains places place → SharesAreaAt shapes own place a b → IsOverPairOf shapes own layer a b
-  over_pair layer places place a b near h j =
-      let hit = near.only place h in
-      let some = who_has (λ (o : RunShape). SharesAreaTo place j.shape.rect o a b) own j.some in
-      let o = some.0 in
-      let t = some.2 in
-      let same : hit.shape ≡ j.shape = one_at shapes place hit.shape j.shape hit.there j.there in (
-        record { shape = o; listed = some.1; is = sym t.pair.first },
-        record {
-          one = whole o;
-          other = j.shape;
-          first = subst (λ (k : ℕ). slice_get shapes k ≡ Some (whole o)) (sym t.pair.first) (of o some.1).there;
-          second = subst (λ (k : ℕ). slice_get shapes k ≡ Some j.shape) (sym t.pair.second) j.there;
-          so = record { on = ap (λ (s : Shape). s.layer) (sym same) ∙ hit.on; area = t.over };
-        },
-      )
-
-  pub pair_over : (layer : ℕ) (places : List ℕ) (a b : ℕ) → AreAll (IsNearShape shapes layer run.hull) places → IsOverPairOf shapes own layer a b → SomeHas (λ (place : ℕ). SharesAreaAt shapes own place a b) places
-  pair_over layer places a b near h =
-      let p = h.0 in
+  pub pair_joined : (a b : ℕ) → IsLayerPairOf connections shapes own a b → IsContactPairOf shapes own Joined run.layer a b
+  pair_joined a b h =
       let t = h.1 in
-      let o = p.shape in
-      let same = whole_at a t.one p t.first in
-      let area : ShareArea o.rect t.other.rect = subst (λ (s : Shape). ShareArea s.rect t.other.rect) (sym same) t.so.area in
-      let hit : IsNearShape shapes layer run.hull b = record { shape = t.other; there = t.second; on = t.so.on; fits = shared_near run.hull o.rect t.other.rect (of o p.listed).held area } in
-      some_has (λ (place : ℕ). SharesAreaAt shapes own place a b) places b (near.each b hit)
-      (record {
-        shape = t.other;
-        there = t.second;
-        some = some_has (λ (s : RunShape). SharesAreaTo b t.other.rect s a b) own o p.listed (record { over = area; pair = record { first = sym p.is; second = refl } });
-      })
+      let on : t.one.layer ≡ run.layer = ap (λ (s : Shape). s.layer) (sym (whole_at shapes run own of a t.one h.0 t.first)) in
+      (h.0, record { one = t.one; other = t.other; first = t.first; second = t.second; so = record { on = sym t.so.one_layer ∙ on; so = t.so.joined } })
 
   -- over the layers that the run's layer connects as a cut
   pub cut_pair : (layers : List ℕ) (a b : ℕ) → AreAll (IsCutTo connections run.layer) layers → SomeHas (λ (layer : ℕ). IsOverPairOf shapes own layer a b) layers → IsCutPairOf connections shapes own a b
@@ -153,25 +137,25 @@ module _ (connections : List Connect) (shapes : List Shape) (run : NearRun) (own
       let some = who_has (λ (layer : ℕ). IsOverPairOf shapes own layer a b) layers h in
       let p = some.2.0 in
       let t = some.2.1 in
-      let same = whole_at a t.one p t.first in
+      let same = whole_at shapes run own of a t.one p t.first in
       let to : IsCutTo connections t.one.layer some.0 = subst (λ (s : Shape). IsCutTo connections s.layer some.0) same (cuts.only some.0 some.1) in
-      (p, record { one = t.one; other = t.other; first = t.first; second = t.second; so = record { connects = subst (λ (l : ℕ). IsCutTo connections t.one.layer l) (sym t.so.on) to; area = t.so.area } })
+      (p, record { one = t.one; other = t.other; first = t.first; second = t.second; so = record { connects = subst (λ (l : ℕ). IsCutTo connections t.one.layer l) (sym t.so.on) to; area = t.so.so } })
 
   pub pair_cut : (layers : List ℕ) (a b : ℕ) → AreAll (IsCutTo connections run.layer) layers → IsCutPairOf connections shapes own a b → SomeHas (λ (layer : ℕ). IsOverPairOf shapes own layer a b) layers
   pair_cut layers a b cuts h =
       let p = h.0 in
       let t = h.1 in
-      let same = whole_at a t.one p t.first in
+      let same = whole_at shapes run own of a t.one p t.first in
       let to : IsCutTo connections run.layer t.other.layer = subst (λ (s : Shape). IsCutTo connections s.layer t.other.layer) (sym same) t.so.connects in
       some_has (λ (layer : ℕ). IsOverPairOf shapes own layer a b) layers t.other.layer (cuts.each t.other.layer to)
-      (p, record { one = t.one; other = t.other; first = t.first; second = t.second; so = record { on = refl; area = t.so.area } })
+      (p, record { one = t.one; other = t.other; first = t.first; second = t.second; so = record { on = refl; so = t.so.area } })
 
   -- on the layer or as a cut
-  pub touch_pair : (layers : List ℕ) (a b : ℕ) → AreAll (IsCutTo connections run.layer) layers → IsLayerPairOf connections shapes own a b ⊎ SomeHas (λ (layer : ℕ). IsOverPairOf shapes own layer a b) layers → HasPlace own a × IsTouchPair connections shapes a b
+  pub touch_pair : (layers : List ℕ) (a b : ℕ) → AreAll (IsCutTo connections run.layer) layers → IsLayerPairOf connections shapes own a b ⊎ SomeHas (λ (layer : ℕ). IsOverPairOf shapes own layer a b) layers → IsRunPair connections shapes own a b
   touch_pair layers a b cuts (inl on) = (on.0, inl on.1)
   touch_pair layers a b cuts (inr over) = let cut = cut_pair layers a b cuts over in (cut.0, inr cut.1)
 
-  pub pair_touch : (layers : List ℕ) (a b : ℕ) → AreAll (IsCutTo connections run.layer) layers → HasPlace own a × IsTouchPair connections shapes a b → IsLayerPairOf connections shapes own a b ⊎ SomeHas (λ (layer : ℕ). IsOverPairOf shapes own layer a b) layers
+  pub pair_touch : (layers : List ℕ) (a b : ℕ) → AreAll (IsCutTo connections run.layer) layers → IsRunPair connections shapes own a b → IsLayerPairOf connections shapes own a b ⊎ SomeHas (λ (layer : ℕ). IsOverPairOf shapes own layer a b) layers
   pair_touch layers a b cuts h = elim h.1 [
     | inl on ↦ inl (h.0, on)
     | inr cut ↦ inr (pair_cut layers a b cuts (h.0, cut))
@@ -179,7 +163,7 @@ module _ (connections : List Connect) (shapes : List Shape) (run : NearRun) (own
 
 -- the first of a pair is a place of a shape
 touch_within : (connections : List Connect) (shapes : List Shape) (a b : ℕ) → IsTouchPair connections shapes a b → a < length shapes
-touch_within connections shapes a b (inl l) = slice_get_within shapes a l.touch.one l.touch.first
+touch_within connections shapes a b (inl l) = slice_get_within shapes a l.one l.first
 touch_within connections shapes a b (inr c) = slice_get_within shapes a c.one c.first
 
 -- a position at which no place of a shape stands makes no pair
@@ -193,10 +177,10 @@ no_pair connections shapes order begin a b past h =
     let lt = touch_within connections shapes a b h.1 in
     absurd (omega (arith, past, is, lt))
 
-pub listed_pair : (connections : List Connect) (shapes : List Shape) (order : List ℕ) (begin : ℕ) (run : NearRun) (own : List RunShape) (a b : ℕ) → IsNearRun shapes order begin run own → HasPlace own a × IsTouchPair connections shapes a b → IsListedPair connections shapes order begin run.end a b
+pub listed_pair : (connections : List Connect) (shapes : List Shape) (order : List ℕ) (begin : ℕ) (run : NearRun) (own : List RunShape) (a b : ℕ) → IsNearRun shapes order begin run own → IsRunPair connections shapes own a b → IsListedPair connections shapes order begin run.end a b
 listed_pair connections shapes order begin run own a b r h = (subst (λ (k : ℕ). IsListedBetween order begin run.end k) h.0.is (r.placed h.0.shape h.0.listed), h.1)
 
-pub pair_listed : (connections : List Connect) (shapes : List Shape) (order : List ℕ) (begin : ℕ) (run : NearRun) (own : List RunShape) (a b : ℕ) → IsNearRun shapes order begin run own → IsListedPair connections shapes order begin run.end a b → HasPlace own a × IsTouchPair connections shapes a b
+pub pair_listed : (connections : List Connect) (shapes : List Shape) (order : List ℕ) (begin : ℕ) (run : NearRun) (own : List RunShape) (a b : ℕ) → IsNearRun shapes order begin run own → IsListedPair connections shapes order begin run.end a b → IsRunPair connections shapes own a b
 pair_listed connections shapes order begin run own a b r h = (r.each a h.0, h.1)
 
 -- a pair of what stands in the order up to one position, or from there up to another

@@ -2,7 +2,6 @@
 use Rattle.std.proofs.Common.{◌≡◌, inl, inr, ℕ, List, length, Some, refl, sym, ap, subst, ◌∙◌, arith}
 use Rattle.std.specs.Prelude.{slice_get, Contains}
 use Rattle.std.specs.List.Sorted.{IsStrictlySortedBy}
-use Rattle.std.proofs.lemmas.Bool.{cases_eq, cases_lt}
 use Rattle.std.proofs.lemmas.Option.{slice_get_within}
 use Rattle.or_geom.specs.declared.shape.Shape.{Shape}
 use Rattle.or_geom.specs.ShapeOrder.{shape_order}
@@ -13,7 +12,7 @@ use Rattle.tech_rules.specs.Touch.{Touch}
 use Rattle.tech_rules.proofs.LinkedLaws.{linked_carries}
 use Rattle.net_extractor.specs.NetRoots.{AreNetRoots, AreShapesAt, IsTouchPair}
 use Rattle.net_extractor.specs.Sets.{IsFalling, IsRootStep, Anywhere, AreTogether, AreSameSets, IsRootStepBy, JoinsSets, AreAlone, AreRootsOver}
-use Rattle.net_extractor.proofs.ExtractLaws.{layer_turned, touch_turned, distinct}
+use Rattle.net_extractor.proofs.ExtractLaws.{touch_turned, distinct}
 use Rattle.net_extractor.proofs.NetLaws.{net_of_itself, net_further}
 use Rattle.label_binding.proofs.PlaceLaws.{at_contained}
 use Rattle.net_extractor.proofs.SetLaws.{itself, further, backward, upward}
@@ -36,7 +35,7 @@ alone_same count above a b alone way = linked_carries Anywhere (IsRootStep above
 
 -- the shapes of a pair touch
 touch_at : (connections : List Connect) (shapes : List Shape) (a b : ℕ) → IsTouchPair connections shapes a b → AreShapesAt (Touch connections) shapes a b
-touch_at connections shapes a b (inl l) = record { one = l.touch.one; other = l.touch.other; first = l.touch.first; second = l.touch.second; so = inl l.touch.so }
+touch_at connections shapes a b (inl l) = record { one = l.one; other = l.other; first = l.first; second = l.second; so = inl l.so }
 touch_at connections shapes a b (inr c) = record { one = c.one; other = c.other; first = c.first; second = c.second; so = inr (inl c.so) }
 
 module _ (connections : List Connect) (shapes : List Shape) (alone now : List ℕ) (each_alone : AreAlone (length shapes) alone) (joins : JoinsSets (IsTouchPair connections shapes) alone now) where
@@ -77,13 +76,7 @@ module _ (connections : List Connect) (shapes : List Shape) (alone now : List �
 
   -- places of shapes that touch are together
   touch_together : (a b : ℕ) (s t : Shape) → slice_get shapes a ≡ Some s → slice_get shapes b ≡ Some t → Touch connections s t → AreTogether now a b
-  touch_together a b s t at_a at_b (inl layer) = elim (cases_lt a b) [
-    | inl lt ↦ joins.each a b (inl (record { before = lt; touch = record { one = s; other = t; first = at_a; second = at_b; so = layer } }))
-    | inr ge ↦ elim (cases_eq a b) [
-      | inl e ↦ subst (AreTogether now a) e (itself now a)
-      | inr ne ↦ backward now b a (joins.each b a (inl (record { before = omega (arith, ge, ne); touch = record { one = t; other = s; first = at_b; second = at_a; so = layer_turned connections s t layer } })))
-    ]
-  ]
+  touch_together a b s t at_a at_b (inl layer) = joins.each a b (inl (record { one = s; other = t; first = at_a; second = at_b; so = layer }))
   touch_together a b s t at_a at_b (inr (inl cut)) = joins.each a b (inr (record { one = s; other = t; first = at_a; second = at_b; so = cut }))
   touch_together a b s t at_a at_b (inr (inr cut)) = backward now b a (joins.each b a (inr (record { one = t; other = s; first = at_b; second = at_a; so = cut })))
 

@@ -8,6 +8,7 @@ pub mod NetRoots
 pub mod Runs
 pub mod Contacts
 pub mod RunPairs
+pub mod Marks
 pub mod Numbering
 pub mod Entries
 pub mod Difference

@@ -3,7 +3,7 @@ use Rattle.std.specs.Prelude.{◌≡◌, ◌↔◌, ◌⊎◌, ℕ, ◌<◌, Lis
 use Rattle.or_geom.specs.declared.shape.Shape.{Shape}
 use Rattle.tech_rules.specs.declared.tech.Connect.{Connect}
 use Rattle.tech_rules.specs.Net.{AreOnOneNet}
-use Rattle.tech_rules.specs.Touch.{ShareArea, TouchByCut, TouchOnLayer}
+use Rattle.tech_rules.specs.Touch.{TouchByCut, TouchOnLayer}
 
 -- Under these connections: for each shape, in order, the place of a shape. Two are equal exactly where the shapes are on
 -- one net.
@@ -20,10 +20,9 @@ pub record AreShapesAt (P : Shape → Shape → Type 0) (shapes : List Shape) (a
   pub second : slice_get shapes b ≡ Some other
   pub so : P one other
 
--- they touch on one layer, and the first place is the lesser
-pub record IsLayerPair (connections : List Connect) (shapes : List Shape) (a b : ℕ) : Type 0 where
-  pub before : a < b
-  pub touch : AreShapesAt (TouchOnLayer connections) shapes a b
+-- they touch on one layer
+abbrev pub IsLayerPair : List Connect → List Shape → ℕ → ℕ → Type 0
+IsLayerPair connections shapes a b = AreShapesAt (TouchOnLayer connections) shapes a b
 
 -- the first is on a cut layer and touches the other by it
 abbrev pub IsCutPair : List Connect → List Shape → ℕ → ℕ → Type 0
@@ -31,8 +30,3 @@ IsCutPair connections shapes a b = AreShapesAt (TouchByCut connections) shapes a
 
 abbrev pub IsTouchPair : List Connect → List Shape → ℕ → ℕ → Type 0
 IsTouchPair connections shapes a b = IsLayerPair connections shapes a b ⊎ IsCutPair connections shapes a b
-
--- the second is of the layer, and both share area
-pub record SharesAreaOn (layer : ℕ) (one other : Shape) : Type 0 where
-  pub on : other.layer ≡ layer
-  pub area : ShareArea one.rect other.rect

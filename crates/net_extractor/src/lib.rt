@@ -11,6 +11,7 @@ mod keys;
 mod label;
 mod laws;
 mod links;
+mod marks;
 mod net_numbers;
 mod nets;
 mod numbering;
@@ -19,6 +20,7 @@ mod roots;
 mod run;
 mod sets;
 mod strangers;
+mod walk;
 
 pub use comparison::compare;
 pub use difference::{NetDiff, PinName};

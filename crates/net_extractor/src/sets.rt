@@ -22,7 +22,7 @@ pub fn each_alone(alloc: Global, order: &[u32], count: usize) -> Result<Vec<u32>
 /// The root of the set that the place is in. The way to it is halved: what stands over a place on it is replaced by
 /// what stands over that, and so later ways are shorter.
 #[inline(always)]
-fn root(above: &mut [u32], place: usize) -> u32
+pub fn root(above: &mut [u32], place: usize) -> u32
     requires inside { place < length above.old }
     requires falls { IsFalling above.old }
     ensures { FindsRoot above.old place result above.new }
