@@ -10,7 +10,7 @@ use Rattle.shape_bins.specs.Nodes.{IsNodeNear, position_at}
 use Rattle.shape_bins.proofs.NodeLaws.{IsNodeAt}
 use Rattle.shape_bins.proofs.WalkLaws.{hit_between, near_none}
 use Rattle.net_extractor.specs.declared.walk.Search.{Search}
-use Rattle.net_extractor.specs.Marks.{AreMarkedSets, AreMarks, IsMarkedStep, IsPairBetween, IsRunWithNode, IsSearched, JoinsBetween, JoinsMarked}
+use Rattle.net_extractor.specs.Marks.{AreMarkedSets, AreNodeMarks, IsMarkedStep, IsPairBetween, IsRunWithNode, IsSearched, JoinsBetween, JoinsMarked}
 use Rattle.net_extractor.specs.Runs.{AreOfRun}
 use Rattle.net_extractor.specs.Sets.{IsFalling, AreTogether, AreSameSets, JoinsSets}
 use Rattle.net_extractor.proofs.JoinLaws.{alike_together, joins_as, joins_both, joins_none}
@@ -55,7 +55,7 @@ module _ (forest : Forest) (search : Search) (of : AreOfRun forest.shapes.now se
 
   module _ (at : ℕ) (node : Node) (n : IsNodeAt forest.shapes.now forest.places.now (length forest.shapes.now) forest.nodes.now at node) where
     -- a step over a node and all below it
-    pub step_behind : (old new : List ℕ) (marks : List Bool) → JoinsBetween forest search node.first node.end old new → AreMarks forest new marks → IsMarkedStep forest search at (at + node.size) old new marks
+    pub step_behind : (old new : List ℕ) (marks : List Bool) → JoinsBetween forest search node.first node.end old new → AreNodeMarks forest new marks → IsMarkedStep forest search at (at + node.size) old new marks
     step_behind old new marks joins m = record {
       further = omega (arith, n.counted);
       within = n.within;
@@ -65,21 +65,21 @@ module _ (forest : Forest) (search : Search) (of : AreOfRun forest.shapes.now se
     }
 
     -- over one below which nothing is near
-    pub step_passed : (above : List ℕ) (marks : List Bool) → (IsNodeNear search.layer (Meets search.run.hull) node → ⊥) → IsFalling above → AreMarks forest above marks → IsMarkedStep forest search at (at + node.size) above above marks
+    pub step_passed : (above : List ℕ) (marks : List Bool) → (IsNodeNear search.layer (Meets search.run.hull) node → ⊥) → IsFalling above → AreNodeMarks forest above marks → IsMarkedStep forest search at (at + node.size) above above marks
     step_passed above marks none falls m = step_behind above above marks
         (joins_none (IsPairBetween (IsSearched forest search) forest.places.now node.first node.end) above falls
         (λ a b h. near_none forest.shapes.now forest.places.now search.layer (Meets search.run.hull) node n.over none b (h.1, pair_hit forest.shapes.now search.run search.own.now of search.contact search.layer a b h.0)))
         m
 
     -- over one whose shapes are of the run's set
-    pub step_together : (old new : List ℕ) (marks : List Bool) → slice_get forest.nodes.now at ≡ Some node → AreSameSets old new → IsRunWithNode forest search.own.now new at → AreMarks forest new marks → IsMarkedStep forest search at (at + node.size) old new marks
+    pub step_together : (old new : List ℕ) (marks : List Bool) → slice_get forest.nodes.now at ≡ Some node → AreSameSets old new → IsRunWithNode forest search.own.now new at → AreNodeMarks forest new marks → IsMarkedStep forest search at (at + node.size) old new marks
     step_together old new marks is alike one m = step_behind old new marks
         (alike_together (IsPairBetween (IsSearched forest search) forest.places.now node.first node.end) old new alike
         (λ a b h. let p = h.0.0 in subst (λ (k : ℕ). AreTogether new k b) p.is (one node p.shape b is p.listed h.1)))
         m
 
     -- to the first node below it
-    pub step_inner : (old new : List ℕ) (marks : List Bool) → (node.size ≡ 1 → ⊥) → AreSameSets old new → AreMarks forest new marks → IsMarkedStep forest search at (at + 1) old new marks
+    pub step_inner : (old new : List ℕ) (marks : List Bool) → (node.size ≡ 1 → ⊥) → AreSameSets old new → AreNodeMarks forest new marks → IsMarkedStep forest search at (at + 1) old new marks
     step_inner old new marks many alike m =
         let inner = n.inner many in
         record {

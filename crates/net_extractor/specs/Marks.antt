@@ -11,8 +11,8 @@ use Rattle.net_extractor.specs.RunPairs.{IsContactPairOf}
 use Rattle.net_extractor.specs.Sets.{IsFalling, AreTogether, JoinsSets}
 
 -- what stands between the positions is of one set
-abbrev pub AreOneSet : List ℕ → List ℕ → ℕ → ℕ → Type 0
-AreOneSet places above first end = (a b : ℕ) → IsListedBetween places first end a → IsListedBetween places first end b → AreTogether above a b
+abbrev pub AreAllTogether : List ℕ → List ℕ → ℕ → ℕ → Type 0
+AreAllTogether places above first end = (a b : ℕ) → IsListedBetween places first end a → IsListedBetween places first end b → AreTogether above a b
 
 -- each of these places is together with the top
 abbrev pub AreWith : List ℕ → ℕ → List ℕ → ℕ → ℕ → Type 0
@@ -20,17 +20,17 @@ AreWith places top above first end = AllBetween (λ place. AreTogether above pla
 
 -- the shapes at and below the node at the index are of one set
 abbrev pub IsNodeOneSet : Forest → List ℕ → ℕ → Type 0
-IsNodeOneSet forest above at = (node : Node) → slice_get forest.nodes.now at ≡ Some node → AreOneSet forest.places.now above node.first node.end
+IsNodeOneSet forest above at = (node : Node) → slice_get forest.nodes.now at ≡ Some node → AreAllTogether forest.places.now above node.first node.end
 
 -- so it is unless the node is a leaf
 abbrev pub IsInnerOneSet : Forest → List ℕ → ℕ → Type 0
-IsInnerOneSet forest above at = (node : Node) → slice_get forest.nodes.now at ≡ Some node → (node.size ≡ 1 → ⊥) → AreOneSet forest.places.now above node.first node.end
+IsInnerOneSet forest above at = (node : Node) → slice_get forest.nodes.now at ≡ Some node → (node.size ≡ 1 → ⊥) → AreAllTogether forest.places.now above node.first node.end
 
 abbrev pub IsInnerWith : Forest → ℕ → List ℕ → ℕ → Type 0
 IsInnerWith forest top above at = (node : Node) → slice_get forest.nodes.now at ≡ Some node → (node.size ≡ 1 → ⊥) → AreWith forest.places.now top above node.first node.end
 
 -- a mark for each node, which only those have whose shapes are of one set
-pub record AreMarks (forest : Forest) (above : List ℕ) (marks : List Bool) : Type 0 where
+pub record AreNodeMarks (forest : Forest) (above : List ℕ) (marks : List Bool) : Type 0 where
   pub sized : length marks ≡ length forest.nodes.now
   pub each : (at : ℕ) → slice_index_or marks at false ≡ true → IsNodeOneSet forest above at
 
@@ -39,7 +39,7 @@ pub record AreMarkedSets (all : Forest) (above : List ℕ) (marks : List Bool) :
   pub forest : IsForest all
   pub sized : length above ≡ length all.shapes.now
   pub falls : IsFalling above
-  pub marked : AreMarks all above marks
+  pub marked : AreNodeMarks all above marks
 
 -- the first of the node's places is together with the top
 abbrev pub IsFirstWith : Forest → Node → List ℕ → ℕ → Type 0
@@ -74,9 +74,9 @@ pub record IsMarkedStep (forest : Forest) (search : Search) (at next : ℕ) (old
   pub further : at < next
   pub within : next ≤ length forest.nodes.now
   pub joins : JoinsBetween forest search (position_at (length forest.shapes.now) forest.nodes.now at) (position_at (length forest.shapes.now) forest.nodes.now next) old new
-  pub marked : AreMarks forest new marks
+  pub marked : AreNodeMarks forest new marks
 
 -- the sets of the places of which P holds were joined, and the marks are right after it
 pub record JoinsMarked (P : ℕ → ℕ → Type 0) (forest : Forest) (old new : List ℕ) (marks : List Bool) : Type 0 where
   pub joins : JoinsSets P old new
-  pub marked : AreMarks forest new marks
+  pub marked : AreNodeMarks forest new marks

@@ -1,7 +1,7 @@
 ghost use Rattle.std.specs.Prelude.{◌≡◌, ◌<◌, ◌^◌, ℕ, List, length, IsTrue, IfOk, IfSome};
 ghost use Rattle.shape_bins.specs.Nodes.{IsNodeOver};
 ghost use Rattle.net_extractor.specs.Contacts.{ArePlacesBelow};
-ghost use Rattle.net_extractor.specs.Marks.{AreMarkedSets, AreMarks, AreOneSet, AreRunWith, AreWith, IsFirstWith};
+ghost use Rattle.net_extractor.specs.Marks.{AreMarkedSets, AreNodeMarks, AreAllTogether, AreRunWith, AreWith, IsFirstWith};
 ghost use Rattle.net_extractor.specs.Marks.{IsInnerOneSet, IsInnerWith, IsNodeOneSet, IsRunWithFirst, IsRunWithNode};
 ghost use Rattle.net_extractor.specs.Sets.{AreSameSets, IsFalling};
 
@@ -13,7 +13,7 @@ use std::alloc::Global;
 
 /// No node has a mark yet.
 pub fn no_marks(alloc: Global, forest: Forest<'_>) -> Result<Vec<bool>, Memory>
-    ensures { IfOk result (λ marks. (above : List ℕ) → AreMarks forest.entry above marks.items) }
+    ensures { IfOk result (λ marks. (above : List ℕ) → AreNodeMarks forest.entry above marks.items) }
 {
     let marks = vec![in alloc; false; forest.nodes.len()]?;
     Ok(marks)
@@ -71,7 +71,7 @@ pub fn is_leaf_one_set(forest: Forest<'_>, leaf: Node, above: &mut [u32]) -> boo
     requires sized { length above.old ≡ length forest.shapes.now }
     requires falls { IsFalling above.old }
     ensures alike { AreSameSets above.old above.new }
-    ensures one { IsTrue result → AreOneSet forest.entry.places.now above.new leaf.first leaf.end }
+    ensures one { IsTrue result → AreAllTogether forest.entry.places.now above.new leaf.first leaf.end }
 {
     match first_root(forest, leaf, above) {
         Some(top) => is_leaf_with(forest, leaf, top, above),
@@ -133,7 +133,7 @@ fn is_marked(forest: Forest<'_>, at: usize, marks: &mut [bool], above: &mut [u32
     requires inside { at < length forest.nodes.now }
     requires few { length forest.nodes.now < 2 ^ 64 }
     ensures alike { AreSameSets above.old above.new }
-    ensures marks { AreMarks forest.entry above.new marks.new }
+    ensures marks { AreNodeMarks forest.entry above.new marks.new }
     ensures one { IsTrue result → IsNodeOneSet forest.entry above.new at }
 {
     if marks[at] {
@@ -176,7 +176,7 @@ pub fn is_one_set_with(
     requires few { length forest.nodes.now < 2 ^ 64 }
     requires run { ArePlacesBelow (length above.old) run.now }
     ensures alike { AreSameSets above.old above.new }
-    ensures marks { AreMarks forest.entry above.new marks.new }
+    ensures marks { AreNodeMarks forest.entry above.new marks.new }
     ensures one { IsTrue result → IsRunWithNode forest.entry run.now above.new at }
 {
     is_marked(forest, at, marks, above) && is_run_with_first(forest, forest.nodes[at], run, above)
