@@ -11,8 +11,8 @@ use leaf_tables::Kit;
 use macro_facts::{macros_are_whole, macros_have_rows, unused_names_are_free};
 use macro_maker::Assembler;
 use or_geom::Memory;
-use reply_lines::{Refusal, Reply};
 use quick_checks::quick_checks_suffice;
+use reply_lines::{Refusal, Reply};
 use std::alloc::Global;
 use std::thread::Threads;
 
