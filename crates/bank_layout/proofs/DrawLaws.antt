@@ -5,8 +5,8 @@ use Rattle.or_geom.specs.Adds.{Adds}
 use Rattle.or_geom.proofs.AddsLaws.{adds_both, adds_as, adds_one}
 use Rattle.or_geom.proofs.ListLaws.{below_or}
 use Rattle.tech_rules.specs.declared.tech.Wire.{Wire}
-use Rattle.tech_rules.specs.Drawing.{IsBox}
-use Rattle.tech_rules.proofs.DrawingLaws.{same_box}
+use Rattle.wire_drawing.specs.Drawing.{IsBox}
+use Rattle.wire_drawing.proofs.DrawingLaws.{same_box}
 use Rattle.macro_layout.specs.Stated.{IsShifted}
 use Rattle.bank_layout.specs.Outputs.{output_x, IsOutputAt, IsOutputBelow}
 

@@ -6,13 +6,13 @@ use Rattle.std.proofs.lemmas.Nat.{mul-le}
 use Rattle.or_geom.specs.declared.shape.Shape.{Shape}
 use Rattle.or_geom.specs.Distance.{IsNear}
 use Rattle.or_geom.proofs.GatheringLaws.{giver}
-use Rattle.tech_rules.specs.declared.route.Tap.{Tap}
+use Rattle.wire_drawing.specs.declared.route.Tap.{Tap}
 use Rattle.tech_rules.specs.declared.tech.Wire.{Wire}
-use Rattle.tech_rules.specs.Drawing.{IsBox, IsVia}
+use Rattle.wire_drawing.specs.Drawing.{IsBox, IsVia}
 use Rattle.tech_rules.specs.WireRules.{margin}
 use Rattle.tech_rules.specs.Facts.{AreSizes, IsWire}
 use Rattle.tech_rules.specs.declared.tech.Layer.{Layer}
-use Rattle.tech_rules.proofs.DrawingLaws.{twice_margin}
+use Rattle.wire_drawing.proofs.DrawingLaws.{twice_margin}
 use Rattle.tech_rules.proofs.WireLaws.{margin_positive}
 use Rattle.rail_bus.specs.Rails.{IsNearTap, AreNearTaps, AreOfRails, EndBeyondRails, AreTapped, AreRails, IsOfTap, IsRail}
 use Rattle.sram_netlist.specs.InstanceList.{tabulate}

@@ -9,7 +9,7 @@ use Rattle.or_geom.specs.Distance.{IsNear}
 use Rattle.or_geom.specs.Adds.{Adds}
 use Rattle.or_geom.specs.Gathering.{SomeGives}
 use Rattle.or_geom.proofs.GatheringLaws.{giver}
-use Rattle.tech_rules.specs.declared.route.Tap.{Tap}
+use Rattle.wire_drawing.specs.declared.route.Tap.{Tap}
 use Rattle.tech_rules.specs.declared.tech.Wire.{Wire}
 use Rattle.tech_rules.specs.Facts.{IsWire}
 use Rattle.channel_router.specs.declared.channel.Routed.{Routed}

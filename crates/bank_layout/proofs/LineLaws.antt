@@ -6,7 +6,7 @@ use Rattle.std.proofs.Math.Nat.{mul-le-mul_right, suc-mul}
 use Rattle.std.proofs.lemmas.Nat.{div-mul-add}
 use Rattle.or_geom.specs.declared.place.Place.{Place}
 use Rattle.or_geom.proofs.ListLaws.{contains_none, contains_cases, contains_later, contains_here}
-use Rattle.tech_rules.specs.declared.route.Tap.{Tap}
+use Rattle.wire_drawing.specs.declared.route.Tap.{Tap}
 use Rattle.sram_netlist.specs.Organization.{power_of_two, total_bits}
 use Rattle.sram_netlist.specs.Netlist.{low_bits, high_bits}
 use Rattle.sram_netlist.proofs.Bounds.{at_least}

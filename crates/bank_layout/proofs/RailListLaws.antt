@@ -10,7 +10,7 @@ use Rattle.or_geom.specs.declared.shape.Rect.{Rect}
 use Rattle.or_geom.specs.declared.place.Place.{Place}
 use Rattle.or_geom.proofs.ListLaws.{contains_none, contains_cases}
 use Rattle.cell_roles.specs.declared.role.Role.TheVariants.{Driver, Sense, Precharge}
-use Rattle.tech_rules.specs.declared.route.Tap.{Tap}
+use Rattle.wire_drawing.specs.declared.route.Tap.{Tap}
 use Rattle.tech_rules.specs.declared.tech.Wire.{Wire}
 use Rattle.channel_router.specs.declared.channel.Routed.{Routed}
 use Rattle.sram_netlist.specs.Organization.{Organization, bank_rows, columns_of, words_per_row}

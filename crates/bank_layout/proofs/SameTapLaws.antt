@@ -4,7 +4,7 @@ use Rattle.std.specs.Prelude.{◌+◌, slice_get}
 use Rattle.std.proofs.lemmas.Option.{same_Some}
 use Rattle.or_geom.specs.declared.shape.Point.{Point}
 use Rattle.cell_roles.specs.declared.role.Role.{Role}
-use Rattle.tech_rules.specs.declared.route.Tap.{Tap}
+use Rattle.wire_drawing.specs.declared.route.Tap.{Tap}
 use Rattle.tech_rules.specs.declared.tech.Wire.{Wire}
 use Rattle.sram_netlist.specs.Organization.{Organization, bank_rows}
 use Rattle.sram_netlist.specs.InstanceList.{tabulate, tabulate_lists}

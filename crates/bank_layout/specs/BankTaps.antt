@@ -4,10 +4,10 @@ use Rattle.or_geom.specs.declared.shape.Rect.{Rect}
 use Rattle.or_geom.specs.declared.shape.Shape.{Shape}
 use Rattle.cell_roles.specs.declared.role.Role.{Role}
 use Rattle.cell_roles.specs.declared.role.Role.TheVariants.{Precharge, Sense}
-use Rattle.tech_rules.specs.declared.route.Tap.{Tap}
+use Rattle.wire_drawing.specs.declared.route.Tap.{Tap}
 use Rattle.tech_rules.specs.declared.tech.Wire.{Wire}
-use Rattle.tech_rules.specs.Drawing.{pitch}
-use Rattle.tech_rules.specs.Spacing.{AreClose, AreFirstClose}
+use Rattle.wire_drawing.specs.Drawing.{pitch}
+use Rattle.wire_drawing.specs.Spacing.{AreClose, AreFirstClose}
 use Rattle.channel_router.specs.declared.channel.Routed.{Routed}
 use Rattle.channel_router.specs.Wires.{channel_height}
 use Rattle.rail_bus.specs.Rails.{tap_ys, AreRails}

@@ -10,7 +10,7 @@ use Rattle.macro_layout.specs.LayoutKit.{LayoutKit}
 use Rattle.macro_layout.specs.Places.{Floorplan, columns_x, bit_width}
 use Rattle.bank_layout.specs.BankTaps.{IsInCell, IsLeafPin}
 use Rattle.tech_rules.specs.declared.tech.Wire.{Wire}
-use Rattle.tech_rules.specs.Drawing.{IsBox}
+use Rattle.wire_drawing.specs.Drawing.{IsBox}
 
 -- where the output of a bit begins: the first at x, and each so many columns behind the one before, which are so wide
 abbrev pub output_x : ℤ → ℕ → ℕ → ℕ → ℤ

@@ -8,7 +8,7 @@ ghost use Rattle.bank_layout.specs.BankTaps.{IsInCell, IsLeafPin};
 use cell_roles::Role;
 use leaf_tables::{Kit, LeafPin, leaf_of};
 use or_geom::Place;
-use tech_rules::Tap;
+use wire_drawing::Tap;
 
 /// The pin at a place among the pins of the role's leaf.
 pub fn pin_of(kit: &Kit, role: Role, place: usize) -> &LeafPin

@@ -1,7 +1,7 @@
 ghost use Rattle.std.specs.Prelude.{◌<◌, ◌≤◌, ◌^◌, pos, ◌+ℤ◌, ◌<ℤ◌, OnOk, length, slice_index};
 ghost use Rattle.or_geom.specs.Adds.{Adds};
 ghost use Rattle.tech_rules.specs.Facts.{AreSizes};
-ghost use Rattle.tech_rules.specs.Drawing.{IsBox};
+ghost use Rattle.wire_drawing.specs.Drawing.{IsBox};
 ghost use Rattle.sram_netlist.specs.Organization.{IsWritten, inputs_of, words_per_row};
 ghost use Rattle.sram_netlist.specs.Numbers.{ArePlanNumbers};
 ghost use Rattle.sram_plan.specs.PlanNumbers.{numbers_of, organization};

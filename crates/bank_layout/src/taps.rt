@@ -25,7 +25,8 @@ use or_geom::{Memory, Orient, Place, Point};
 use row_decoder::taps as row_taps;
 use sram_plan::Plan;
 use std::alloc::Global;
-use tech_rules::{Tap, Wire};
+use tech_rules::Wire;
+use wire_drawing::Tap;
 
 /// The place of a cell of a column, at this height above the bank's lower edge.
 fn column_place(column: u32, sides: &LeafSides, floorplan: &FloorplanNumbers, y: i64) -> Place

@@ -8,7 +8,7 @@ use Rattle.or_geom.proofs.PlaceLaws.{same_rect}
 use Rattle.tech_rules.specs.declared.tech.Rule.{Rule}
 use Rattle.tech_rules.specs.declared.tech.Rule.TheVariants.{Space}
 use Rattle.tech_rules.specs.declared.tech.Wire.{Wire}
-use Rattle.tech_rules.specs.Drawing.{pitch}
+use Rattle.wire_drawing.specs.Drawing.{pitch}
 use Rattle.tile_checker.specs.Breaks.{BreaksSpace}
 use Rattle.cell_hierarchy.specs.FlatSet.{IsFlatShape}
 use Rattle.sram_netlist.specs.Organization.{Organization, power_of_two, banks_of}

@@ -10,7 +10,7 @@ use Rattle.or_geom.proofs.CoverLaws.{cell_among}
 use Rattle.shape_bins.specs.Layers.{rects_on}
 use Rattle.shape_bins.proofs.CoverLaws.{on_rects, shape_over, IsShapeOver}
 use Rattle.tech_rules.specs.declared.tech.Wire.{Wire}
-use Rattle.tech_rules.specs.Drawing.{pitch}
+use Rattle.wire_drawing.specs.Drawing.{pitch}
 use Rattle.cell_builder.specs.Flat.{IsShapeTaken}
 use Rattle.sram_netlist.specs.Organization.{Organization}
 use Rattle.sram_netlist.specs.BitCells.{BitCells}

@@ -8,7 +8,7 @@ use Rattle.or_geom.proofs.CoverLaws.{cell_among}
 use Rattle.shape_bins.specs.Layers.{rects_on}
 use Rattle.shape_bins.proofs.CoverLaws.{on_rects, shape_over, IsShapeOver}
 use Rattle.tech_rules.specs.declared.tech.Wire.{Wire}
-use Rattle.tech_rules.specs.Drawing.{pitch}
+use Rattle.wire_drawing.specs.Drawing.{pitch}
 use Rattle.tech_rules.specs.WireRules.{margin}
 use Rattle.tech_rules.proofs.WireLaws.{two_margins, margin_positive}
 use Rattle.sram_netlist.specs.Organization.{Organization}

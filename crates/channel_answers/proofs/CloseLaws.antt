@@ -8,8 +8,8 @@ use Rattle.std.proofs.lemmas.Int.{by_lt_z}
 use Rattle.std.proofs.lemmas.List.Sorted.{IsPermutation-sym}
 use Rattle.or_geom.proofs.ListLaws.{below_or}
 use Rattle.channel_answers.proofs.OrderLaws.{sorted_there}
-use Rattle.tech_rules.specs.Spacing.{AreClose, AreFirstClose}
-use Rattle.tech_rules.proofs.SpacingLaws.{AreApartBelow, close_permuted, first_close_at, first_permuted, none_close}
+use Rattle.wire_drawing.specs.Spacing.{AreClose, AreFirstClose}
+use Rattle.wire_drawing.proofs.SpacingLaws.{AreApartBelow, close_permuted, first_close_at, first_permuted, none_close}
 
 abbrev pub FirstCloseOrNone : ℤ → List ℤ → Type 0
 FirstCloseOrNone pitch xs = (AreClose pitch xs → ⊥) ⊎ ((x : ℤ) × (y : ℤ) × AreFirstClose pitch xs x y)

@@ -6,9 +6,9 @@ use Rattle.std.proofs.lemmas.Int.{ints, by_lt_z}
 use Rattle.std.proofs.lemmas.Option.{slice_get_within}
 use Rattle.or_geom.proofs.GatheringLaws.{giver, gives_some}
 use Rattle.or_geom.proofs.ListLaws.{contains_cases, contains_first, contains_later, contains_none, one_at}
-use Rattle.tech_rules.specs.declared.route.Tap.{Tap}
+use Rattle.wire_drawing.specs.declared.route.Tap.{Tap}
 use Rattle.tech_rules.specs.declared.tech.Wire.{Wire}
-use Rattle.tech_rules.specs.Drawing.{IsBox, IsVia}
+use Rattle.wire_drawing.specs.Drawing.{IsBox, IsVia}
 use Rattle.rail_bus.specs.Rails.{IsHighest, IsOfTap, IsRail, IsTapOf}
 use Rattle.channel_answers.specs.Answers.{RailsHaveShapes}
 use Rattle.channel_answers.proofs.ListedLaws.{Listed, listed_as, listed_below, listed_items, listed_none, listed_or, listed_within, times, times_is}

@@ -11,7 +11,7 @@ use Rattle.or_geom.specs.Distance.{IsNear}
 use Rattle.or_geom.specs.declared.shape.Shape.{Shape}
 use Rattle.or_geom.proofs.ListLaws.{contains_first, contains_later, contains_none, one_at}
 use Rattle.tech_rules.specs.declared.tech.Wire.{Wire}
-use Rattle.tech_rules.specs.Drawing.{IsBox, IsVia, pitch}
+use Rattle.wire_drawing.specs.Drawing.{IsBox, IsVia, pitch}
 use Rattle.tech_rules.specs.Facts.{AreSizes}
 use Rattle.channel_router.specs.declared.channel.Channel.{Channel}
 use Rattle.channel_router.specs.declared.channel.ChannelPin.{ChannelPin}

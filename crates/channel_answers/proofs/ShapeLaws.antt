@@ -12,9 +12,9 @@ use Rattle.or_geom.specs.ShapeOrder.{rect_order, shape_order}
 use Rattle.or_geom.proofs.PlaceLaws.{same_rect}
 use Rattle.or_geom.proofs.ShapeOrderLaws.{shape_total}
 use Rattle.tech_rules.specs.declared.tech.Wire.{Wire}
-use Rattle.tech_rules.specs.Drawing.{IsBox, IsVia}
+use Rattle.wire_drawing.specs.Drawing.{IsBox, IsVia}
 use Rattle.tech_rules.specs.WireRules.{margin}
-use Rattle.tech_rules.proofs.DrawingLaws.{same_box}
+use Rattle.wire_drawing.proofs.DrawingLaws.{same_box}
 use Rattle.channel_answers.proofs.ListedLaws.{Listed, ListedInOrder, listed_in_order, listed_none, listed_one, listed_within}
 
 equal_parts : (o p : Ordering) → ordering_then o p ≡ Equal → (o ≡ Equal) × (p ≡ Equal)

@@ -1,10 +1,10 @@
 -- What there is of any channel, of any numbers and of any rails.
 use Rattle.std.specs.Prelude.{◌≡◌, ◌⊎◌, ℕ, ◌≤◌, ◌+◌, ◌*◌, ◌^◌, ℤ, List, length}
 use Rattle.or_geom.specs.declared.shape.Shape.{Shape}
-use Rattle.tech_rules.specs.declared.route.Tap.{Tap}
+use Rattle.wire_drawing.specs.declared.route.Tap.{Tap}
 use Rattle.tech_rules.specs.declared.tech.Wire.{Wire}
 use Rattle.tech_rules.specs.Facts.{AreSizes}
-use Rattle.tech_rules.specs.Spacing.{AreClose, AreFirstClose}
+use Rattle.wire_drawing.specs.Spacing.{AreClose, AreFirstClose}
 use Rattle.channel_router.specs.declared.channel.Channel.{Channel}
 use Rattle.channel_router.specs.declared.channel.Interval.{Interval}
 use Rattle.channel_router.specs.declared.channel.Routed.{Routed}

@@ -13,12 +13,12 @@ use Rattle.or_geom.proofs.ListLaws.{contains_cases, contains_none, one_at}
 use Rattle.tech_rules.specs.declared.tech.Connect.{Connect}
 use Rattle.tech_rules.specs.declared.tech.Tech.{Tech}
 use Rattle.tech_rules.specs.declared.tech.Wire.{Wire}
-use Rattle.tech_rules.specs.Drawing.{IsVia, pitch}
+use Rattle.wire_drawing.specs.Drawing.{IsVia, pitch}
 use Rattle.tech_rules.specs.Facts.{AreSizes}
-use Rattle.tech_rules.specs.Spacing.{AreClose}
+use Rattle.wire_drawing.specs.Spacing.{AreClose}
 use Rattle.tech_rules.specs.Touch.{IsConductor, IsCutTo, Joins, Touch, TouchByCut}
 use Rattle.tech_rules.specs.WireRules.{margin}
-use Rattle.tech_rules.proofs.DrawingLaws.{twice_margin}
+use Rattle.wire_drawing.proofs.DrawingLaws.{twice_margin}
 use Rattle.channel_router.specs.declared.channel.Channel.{Channel}
 use Rattle.channel_router.specs.declared.channel.ChannelPin.{ChannelPin}
 use Rattle.channel_router.specs.declared.channel.Interval.{Interval}

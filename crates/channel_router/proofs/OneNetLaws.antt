@@ -9,13 +9,13 @@ use Rattle.or_geom.proofs.ListLaws.{contains_first, contains_later, one_at}
 use Rattle.tech_rules.specs.declared.tech.Connect.{Connect}
 use Rattle.tech_rules.specs.declared.tech.Tech.{Tech}
 use Rattle.tech_rules.specs.declared.tech.Wire.{Wire}
-use Rattle.tech_rules.specs.Drawing.{IsBox, IsVia}
+use Rattle.wire_drawing.specs.Drawing.{IsBox, IsVia}
 use Rattle.tech_rules.specs.Facts.{AreSizes}
 use Rattle.tech_rules.specs.Linked.{LeadsBy}
 use Rattle.tech_rules.specs.Net.{AreOnOneNet}
 use Rattle.tech_rules.specs.Touch.{IsCutTo, Joins, Touch, TouchByCut}
 use Rattle.tech_rules.specs.WireRules.{margin}
-use Rattle.tech_rules.proofs.DrawingLaws.{same_box, twice_margin}
+use Rattle.wire_drawing.proofs.DrawingLaws.{same_box, twice_margin}
 use Rattle.tech_rules.proofs.LinkedLaws.{leads_on}
 use Rattle.channel_router.specs.declared.channel.Channel.{Channel}
 use Rattle.channel_router.specs.declared.channel.Interval.{Interval}

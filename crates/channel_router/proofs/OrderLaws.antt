@@ -10,7 +10,7 @@ use Rattle.std.proofs.lemmas.List.{length-append}
 use Rattle.std.proofs.lemmas.List.Sorted.{length_permutation, Contains-permutation, IsPermutation-sym, sorted_far, ranks_by}
 use Rattle.std.proofs.lemmas.Option.{slice_get-get_or, slice_get_within, get_or_from_slice_get}
 use Rattle.or_geom.proofs.ListLaws.{below_or, contained_at, one_at}
-use Rattle.tech_rules.proofs.SpacingLaws.{two_permuted}
+use Rattle.wire_drawing.proofs.SpacingLaws.{two_permuted}
 use Rattle.channel_router.specs.declared.channel.Interval.{Interval}
 use Rattle.channel_router.specs.Order.{IsTakingOrder}
 use Rattle.channel_router.proofs.OccupiedLaws.{pair_cmp}

@@ -10,7 +10,7 @@ use Rattle.or_geom.proofs.AddsLaws.{adds_both}
 use Rattle.or_geom.proofs.GatheringLaws.{giver, gives_some}
 use Rattle.tech_rules.specs.declared.tech.Wire.{Wire}
 use Rattle.tech_rules.specs.Facts.{AreSizes}
-use Rattle.tech_rules.specs.Drawing.{pitch}
+use Rattle.wire_drawing.specs.Drawing.{pitch}
 use Rattle.channel_router.specs.declared.channel.Channel.{Channel}
 use Rattle.channel_router.specs.declared.channel.ChannelPin.{ChannelPin}
 use Rattle.channel_router.specs.declared.channel.Interval.{Interval}

@@ -8,9 +8,9 @@ use Rattle.or_geom.proofs.ListLaws.{below_or, one_at}
 use Rattle.or_geom.specs.Adds.{Adds}
 use Rattle.or_geom.proofs.AddsLaws.{adds_one, adds_both, adds_as}
 use Rattle.tech_rules.specs.declared.tech.Wire.{Wire}
-use Rattle.tech_rules.specs.Drawing.{LeavesRoom}
+use Rattle.wire_drawing.specs.Drawing.{LeavesRoom}
 use Rattle.tech_rules.specs.Facts.{AreSizes}
-use Rattle.tech_rules.proofs.DrawingLaws.{same_box}
+use Rattle.wire_drawing.proofs.DrawingLaws.{same_box}
 use Rattle.channel_router.specs.declared.channel.Interval.{Interval}
 use Rattle.channel_router.specs.Tracks.{HasTrack}
 use Rattle.channel_router.specs.Wires.{IsChannelHeight, IsTrunk, channel_height, track_y}

@@ -2,7 +2,7 @@
 use Rattle.std.specs.Prelude.{◌⊎◌, ℕ, ℤ, pos, ◌+ℤ◌, ◌*ℤ◌, ◌≤ℤ◌, List, Contains, slice_index}
 use Rattle.or_geom.specs.declared.shape.Shape.{Shape}
 use Rattle.tech_rules.specs.declared.tech.Wire.{Wire}
-use Rattle.tech_rules.specs.Drawing.{IsBox, IsVia, pitch}
+use Rattle.wire_drawing.specs.Drawing.{IsBox, IsVia, pitch}
 use Rattle.channel_router.specs.declared.channel.Channel.{Channel}
 use Rattle.channel_router.specs.declared.channel.Interval.{Interval}
 use Rattle.channel_router.specs.Channel.{IsPinOf}

@@ -1,14 +1,15 @@
 ghost use Rattle.std.specs.Prelude.{◌≡◌, IfOk, IfErr, OnOk};
 ghost use Rattle.tech_rules.specs.Facts.{AreSizes};
-ghost use Rattle.tech_rules.specs.Drawing.{pitch};
-ghost use Rattle.tech_rules.specs.Spacing.{IsFirstClose};
+ghost use Rattle.wire_drawing.specs.Drawing.{pitch};
+ghost use Rattle.wire_drawing.specs.Spacing.{IsFirstClose};
 ghost use Rattle.channel_router.specs.Channel.{ArePinsNear, IsChannel};
 ghost use Rattle.channel_router.specs.Routed.{pin_xs, HasClosePins, IsRouteFault};
 
 use crate::channel::{Channel, ChannelPin};
 use or_geom::Memory;
 use std::alloc::{AllocError, Global};
-use tech_rules::{RouteFault, Wire, first_close};
+use tech_rules::Wire;
+use wire_drawing::{RouteFault, first_close};
 
 /// Refuses the first two pins of one side that are nearer to each other than the pitch, those of the top first.
 pub fn refuse_close_pins(alloc: Global, ch: &Channel, wire: &Wire) -> Result<(), RouteFault>

@@ -1,6 +1,6 @@
 ghost use Rattle.std.specs.Prelude.{◌≡◌, ◌≤◌, ℕ, List, length, IfOk, IfErr};
 ghost use Rattle.tech_rules.specs.Facts.{AreSizes};
-ghost use Rattle.tech_rules.specs.Drawing.{pitch};
+ghost use Rattle.wire_drawing.specs.Drawing.{pitch};
 ghost use Rattle.channel_router.specs.declared.channel.Interval.{Interval};
 ghost use Rattle.channel_router.specs.Apart.{AreChannelNets, AreSevenLayers};
 ghost use Rattle.channel_router.specs.Channel.{IsChannel};
@@ -17,7 +17,8 @@ use crate::intervals::intervals_of;
 use crate::wires::{add_bottom, add_top, add_trunks, channel_height};
 use or_geom::{Items, Memory, Shape};
 use std::alloc::Global;
-use tech_rules::{RouteFault, Wire};
+use tech_rules::Wire;
+use wire_drawing::RouteFault;
 
 /// Routes a channel. A net's interval runs from its least to its greatest x over pins and exits. Nets are taken by left
 /// end and then by number, and each gets the lowest track whose last interval ends at least a pitch before. On its

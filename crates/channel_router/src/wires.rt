@@ -11,7 +11,8 @@ ghost use Rattle.channel_router.specs.Placed.{IsTrunkBelow, IsOfTopPin, IsOfBott
 
 use crate::channel::{ChannelPin, Interval};
 use or_geom::{Memory, Rect, Shape};
-use tech_rules::{Wire, via};
+use tech_rules::Wire;
+use wire_drawing::via;
 
 /// So many pitches above a space.
 pub fn channel_height(wire: &Wire, tracks: u32) -> i64

@@ -5,8 +5,8 @@ use Rattle.std.proofs.lemmas.Bool.{cases_order}
 use Rattle.std.proofs.lemmas.Int.{ints}
 use Rattle.std.proofs.lemmas.Option.{same_Some, slice_get-get_or, slice_get-map}
 use Rattle.tech_rules.specs.declared.tech.Wire.{Wire}
-use Rattle.tech_rules.specs.Drawing.{pitch}
-use Rattle.tech_rules.specs.Spacing.{AreClose}
+use Rattle.wire_drawing.specs.Drawing.{pitch}
+use Rattle.wire_drawing.specs.Spacing.{AreClose}
 use Rattle.channel_router.specs.declared.channel.ChannelPin.{ChannelPin}
 use Rattle.channel_router.specs.Routed.{pin_xs}
 use Rattle.channel_router.proofs.TrackLaws.{cases_int}

@@ -9,7 +9,7 @@ use Rattle.or_geom.specs.Place.{placed, IsImage}
 use Rattle.cell_roles.specs.declared.role.Role.{Role}
 use Rattle.cell_roles.specs.declared.role.Role.TheVariants.{Sense, Write, Mux, Tie, Inv}
 use Rattle.tech_rules.specs.declared.tech.Wire.{Wire}
-use Rattle.tech_rules.specs.Drawing.{IsBox}
+use Rattle.wire_drawing.specs.Drawing.{IsBox}
 use Rattle.channel_router.specs.Wires.{IsOfNet, IsWireOf, channel_height, track_y}
 use Rattle.sram_netlist.specs.Organization.{Organization, IsBuildable, banks_of, words_per_row}
 use Rattle.sram_netlist.specs.Nets.{Net}

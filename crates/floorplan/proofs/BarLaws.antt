@@ -6,8 +6,8 @@ use Rattle.or_geom.specs.Adds.{Adds}
 use Rattle.or_geom.proofs.AddsLaws.{adds_both, adds_as, adds_none, adds_one}
 use Rattle.or_geom.proofs.ListLaws.{below_or}
 use Rattle.tech_rules.specs.declared.tech.Wire.{Wire}
-use Rattle.tech_rules.specs.Drawing.{IsBox, IsVia}
-use Rattle.tech_rules.proofs.DrawingLaws.{same_box}
+use Rattle.wire_drawing.specs.Drawing.{IsBox, IsVia}
+use Rattle.wire_drawing.proofs.DrawingLaws.{same_box}
 use Rattle.macro_layout.specs.Wires.{IsBar}
 use Rattle.floorplan.specs.Bars.{IsBarOfRow, IsRowBar}
 

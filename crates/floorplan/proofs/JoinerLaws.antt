@@ -4,7 +4,7 @@ use Rattle.std.proofs.lemmas.Int.{ints, to_z-of_z}
 use Rattle.or_geom.specs.declared.shape.Shape.{Shape}
 use Rattle.or_geom.specs.Adds.{Adds}
 use Rattle.or_geom.proofs.AddsLaws.{adds_both, adds_as, adds_none}
-use Rattle.tech_rules.specs.Drawing.{IsBox}
+use Rattle.wire_drawing.specs.Drawing.{IsBox}
 use Rattle.sram_netlist.specs.Numbers.{PlanNumbers, ArePlanNumbers}
 use Rattle.port_lists.proofs.NumberLaws.{words_are}
 use Rattle.port_lists.proofs.TabulateLaws.{some_lines}

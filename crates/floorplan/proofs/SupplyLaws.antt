@@ -2,7 +2,7 @@
 use Rattle.std.proofs.Common.{◌≡◌, ◌⊎◌, inl, inr, ℕ, ◌*◌, ◌<◌, ◌≤◌, ℤ, pos, ◌+ℤ◌, ◌-ℤ◌, ◌<ℤ◌, ◌≤ℤ◌, w64, to_z, of_z, List, refl, subst, arith}
 use Rattle.std.proofs.lemmas.Int.{ints}
 use Rattle.toml_keys.specs.Keys.{IsInRange}
-use Rattle.tech_rules.specs.Drawing.{LeavesRoom}
+use Rattle.wire_drawing.specs.Drawing.{LeavesRoom}
 use Rattle.floorplan.specs.FloorplanNumbers.{IsUpTo, IsFloorplanLength}
 use Rattle.or_geom.specs.declared.shape.Shape.{Shape}
 use Rattle.or_geom.specs.Adds.{Adds}

@@ -1,14 +1,15 @@
 ghost use Rattle.std.specs.Prelude.{◌<◌, ◌≤◌, ◌%◌, ◌+ℤ◌, ◌<ℤ◌, OnOk, length};
 ghost use Rattle.or_geom.specs.Adds.{Adds};
 ghost use Rattle.tech_rules.specs.Facts.{AreSizes};
-ghost use Rattle.tech_rules.specs.Drawing.{IsBox, LeavesRoom};
+ghost use Rattle.wire_drawing.specs.Drawing.{IsBox, LeavesRoom};
 ghost use Rattle.macro_layout.specs.Wires.{IsBar};
 ghost use Rattle.floorplan.specs.FloorplanNumbers.{IsFloorplanLength};
 ghost use Rattle.floorplan.specs.Bars.{IsBarOfRow, IsRowBar};
 
 use crate::counts::extent;
 use or_geom::{Memory, Point, Rect, Shape};
-use tech_rules::{Wire, via};
+use tech_rules::Wire;
+use wire_drawing::via;
 
 /// Adds one shape.
 pub(crate) fn add_box(layer: u16, rect: Rect, shapes: &mut Vec<Shape>) -> Result<(), Memory>

@@ -1,7 +1,7 @@
 ghost use Rattle.std.specs.Prelude.{◌≡◌, ◌<◌, pos, ◌+ℤ◌, ◌<ℤ◌, OnOk, length, slice_index};
 ghost use Rattle.or_geom.specs.Adds.{Adds};
 ghost use Rattle.tech_rules.specs.Facts.{AreSizes};
-ghost use Rattle.tech_rules.specs.Drawing.{IsBox, LeavesRoom};
+ghost use Rattle.wire_drawing.specs.Drawing.{IsBox, LeavesRoom};
 ghost use Rattle.sram_plan.specs.PlanNumbers.{organization};
 ghost use Rattle.macro_layout.specs.LayoutKit.{LayoutKit};
 ghost use Rattle.macro_layout.specs.Wires.{IsPowerWire, IsGroundWire, trunk_x, ground_x};

@@ -7,7 +7,7 @@ use Rattle.or_geom.specs.Place.{placed, IsImage}
 use Rattle.cell_roles.specs.declared.role.Role.{Role}
 use Rattle.cell_roles.specs.declared.role.Role.TheVariants.{Bitcell, Precharge, Mux, Tie, Sense, Write, Driver, Inv}
 use Rattle.tech_rules.specs.declared.tech.Wire.{Wire}
-use Rattle.tech_rules.specs.Drawing.{pitch}
+use Rattle.wire_drawing.specs.Drawing.{pitch}
 use Rattle.tech_rules.specs.Facts.{AreSizes}
 use Rattle.cell_hierarchy.specs.FlatSet.{IsMoved}
 use Rattle.channel_router.specs.Wires.{channel_height}

@@ -6,7 +6,7 @@ use Rattle.or_geom.specs.declared.place.Place.{Place}
 use Rattle.cell_builder.specs.Flat.{IsShapeTaken}
 use Rattle.cell_roles.specs.declared.role.Role.TheVariants.{Bitcell, Precharge, Mux, Tie, Sense, Write, Driver, Inv, Dff, Nand2, Nand3}
 use Rattle.tech_rules.specs.declared.tech.Wire.{Wire}
-use Rattle.tech_rules.specs.Drawing.{pitch}
+use Rattle.wire_drawing.specs.Drawing.{pitch}
 use Rattle.sram_netlist.specs.Organization.{Organization, words_per_row}
 use Rattle.sram_netlist.specs.Instances.{LogicCell, LeafInstance, BitAt, NandAt, DriverAt, PrechargeAt, WriteAt, SenseAt, MuxAt, TieAt, LogicAt}
 use Rattle.sram_netlist.specs.Netlist.{role, row_gate}

@@ -9,7 +9,7 @@ use Rattle.or_geom.specs.Place.{placed, IsImage}
 use Rattle.shape_bins.specs.Meets.{Overlap}
 use Rattle.cell_roles.specs.declared.role.Role.{Role}
 use Rattle.tech_rules.specs.declared.tech.Wire.{Wire}
-use Rattle.tech_rules.specs.Drawing.{IsBox}
+use Rattle.wire_drawing.specs.Drawing.{IsBox}
 use Rattle.tile_checker.specs.Breaks.{IsGrown}
 use Rattle.sram_netlist.specs.Organization.{Organization, banks_of}
 use Rattle.sram_netlist.specs.Instances.{LeafInstance}

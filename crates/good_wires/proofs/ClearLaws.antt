@@ -10,7 +10,7 @@ use Rattle.or_geom.specs.declared.shape.Shape.{Shape}
 use Rattle.or_geom.specs.declared.place.Place.{Place}
 use Rattle.cell_roles.specs.declared.role.Role.TheVariants.{Inv}
 use Rattle.tech_rules.specs.declared.tech.Wire.{Wire}
-use Rattle.tech_rules.specs.Drawing.{IsVia, pitch}
+use Rattle.wire_drawing.specs.Drawing.{IsVia, pitch}
 use Rattle.tech_rules.proofs.WireLaws.{two_margins, margin_positive}
 use Rattle.shape_bins.specs.Meets.{Overlap}
 use Rattle.sram_netlist.specs.Organization.{Organization, banks_of, columns_of, words_per_row}

@@ -5,7 +5,7 @@ use Rattle.std.proofs.lemmas.Bool.{cases_lt, cases_eq}
 use Rattle.std.proofs.lemmas.Int.{ints}
 use Rattle.or_geom.specs.declared.shape.Shape.{Shape}
 use Rattle.tech_rules.specs.declared.tech.Wire.{Wire}
-use Rattle.tech_rules.specs.Drawing.{IsVia, pitch}
+use Rattle.wire_drawing.specs.Drawing.{IsVia, pitch}
 use Rattle.cell_roles.specs.declared.role.Role.TheVariants.{Inv}
 use Rattle.channel_router.specs.Wires.{IsOfNet, IsWireOf, channel_height, track_y}
 use Rattle.sram_netlist.specs.Organization.{Organization, columns_of}

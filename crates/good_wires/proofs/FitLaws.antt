@@ -3,7 +3,7 @@ use Rattle.std.proofs.Common.{◌≡◌, inl, inr, ℕ, ◌+◌, ◌*◌, ◌<�
 use Rattle.std.proofs.Math.Nat.{mul-le-mul_right}
 use Rattle.std.proofs.lemmas.Int.{ints}
 use Rattle.tech_rules.specs.declared.tech.Wire.{Wire}
-use Rattle.tech_rules.specs.Drawing.{pitch}
+use Rattle.wire_drawing.specs.Drawing.{pitch}
 use Rattle.cell_roles.specs.declared.role.Role.TheVariants.{Inv, Sense, Bitcell, Precharge}
 use Rattle.sram_netlist.specs.Organization.{Organization}
 use Rattle.macro_layout.specs.LayoutKit.{LayoutKit}

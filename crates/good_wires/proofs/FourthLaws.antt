@@ -7,7 +7,7 @@ use Rattle.or_geom.specs.declared.shape.Point.{Point}
 use Rattle.or_geom.specs.declared.shape.Shape.{Shape}
 use Rattle.or_geom.specs.Joined.{AreJoined}
 use Rattle.tech_rules.specs.declared.tech.Wire.{Wire}
-use Rattle.tech_rules.specs.Drawing.{IsBox, pitch}
+use Rattle.wire_drawing.specs.Drawing.{IsBox, pitch}
 use Rattle.cell_roles.specs.declared.role.Role.TheVariants.{Inv}
 use Rattle.channel_router.specs.Channel.{IsPinOf}
 use Rattle.channel_router.specs.Wires.{IsOfNet, IsWireOf, channel_height, track_y}

@@ -6,7 +6,7 @@ use Rattle.std.proofs.lemmas.Int.{ints}
 use Rattle.std.proofs.lemmas.List.Elements.{Contains-append_left, Contains-append_right}
 use Rattle.or_geom.specs.declared.shape.Shape.{Shape}
 use Rattle.tech_rules.specs.declared.tech.Wire.{Wire}
-use Rattle.tech_rules.specs.Drawing.{IsBox, IsVia}
+use Rattle.wire_drawing.specs.Drawing.{IsBox, IsVia}
 use Rattle.channel_router.specs.declared.channel.Channel.{Channel}
 use Rattle.channel_router.specs.Channel.{IsPinOf, places}
 use Rattle.channel_router.specs.Intervals.{IsIntervalOf}

@@ -10,7 +10,7 @@ use Rattle.or_geom.specs.declared.shape.Shape.{Shape}
 use Rattle.or_geom.proofs.ListLaws.{one_at}
 use Rattle.cell_roles.specs.declared.role.Role.TheVariants.{Inv}
 use Rattle.tech_rules.specs.declared.tech.Wire.{Wire}
-use Rattle.tech_rules.specs.Drawing.{IsBox, pitch}
+use Rattle.wire_drawing.specs.Drawing.{IsBox, pitch}
 use Rattle.channel_router.specs.declared.channel.Interval.{Interval}
 use Rattle.channel_router.specs.Channel.{IsPinOf, places}
 use Rattle.channel_router.specs.Tracks.{HasTrack}

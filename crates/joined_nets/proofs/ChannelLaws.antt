@@ -6,11 +6,11 @@ use Rattle.or_geom.proofs.ListLaws.{contains_cases, contains_first, contains_lat
 use Rattle.tech_rules.specs.declared.tech.Connect.{Connect}
 use Rattle.tech_rules.specs.declared.tech.Tech.{Tech}
 use Rattle.tech_rules.specs.declared.tech.Wire.{Wire}
-use Rattle.tech_rules.specs.Drawing.{pitch}
+use Rattle.wire_drawing.specs.Drawing.{pitch}
 use Rattle.tech_rules.specs.Facts.{AreSizes}
 use Rattle.tech_rules.specs.Touch.{IsConductor, IsCutTo, Touch, TouchByCut}
 use Rattle.tech_rules.specs.Net.{AreOnOneNet}
-use Rattle.tech_rules.specs.Spacing.{AreClose}
+use Rattle.wire_drawing.specs.Spacing.{AreClose}
 use Rattle.channel_router.specs.declared.channel.Channel.{Channel}
 use Rattle.channel_router.specs.declared.channel.Interval.{Interval}
 use Rattle.channel_router.specs.Apart.{wire_connects, AreSevenLayers}

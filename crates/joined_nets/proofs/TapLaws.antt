@@ -5,11 +5,11 @@ use Rattle.std.proofs.lemmas.Int.{ints}
 use Rattle.or_geom.specs.declared.shape.Shape.{Shape}
 use Rattle.tech_rules.specs.declared.tech.Connect.{Connect}
 use Rattle.tech_rules.specs.declared.tech.Wire.{Wire}
-use Rattle.tech_rules.specs.Drawing.{IsBox, IsVia}
+use Rattle.wire_drawing.specs.Drawing.{IsBox, IsVia}
 use Rattle.tech_rules.specs.Facts.{AreSizes}
 use Rattle.tech_rules.specs.Net.{AreOnOneNet}
 use Rattle.tech_rules.specs.WireRules.{margin}
-use Rattle.tech_rules.proofs.DrawingLaws.{twice_margin}
+use Rattle.wire_drawing.proofs.DrawingLaws.{twice_margin}
 use Rattle.good_nets.proofs.NetLaws.{net_of_itself, net_further}
 use Rattle.joined_nets.specs.Joints.{JoinsWires}
 use Rattle.joined_nets.proofs.SupplyLaws.{cell_in, cut_touches}

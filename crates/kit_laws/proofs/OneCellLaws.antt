@@ -15,7 +15,7 @@ use Rattle.leaf_shapes.specs.Demands.{PinDemand}
 use Rattle.kit_laws.specs.OneCell.{OutlinesAreUnique, LeafPinsAreUnique, PinFaultsAreUnique, PinFaultsExcludePins}
 use Rattle.leaf_shapes.specs.Pins.{CellDrawing, IsDemanded, IsMet, IsPinFor, AreLeafPins, IsFirstUnmet, FirstLacks, IsUnbound, IsOffLayer}
 use Rattle.label_binding.specs.declared.anchor.Anchor.{Anchor}
-use Rattle.tech_rules.specs.Drawing.{IsBox}
+use Rattle.wire_drawing.specs.Drawing.{IsBox}
 use Rattle.leaf_shapes.proofs.PlaceLaws.{at_contained, sorted_at}
 use Rattle.leaf_shapes.proofs.PinLaws.{exists_at, pin_meets}
 use Rattle.kit_laws.proofs.EachLaws.{one_first, one_list}

@@ -8,7 +8,7 @@ use Rattle.cell_roles.specs.declared.role.Role.{Role}
 use Rattle.cell_roles.specs.declared.role.Role.TheVariants.{Bitcell, Precharge, Mux, Tie, Sense, Write, RowNand2, RowNand3, Driver, Nand2, Nand3, Inv, Dff, Delay}
 use Rattle.cell_roles.specs.Roles.{role_ports}
 use Rattle.tech_rules.specs.declared.tech.Tech.{Tech}
-use Rattle.tech_rules.specs.Drawing.{IsBox}
+use Rattle.wire_drawing.specs.Drawing.{IsBox}
 use Rattle.tech_rules.specs.Facts.{AreSizes}
 use Rattle.tech_rules.specs.Net.{AreOnOneNet}
 use Rattle.cell_hierarchy.specs.Plain.{FlatLists}

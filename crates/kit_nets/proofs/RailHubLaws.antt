@@ -6,7 +6,7 @@ use Rattle.or_geom.specs.declared.shape.Shape.{Shape}
 use Rattle.or_geom.specs.declared.place.Place.{Place}
 use Rattle.cell_roles.specs.declared.role.Role.TheVariants.{Sense, Write}
 use Rattle.tech_rules.specs.declared.tech.Tech.{Tech}
-use Rattle.tech_rules.specs.Drawing.{IsBox, IsVia}
+use Rattle.wire_drawing.specs.Drawing.{IsBox, IsVia}
 use Rattle.tech_rules.specs.WireRules.{margin}
 use Rattle.tech_rules.specs.Facts.{AreSizes}
 use Rattle.tech_rules.specs.Net.{AreOnOneNet}

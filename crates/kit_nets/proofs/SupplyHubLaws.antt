@@ -5,7 +5,7 @@ use Rattle.std.proofs.lemmas.Int.{ints}
 use Rattle.or_geom.specs.declared.shape.Shape.{Shape}
 use Rattle.or_geom.specs.Joined.{AreJoined}
 use Rattle.tech_rules.specs.declared.tech.Tech.{Tech}
-use Rattle.tech_rules.specs.Drawing.{IsBox}
+use Rattle.wire_drawing.specs.Drawing.{IsBox}
 use Rattle.tech_rules.specs.WireRules.{margin}
 use Rattle.tech_rules.specs.Facts.{AreSizes}
 use Rattle.tech_rules.specs.Net.{AreOnOneNet}

@@ -8,10 +8,10 @@ use Rattle.gds_library.specs.declared.library.Library.{Library}
 use Rattle.netlist.specs.declared.deck.Deck.{Deck}
 use Rattle.cell_roles.specs.declared.role.Role.TheVariants.{Bitcell, Sense, Write}
 use Rattle.cell_roles.specs.Roles.{role_name}
-use Rattle.tech_rules.specs.declared.route.RouteFault.{RouteFault}
-use Rattle.tech_rules.specs.declared.route.RouteFault.TheVariants as route_fault
+use Rattle.wire_drawing.specs.declared.route.RouteFault.{RouteFault}
+use Rattle.wire_drawing.specs.declared.route.RouteFault.TheVariants as route_fault
 use Rattle.tech_rules.specs.declared.tech.Wire.{Wire}
-use Rattle.tech_rules.specs.Drawing.{pitch}
+use Rattle.wire_drawing.specs.Drawing.{pitch}
 use Rattle.tech_rules.specs.Facts.{AreSizes, IsWire}
 use Rattle.channel_router.specs.declared.channel.Channel.{Channel}
 use Rattle.channel_router.specs.declared.channel.Routed.{Routed}

@@ -1,8 +1,8 @@
 -- For a good kit and each plan, routing faults don't come, and a cell is too wide exactly by its width.
 use Rattle.std.proofs.Common.{◌≡◌, inl, inr, ℕ, ℤ, List, Some, sym, ap, subst, ◌∙◌, arith}
 use Rattle.std.proofs.lemmas.Option.{same_Some}
-use Rattle.tech_rules.specs.declared.route.RouteFault.{RouteFault}
-use Rattle.tech_rules.specs.declared.route.RouteFault.TheVariants as route_fault
+use Rattle.wire_drawing.specs.declared.route.RouteFault.{RouteFault}
+use Rattle.wire_drawing.specs.declared.route.RouteFault.TheVariants as route_fault
 use Rattle.tech_rules.specs.declared.tech.Wire.{Wire}
 use Rattle.sram_netlist.specs.Organization.{Organization}
 use Rattle.sram_plan.specs.declared.config.Config.{Config}

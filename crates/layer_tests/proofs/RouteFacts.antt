@@ -8,7 +8,7 @@ use Rattle.std.proofs.lemmas.List.Elements.{All-cons, All-nil}
 use Rattle.std.proofs.lemmas.Option.{same_Some}
 use Rattle.or_geom.specs.Distance.{IsNear}
 use Rattle.or_geom.proofs.ListLaws.{contains_cases, contains_first, contains_none}
-use Rattle.tech_rules.specs.declared.route.Tap.{Tap}
+use Rattle.wire_drawing.specs.declared.route.Tap.{Tap}
 use Rattle.channel_router.specs.declared.channel.ChannelPin.{ChannelPin}
 use Rattle.channel_router.specs.Apart.{AreSevenLayers}
 use Rattle.channel_router.specs.Channel.{AreInChannel, IsChannel, IsPinOf}

@@ -7,7 +7,8 @@ use or_geom::Items;
 use rail_bus::rails;
 use std::alloc::Global;
 use std::test::Fail;
-use tech_rules::{RouteFault, Tap, Wire};
+use tech_rules::Wire;
+use wire_drawing::{RouteFault, Tap};
 
 /// Wires of width 4 at a pitch of 8.
 const WIRE: Wire = Wire {

@@ -8,7 +8,7 @@ use Rattle.or_geom.specs.Covered.{HasCell, HasCellInSome}
 use Rattle.shape_bins.specs.Layers.{rects_on, IsCoveredBy}
 use Rattle.cell_roles.specs.declared.role.Role.TheVariants.{Inv}
 use Rattle.tech_rules.specs.declared.tech.Wire.{Wire}
-use Rattle.tech_rules.specs.Drawing.{IsVia, pitch}
+use Rattle.wire_drawing.specs.Drawing.{IsVia, pitch}
 use Rattle.tech_rules.proofs.WireLaws.{two_margins, margin_positive}
 use Rattle.sram_netlist.specs.Organization.{Organization}
 use Rattle.sram_netlist.specs.BitCells.{BitCells}

@@ -7,7 +7,7 @@ use Rattle.std.specs.declared.cmp.Ordering.TheVariants.{Equal}
 use Rattle.std.proofs.lemmas.Bool.{eq-eqb}
 use Rattle.or_geom.proofs.ShapeOrderLaws.{shape_eq, same_shape}
 use Rattle.or_geom.specs.declared.shape.Shape.{Shape}
-use Rattle.tech_rules.specs.Drawing.{IsBox}
+use Rattle.wire_drawing.specs.Drawing.{IsBox}
 use Rattle.tech_rules.specs.declared.tech.Wire.{Wire}
 use Rattle.leaf_shapes.specs.declared.fit.CellSize.{CellSize}
 use Rattle.leaf_shapes.specs.Outline.{IsOn, AreAll, IsAlone, IsCellOutline, LieInside}

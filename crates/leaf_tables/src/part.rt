@@ -1,5 +1,5 @@
 use or_geom::{Items, Memory, Name};
-use tech_rules::RouteFault;
+use wire_drawing::RouteFault;
 
 /// Where a net comes to an edge of a part: the left end of its shape there, in nanometres.
 #[derive(Debug, Drop)]

@@ -7,7 +7,7 @@ use Rattle.std.proofs.lemmas.Int.{ints}
 use Rattle.or_geom.specs.declared.shape.Shape.{Shape}
 use Rattle.or_geom.specs.Covered.{HasCell}
 use Rattle.tech_rules.specs.declared.tech.Wire.{Wire}
-use Rattle.tech_rules.specs.Drawing.{pitch}
+use Rattle.wire_drawing.specs.Drawing.{pitch}
 use Rattle.sram_netlist.specs.Organization.{Organization, power_of_two, columns_of, words_per_row}
 use Rattle.sram_netlist.specs.Instances.{PrechargeAt, SenseAt}
 use Rattle.macro_layout.specs.LayoutKit.{LayoutKit}

@@ -12,7 +12,7 @@ use Rattle.or_geom.specs.declared.shape.Shape.{Shape}
 use Rattle.or_geom.proofs.PlaceLaws.{same_rect}
 use Rattle.or_geom.proofs.GatheringLaws.{giver, gives_some}
 use Rattle.tech_rules.specs.declared.tech.Wire.{Wire}
-use Rattle.tech_rules.specs.Drawing.{IsBox}
+use Rattle.wire_drawing.specs.Drawing.{IsBox}
 use Rattle.channel_router.specs.declared.channel.Routed.{Routed}
 use Rattle.sram_netlist.specs.Organization.{IsBuildable, IsWritten, Organization, inputs_of, words_per_row}
 use Rattle.sram_netlist.specs.InstanceList.{tabulate}

@@ -14,7 +14,7 @@ use Rattle.sram_plan.specs.declared.numbers.Plan.{Plan}
 use Rattle.sram_plan.specs.PlanNumbers.{numbers_of, organization}
 use Rattle.leaf_tables.specs.declared.kit.Kit.{Kit}
 use Rattle.leaf_tables.specs.declared.part.PartFault.TheVariants as part_fault
-use Rattle.tech_rules.specs.declared.route.RouteFault.TheVariants as route_fault
+use Rattle.wire_drawing.specs.declared.route.RouteFault.TheVariants as route_fault
 use Rattle.leaf_tables.specs.Kits.{IsKit}
 use Rattle.macro_layout.specs.LayoutKit.{LayoutKit}
 use Rattle.floorplan.specs.LayoutOfKit.{layout_kit}

@@ -3,8 +3,8 @@ use Rattle.std.proofs.Common.{◌≡◌, ◌≢◌, ◌⊎◌, inl, inr, ℕ, �
 use Rattle.std.specs.declared.alloc.Global.{Global}
 use Rattle.std.specs.declared.vec.Vec.{Vec}
 use Rattle.tech_rules.specs.declared.tech.Wire.{Wire}
-use Rattle.tech_rules.specs.declared.route.RouteFault.{RouteFault}
-use Rattle.tech_rules.specs.declared.route.RouteFault.TheVariants as route_fault
+use Rattle.wire_drawing.specs.declared.route.RouteFault.{RouteFault}
+use Rattle.wire_drawing.specs.declared.route.RouteFault.TheVariants as route_fault
 use Rattle.tech_rules.specs.Facts.{IsWire}
 use Rattle.channel_router.specs.declared.channel.Routed.{Routed}
 use Rattle.sram_netlist.specs.Numbers.{ArePlanNumbers}

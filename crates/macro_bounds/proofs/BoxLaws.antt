@@ -10,7 +10,7 @@ use Rattle.or_geom.proofs.ListLaws.{contains_first, contains_later}
 use Rattle.tech_rules.specs.declared.tech.Layer.{Layer}
 use Rattle.tech_rules.specs.declared.tech.Wire.{Wire}
 use Rattle.tech_rules.specs.Facts.{IsWire, IsLayerIndex}
-use Rattle.tech_rules.specs.Drawing.{IsBox, IsVia}
+use Rattle.wire_drawing.specs.Drawing.{IsBox, IsVia}
 use Rattle.tech_rules.specs.WireRules.{margin}
 use Rattle.tech_rules.proofs.WireLaws.{two_margins, margin_positive}
 use Rattle.macro_bounds.specs.Near.{IsCoordinate, IsWireShape, IsSevenLayerWire, ListedShapesAreNear, GreaterBoundsHold, NearShapesHaveLayers}

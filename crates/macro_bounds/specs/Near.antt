@@ -2,10 +2,10 @@
 use Rattle.std.specs.Prelude.{◌≡◌, ◌⊎◌, ℕ, ◌^◌, ◌-◌, ◌<◌, ◌≤◌, ℤ, pos, ◌+ℤ◌, ◌≤ℤ◌, List, length, All, Contains}
 use Rattle.std.specs.List.{AllByRecursion}
 use Rattle.or_geom.specs.declared.shape.Shape.{Shape}
-use Rattle.tech_rules.specs.declared.route.Tap.{Tap}
+use Rattle.wire_drawing.specs.declared.route.Tap.{Tap}
 use Rattle.tech_rules.specs.declared.tech.Layer.{Layer}
 use Rattle.tech_rules.specs.declared.tech.Wire.{Wire}
-use Rattle.tech_rules.specs.Drawing.{pitch}
+use Rattle.wire_drawing.specs.Drawing.{pitch}
 use Rattle.tech_rules.specs.Facts.{AreSizes, IsWire}
 use Rattle.channel_router.specs.declared.channel.Channel.{Channel}
 use Rattle.channel_router.specs.declared.channel.ChannelPin.{ChannelPin}

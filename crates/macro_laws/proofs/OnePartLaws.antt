@@ -3,13 +3,13 @@ use Rattle.std.proofs.Common.{◌≡◌, ◌≢◌, ◌⊎◌, inl, inr, ℕ, �
 use Rattle.std.proofs.lemmas.Int.{ints}
 use Rattle.std.proofs.lemmas.Option.{same_Some}
 use Rattle.std.specs.Prelude.{IfSome}
-use Rattle.tech_rules.specs.declared.route.RouteFault.{RouteFault}
-use Rattle.tech_rules.specs.declared.route.RouteFault.TheVariants as route_fault
-use Rattle.tech_rules.specs.declared.route.Tap.{Tap}
+use Rattle.wire_drawing.specs.declared.route.RouteFault.{RouteFault}
+use Rattle.wire_drawing.specs.declared.route.RouteFault.TheVariants as route_fault
+use Rattle.wire_drawing.specs.declared.route.Tap.{Tap}
 use Rattle.tech_rules.specs.declared.tech.Wire.{Wire}
-use Rattle.tech_rules.specs.Drawing.{pitch}
+use Rattle.wire_drawing.specs.Drawing.{pitch}
 use Rattle.tech_rules.specs.Facts.{AreSizes, IsWire}
-use Rattle.tech_rules.specs.Spacing.{AreFirstClose}
+use Rattle.wire_drawing.specs.Spacing.{AreFirstClose}
 use Rattle.channel_router.specs.declared.channel.Channel.{Channel}
 use Rattle.channel_router.specs.declared.channel.Routed.{Routed}
 use Rattle.channel_router.specs.Routed.{HasClosePins, AreFirstClosePins}

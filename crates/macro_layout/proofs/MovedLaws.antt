@@ -5,7 +5,7 @@ use Rattle.std.proofs.lemmas.Option.{same_Some}
 use Rattle.std.specs.Prelude.{slice_get, slice_index}
 use Rattle.or_geom.specs.declared.shape.Shape.{Shape}
 use Rattle.tech_rules.specs.declared.tech.Wire.{Wire}
-use Rattle.tech_rules.specs.Drawing.{pitch, IsBox, IsVia}
+use Rattle.wire_drawing.specs.Drawing.{pitch, IsBox, IsVia}
 use Rattle.tech_rules.specs.WireRules.{margin}
 use Rattle.channel_router.specs.declared.channel.Channel.{Channel}
 use Rattle.channel_router.specs.declared.channel.ChannelPin.{ChannelPin}

@@ -5,9 +5,9 @@ use Rattle.std.specs.Prelude.{Contains, slice_get, slice_index}
 use Rattle.or_geom.specs.declared.shape.Shape.{Shape}
 use Rattle.or_geom.specs.Gathering.{SomeGives}
 use Rattle.or_geom.proofs.ListLaws.{contains_none, contains_cases, contains_first, contains_later}
-use Rattle.tech_rules.specs.declared.route.Tap.{Tap}
+use Rattle.wire_drawing.specs.declared.route.Tap.{Tap}
 use Rattle.tech_rules.specs.declared.tech.Wire.{Wire}
-use Rattle.tech_rules.specs.Drawing.{IsBox, IsVia}
+use Rattle.wire_drawing.specs.Drawing.{IsBox, IsVia}
 use Rattle.rail_bus.specs.Rails.{IsTapOf, IsOfTap, IsRail}
 use Rattle.sram_netlist.specs.Organization.{Organization}
 use Rattle.macro_layout.specs.LayoutKit.{LayoutKit}

@@ -3,7 +3,7 @@ use Rattle.std.specs.Prelude.{◌≡◌, ℕ, zero, suc, ◌+◌, ◌*◌, ℤ, 
 use Rattle.cell_roles.specs.declared.role.Role.{Role}
 use Rattle.cell_roles.specs.declared.role.Role.TheVariants.{Precharge, Mux, Tie, Sense, Write, Inv}
 use Rattle.tech_rules.specs.declared.tech.Wire.{Wire}
-use Rattle.tech_rules.specs.Drawing.{pitch}
+use Rattle.wire_drawing.specs.Drawing.{pitch}
 use Rattle.channel_router.specs.Wires.{channel_height}
 use Rattle.sram_netlist.specs.Organization.{Organization, power_of_two, bank_rows, columns_of, written_bits}
 use Rattle.macro_layout.specs.LayoutKit.{LayoutKit}

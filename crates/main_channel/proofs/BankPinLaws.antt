@@ -6,7 +6,7 @@ use Rattle.std.proofs.lemmas.Option.{same_Some, slice_get-map, slice_get-get_or,
 use Rattle.cell_roles.specs.declared.role.Role.{Role}
 use Rattle.cell_roles.specs.declared.role.Role.TheVariants.{Bitcell, Sense, Write}
 use Rattle.tech_rules.specs.declared.tech.Wire.{Wire}
-use Rattle.tech_rules.specs.Drawing.{pitch}
+use Rattle.wire_drawing.specs.Drawing.{pitch}
 use Rattle.channel_router.specs.declared.channel.ChannelPin.{ChannelPin}
 use Rattle.channel_router.specs.Channel.{IsPinOf}
 use Rattle.sram_netlist.specs.Organization.{Organization, IsBuildable, written_bits, inputs_of, words_per_row, banks_of}

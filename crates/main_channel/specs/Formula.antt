@@ -1,7 +1,7 @@
 -- The main channel by formula: each of its pins once, where a net meets it.
 use Rattle.std.specs.Prelude.{ℕ, ℤ, pos, List, Option, map, length}
 use Rattle.tech_rules.specs.declared.tech.Wire.{Wire}
-use Rattle.tech_rules.specs.Drawing.{pitch}
+use Rattle.wire_drawing.specs.Drawing.{pitch}
 use Rattle.cell_roles.specs.declared.role.Role.{Role}
 use Rattle.cell_roles.specs.declared.role.Role.TheVariants.{Inv}
 use Rattle.channel_router.specs.declared.channel.Channel.{Channel}

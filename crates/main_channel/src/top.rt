@@ -2,7 +2,7 @@ ghost use Rattle.std.specs.Prelude.{◌≡◌, ◌++◌, ◌-◌, ◌≤◌, ◌
 ghost use Rattle.std.specs.Prelude.{OnOk};
 ghost use Rattle.cell_roles.specs.declared.role.Role.TheVariants.{Sense};
 ghost use Rattle.tech_rules.specs.declared.tech.Wire.{Wire};
-ghost use Rattle.tech_rules.specs.Drawing.{pitch};
+ghost use Rattle.wire_drawing.specs.Drawing.{pitch};
 ghost use Rattle.leaf_tables.specs.Kits.{IsKit};
 ghost use Rattle.sram_netlist.specs.Names.{with_index};
 ghost use Rattle.sram_netlist.specs.InstanceList.{tabulate_lists};

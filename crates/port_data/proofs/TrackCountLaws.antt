@@ -1,7 +1,7 @@
 -- A routed channel has no more tracks than nets.
 use Rattle.std.proofs.Common.{suc, ◌≤◌, ℤ, Bool, true, false, cond, List, [], ◌∷◌, length, arith}
 use Rattle.tech_rules.specs.declared.tech.Wire.{Wire}
-use Rattle.tech_rules.specs.Drawing.{pitch}
+use Rattle.wire_drawing.specs.Drawing.{pitch}
 use Rattle.channel_router.specs.declared.channel.Channel.{Channel}
 use Rattle.channel_router.specs.declared.channel.Interval.{Interval}
 use Rattle.channel_router.specs.declared.channel.Routed.{Routed}

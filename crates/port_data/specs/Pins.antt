@@ -2,7 +2,7 @@
 use Rattle.std.specs.Prelude.{◌≡◌, ◌<◌, ◌≤◌, ℕ, zero, suc, ◌+◌, ◌*◌, ◌/◌, ◌%◌, ℤ, pos, ◌+ℤ◌, ◌-ℤ◌, ◌*ℤ◌, List, [], ◌∷◌, ◌++◌}
 use Rattle.cell_roles.specs.declared.role.Role.TheVariants.{Mux, Tie, Sense}
 use Rattle.tech_rules.specs.declared.tech.Wire.{Wire}
-use Rattle.tech_rules.specs.Drawing.{pitch}
+use Rattle.wire_drawing.specs.Drawing.{pitch}
 use Rattle.channel_router.specs.declared.channel.Channel.{Channel}
 use Rattle.channel_router.specs.declared.channel.ChannelPin.{ChannelPin}
 use Rattle.sram_netlist.specs.Organization.{Organization, words_per_row, columns_of}

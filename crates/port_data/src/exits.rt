@@ -4,7 +4,7 @@ ghost use Rattle.sram_netlist.specs.Numbers.{ArePlanNumbers};
 ghost use Rattle.sram_netlist.specs.InstanceList.{tabulate};
 ghost use Rattle.sram_plan.specs.PlanNumbers.{numbers_of, organization};
 ghost use Rattle.tech_rules.specs.Facts.{AreSizes};
-ghost use Rattle.tech_rules.specs.Drawing.{pitch};
+ghost use Rattle.wire_drawing.specs.Drawing.{pitch};
 ghost use Rattle.macro_layout.specs.Places.{drive_width};
 ghost use Rattle.floorplan.specs.LayoutOfKit.{layout_kit};
 ghost use Rattle.port_data.specs.Pins.{exit_at, IsDriveWidth};

@@ -13,10 +13,10 @@ use Rattle.or_geom.proofs.ListLaws.{contains_cases, contains_none, contains_firs
 use Rattle.or_geom.specs.Adds.{Adds}
 use Rattle.or_geom.specs.Gathering.{SomeGives}
 use Rattle.or_geom.proofs.AddsLaws.{adds_one, adds_both, adds_as}
-use Rattle.tech_rules.proofs.DrawingLaws.{same_box}
-use Rattle.tech_rules.specs.declared.route.Tap.{Tap}
+use Rattle.wire_drawing.proofs.DrawingLaws.{same_box}
+use Rattle.wire_drawing.specs.declared.route.Tap.{Tap}
 use Rattle.tech_rules.specs.declared.tech.Wire.{Wire}
-use Rattle.tech_rules.specs.Drawing.{IsBox, IsVia}
+use Rattle.wire_drawing.specs.Drawing.{IsBox, IsVia}
 use Rattle.rail_bus.specs.Rails.{AreNearTaps, AreRails, AreTapped, IsHighest, IsNearTap, IsOfTap, IsRail, IsTapOf, tap_ys}
 use Rattle.rail_bus.specs.Highest.{IsHighestAbove, AreHighestAbove, IsRailTo, IsRailBelow}
 

@@ -1,9 +1,9 @@
 -- The highest tap of each rail, above a lower end.
 use Rattle.std.specs.Prelude.{◌≡◌, ◌⊎◌, ℕ, ◌<◌, ℤ, ◌+ℤ◌, ◌≤ℤ◌, List, length, All, slice_get, slice_index, slice_index_or, Some}
 use Rattle.or_geom.specs.declared.shape.Shape.{Shape}
-use Rattle.tech_rules.specs.declared.route.Tap.{Tap}
+use Rattle.wire_drawing.specs.declared.route.Tap.{Tap}
 use Rattle.tech_rules.specs.declared.tech.Wire.{Wire}
-use Rattle.tech_rules.specs.Drawing.{IsBox}
+use Rattle.wire_drawing.specs.Drawing.{IsBox}
 use Rattle.rail_bus.specs.Rails.{IsTapOf}
 
 -- the lower end or the y of a tap of the rail, and no tap of it is higher

@@ -1,8 +1,8 @@
 ghost use Rattle.std.specs.Prelude.{◌≡◌, IfOk, IfErr, All};
 ghost use Rattle.or_geom.specs.Distance.{IsNear};
 ghost use Rattle.tech_rules.specs.Facts.{AreSizes};
-ghost use Rattle.tech_rules.specs.Drawing.{pitch};
-ghost use Rattle.tech_rules.specs.Spacing.{AreClose, IsFirstClose};
+ghost use Rattle.wire_drawing.specs.Drawing.{pitch};
+ghost use Rattle.wire_drawing.specs.Spacing.{AreClose, IsFirstClose};
 ghost use Rattle.rail_bus.specs.Rails.{tap_ys, AreNearTaps, AreOfRails, EndBeyondRails, AreTapped, AreRails};
 ghost use Rattle.rail_bus.specs.Rails.{IsTapFault};
 
@@ -10,7 +10,8 @@ use crate::highest::highest_taps;
 use crate::shapes::{add_rails, add_taps};
 use or_geom::{Memory, Shape};
 use std::alloc::{AllocError, Global};
-use tech_rules::{RouteFault, Tap, Wire, first_close};
+use tech_rules::Wire;
+use wire_drawing::{RouteFault, Tap, first_close};
 
 /// The wires of vertical rails that begin at `low`, one at each x, and of their taps. A tap is a wire on the third
 /// metal from its rail to its end, and a cut to the fourth metal. A rail stands on the fourth metal, up to its highest

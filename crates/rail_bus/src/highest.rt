@@ -3,7 +3,7 @@ ghost use Rattle.rail_bus.specs.Highest.{AreHighestAbove};
 
 use or_geom::Memory;
 use std::alloc::Global;
-use tech_rules::Tap;
+use wire_drawing::Tap;
 
 /// The y of each rail's highest tap, or `low` where it has none above.
 pub fn highest_taps(alloc: Global, low: i64, rails: usize, taps: &[Tap]) -> Result<Vec<i64>, Memory>

@@ -7,7 +7,8 @@ ghost use Rattle.rail_bus.specs.Rails.{AreNearTaps, AreOfRails, EndBeyondRails, 
 ghost use Rattle.rail_bus.specs.Highest.{AreFrom, IsRailBelow};
 
 use or_geom::{Memory, Rect, Shape};
-use tech_rules::{Tap, Wire, via};
+use tech_rules::Wire;
+use wire_drawing::{Tap, via};
 
 /// Adds the wires and cuts of the taps.
 pub fn add_taps(

@@ -4,7 +4,7 @@ use Rattle.std.proofs.lemmas.Int.{ints}
 use Rattle.cell_roles.specs.declared.role.Role.{Role}
 use Rattle.cell_roles.specs.declared.role.Role.TheVariants.{Bitcell, Mux, Tie, Sense}
 use Rattle.tech_rules.specs.declared.tech.Wire.{Wire}
-use Rattle.tech_rules.specs.Drawing.{pitch}
+use Rattle.wire_drawing.specs.Drawing.{pitch}
 use Rattle.channel_router.specs.declared.channel.ChannelPin.{ChannelPin}
 use Rattle.channel_router.specs.Routed.{pin_xs, HasClosePins}
 use Rattle.sram_netlist.specs.Organization.{Organization, words_per_row, columns_of, power_of_two}

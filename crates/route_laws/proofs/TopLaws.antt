@@ -6,7 +6,7 @@ use Rattle.cell_roles.specs.declared.role.Role.TheVariants.{Sense, Write}
 use Rattle.channel_router.specs.declared.channel.ChannelPin.{ChannelPin}
 use Rattle.channel_router.specs.Routed.{pin_xs}
 use Rattle.tech_rules.specs.declared.tech.Wire.{Wire}
-use Rattle.tech_rules.specs.Drawing.{pitch}
+use Rattle.wire_drawing.specs.Drawing.{pitch}
 use Rattle.tech_rules.specs.Facts.{AreSizes}
 use Rattle.sram_netlist.specs.Organization.{Organization, IsBuildable, IsWritten, words_per_row, banks_of, written_bits}
 use Rattle.sram_netlist.specs.Nets.{Net, Control, Wen, D, Dout, WenAt}

@@ -3,7 +3,7 @@ use Rattle.std.proofs.Common.{◌≡◌, ◌⊎◌, inl, inr, ℕ, ◌+◌, ◌/
 use Rattle.or_geom.specs.declared.shape.Point.{Point}
 use Rattle.or_geom.specs.declared.place.Place.{Place}
 use Rattle.or_geom.proofs.ListLaws.{rest_at}
-use Rattle.tech_rules.specs.declared.route.Tap.{Tap}
+use Rattle.wire_drawing.specs.declared.route.Tap.{Tap}
 use Rattle.sram_netlist.specs.Organization.{power_of_two, IsGroupSize}
 use Rattle.sram_netlist.specs.Netlist.{low_bits, high_bits, row_gate}
 use Rattle.sram_netlist.specs.InstanceList.{tabulate_lists}

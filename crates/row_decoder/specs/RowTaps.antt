@@ -6,7 +6,7 @@ use Rattle.or_geom.specs.declared.shape.Rect.{Rect}
 use Rattle.or_geom.specs.declared.place.Place.{Place}
 use Rattle.or_geom.specs.Place.{placed, low_corner, high_corner}
 use Rattle.cell_roles.specs.declared.role.Role.TheVariants.{Bitcell, Driver}
-use Rattle.tech_rules.specs.declared.route.Tap.{Tap}
+use Rattle.wire_drawing.specs.declared.route.Tap.{Tap}
 use Rattle.sram_netlist.specs.Organization.{Organization, power_of_two, bank_rows}
 use Rattle.sram_netlist.specs.Netlist.{low_bits, high_bits, row_gate}
 use Rattle.sram_netlist.specs.InstanceList.{tabulate_lists}

@@ -17,7 +17,7 @@ use or_geom::{Memory, Orient, Place, Point};
 use port_lists::{groups_of, lines_of, row_gate_role};
 use sram_plan::Plan;
 use std::alloc::Global;
-use tech_rules::Tap;
+use wire_drawing::Tap;
 
 /// The tap of a pin of a cell that stands at the place.
 fn pin_tap(rail: u32, place: Place, pin: &LeafPin) -> Tap

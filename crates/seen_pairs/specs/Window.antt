@@ -3,7 +3,7 @@ use Rattle.std.specs.Prelude.{ℕ, ◌<◌, ℤ, pos, ◌≤ℤ◌, ◌+ℤ◌, 
 use Rattle.or_geom.specs.declared.shape.Shape.{Shape}
 use Rattle.netlist.specs.declared.rows.RowPin.{RowPin}
 use Rattle.tech_rules.specs.declared.tech.Connect.{Connect}
-use Rattle.tech_rules.specs.Drawing.{pitch}
+use Rattle.wire_drawing.specs.Drawing.{pitch}
 use Rattle.cell_hierarchy.specs.Plain.{FlatLists}
 use Rattle.net_extractor.specs.PlainNetLabel.{PlainNetLabel}
 use Rattle.channel_router.specs.Tracks.{IsLowest}

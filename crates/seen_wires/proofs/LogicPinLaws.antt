@@ -11,7 +11,7 @@ use Rattle.or_geom.specs.Place.{placed, IsImage}
 use Rattle.cell_roles.specs.declared.role.Role.{Role}
 use Rattle.cell_roles.specs.declared.role.Role.TheVariants.{Inv, Dff}
 use Rattle.tech_rules.specs.declared.tech.Connect.{Connect}
-use Rattle.tech_rules.specs.Drawing.{IsBox, pitch}
+use Rattle.wire_drawing.specs.Drawing.{IsBox, pitch}
 use Rattle.sram_netlist.specs.Organization.{banks_of}
 use Rattle.sram_netlist.specs.Nets.{Net, Vdd, Gnd}
 use Rattle.sram_netlist.specs.Instances.{LogicCell, LeafInstance, LogicAt}

@@ -5,7 +5,7 @@ use Rattle.std.proofs.lemmas.Int.{ints}
 use Rattle.or_geom.specs.declared.shape.Shape.{Shape}
 use Rattle.cell_roles.specs.declared.role.Role.TheVariants.{Inv, Sense}
 use Rattle.tech_rules.specs.declared.tech.Connect.{Connect}
-use Rattle.tech_rules.specs.Drawing.{IsBox, IsVia}
+use Rattle.wire_drawing.specs.Drawing.{IsBox, IsVia}
 use Rattle.tech_rules.specs.WireRules.{margin}
 use Rattle.tech_rules.proofs.WireLaws.{margin_positive}
 use Rattle.sram_netlist.specs.Nets.{Net, Vdd, Gnd}

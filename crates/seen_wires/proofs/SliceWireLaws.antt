@@ -7,7 +7,7 @@ use Rattle.or_geom.specs.declared.shape.Rect.{Rect}
 use Rattle.or_geom.specs.declared.shape.Shape.{Shape}
 use Rattle.cell_roles.specs.declared.role.Role.TheVariants.{Sense}
 use Rattle.tech_rules.specs.declared.tech.Connect.{Connect}
-use Rattle.tech_rules.specs.Drawing.{IsBox, IsVia}
+use Rattle.wire_drawing.specs.Drawing.{IsBox, IsVia}
 use Rattle.tech_rules.specs.WireRules.{margin}
 use Rattle.tech_rules.proofs.WireLaws.{two_margins, margin_positive}
 use Rattle.channel_router.specs.Channel.{IsPinOf}

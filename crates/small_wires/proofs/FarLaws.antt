@@ -6,7 +6,7 @@ use Rattle.std.proofs.lemmas.Int.{ints, clamps}
 use Rattle.or_geom.specs.declared.shape.Rect.{Rect}
 use Rattle.cell_roles.specs.declared.role.Role.TheVariants.{Inv, Precharge, Write}
 use Rattle.tech_rules.specs.declared.tech.Connect.{Connect}
-use Rattle.tech_rules.specs.Drawing.{pitch}
+use Rattle.wire_drawing.specs.Drawing.{pitch}
 use Rattle.sram_netlist.specs.Organization.{banks_of, columns_of}
 use Rattle.sram_netlist.specs.InstanceList.{logic_cells}
 use Rattle.macro_layout.specs.Places.{Floorplan, bank_x, bit_width, drive_width, total_width}

@@ -5,7 +5,7 @@ use Rattle.std.specs.Int.{int_max}
 use Rattle.std.proofs.lemmas.Int.{ints, clamps}
 use Rattle.or_geom.specs.declared.shape.Shape.{Shape}
 use Rattle.tech_rules.specs.declared.tech.Connect.{Connect}
-use Rattle.tech_rules.specs.Drawing.{IsBox, pitch}
+use Rattle.wire_drawing.specs.Drawing.{IsBox, pitch}
 use Rattle.sram_netlist.specs.Organization.{banks_of, words_per_row}
 use Rattle.sram_netlist.specs.InstanceList.{logic_cells}
 use Rattle.sram_netlist.specs.Nets.{Net, Vdd, Gnd}

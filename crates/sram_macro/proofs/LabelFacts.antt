@@ -10,7 +10,7 @@ use Rattle.std.proofs.lemmas.Option.{slice_get-get_or}
 use Rattle.gds_library.specs.Writable.{IsText}
 use Rattle.tech_rules.specs.declared.tech.Layer.{Layer}
 use Rattle.tech_rules.specs.declared.tech.Wire.{Wire}
-use Rattle.tech_rules.specs.Drawing.{pitch}
+use Rattle.wire_drawing.specs.Drawing.{pitch}
 use Rattle.tech_rules.specs.Facts.{IsLayerIndex, IsWire}
 use Rattle.channel_router.specs.Wires.{channel_height}
 use Rattle.cell_builder.specs.declared.cell.PlacedLabel.{PlacedLabel}

@@ -5,15 +5,15 @@ use Rattle.std.proofs.lemmas.List.Elements.{Contains-append_left, Contains-appen
 use Rattle.or_geom.specs.Adds.{Adds}
 use Rattle.tech_rules.specs.declared.tech.Layer.{Layer}
 use Rattle.tech_rules.specs.declared.tech.Wire.{Wire}
-use Rattle.tech_rules.specs.declared.route.RouteFault.{RouteFault}
-use Rattle.tech_rules.specs.declared.route.RouteFault.TheVariants.{Close, TapsClose, Memory}
+use Rattle.wire_drawing.specs.declared.route.RouteFault.{RouteFault}
+use Rattle.wire_drawing.specs.declared.route.RouteFault.TheVariants.{Close, TapsClose, Memory}
 use Rattle.tech_rules.specs.Facts.{IsWire}
 use Rattle.channel_router.specs.declared.channel.Channel.{Channel}
 use Rattle.channel_router.specs.declared.channel.Interval.{Interval}
 use Rattle.channel_router.specs.declared.channel.Routed.{Routed}
 use Rattle.channel_router.specs.Intervals.{AreIntervals}
 use Rattle.channel_router.specs.Density.{IsDensity}
-use Rattle.tech_rules.specs.Drawing.{pitch}
+use Rattle.wire_drawing.specs.Drawing.{pitch}
 use Rattle.channel_router.specs.Routed.{HasClosePins, IsRouted, IsRouteFault}
 use Rattle.channel_router.specs.Wires.{channel_height}
 use Rattle.cell_roles.specs.declared.role.Role.TheVariants.{Inv, Sense}

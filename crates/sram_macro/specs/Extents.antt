@@ -1,7 +1,7 @@
 -- The ends of a macro.
 use Rattle.std.specs.Prelude.{◌≡◌, ◌+◌, ◌^◌, pos, ◌+ℤ◌, ◌*ℤ◌}
 use Rattle.tech_rules.specs.declared.tech.Wire.{Wire}
-use Rattle.tech_rules.specs.Drawing.{pitch}
+use Rattle.wire_drawing.specs.Drawing.{pitch}
 use Rattle.sram_netlist.specs.Organization.{Organization}
 use Rattle.macro_layout.specs.LayoutKit.{LayoutKit}
 use Rattle.macro_layout.specs.Places.{Floorplan}

@@ -4,8 +4,8 @@ use Rattle.std.specs.List.Sorted.{IsStrictlySortedBy}
 use Rattle.or_geom.specs.declared.shape.Shape.{Shape}
 use Rattle.or_geom.specs.ShapeOrder.{shape_order}
 use Rattle.tech_rules.specs.declared.tech.Wire.{Wire}
-use Rattle.tech_rules.specs.declared.route.RouteFault.{RouteFault}
-use Rattle.tech_rules.specs.declared.route.RouteFault.TheVariants as route_fault
+use Rattle.wire_drawing.specs.declared.route.RouteFault.{RouteFault}
+use Rattle.wire_drawing.specs.declared.route.RouteFault.TheVariants as route_fault
 use Rattle.channel_router.specs.declared.channel.Channel.{Channel}
 use Rattle.channel_router.specs.declared.channel.Interval.{Interval}
 use Rattle.channel_router.specs.declared.channel.Routed.{Routed}

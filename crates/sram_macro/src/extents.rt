@@ -1,7 +1,7 @@
 ghost use Rattle.std.specs.Prelude.{◌≡◌, ◌≤◌, ◌+◌, ◌^◌, pos, ◌+ℤ◌, ◌*ℤ◌, ◌≤ℤ◌};
 ghost use Rattle.std.specs.Int.{int_max};
 ghost use Rattle.tech_rules.specs.Facts.{AreSizes};
-ghost use Rattle.tech_rules.specs.Drawing.{pitch};
+ghost use Rattle.wire_drawing.specs.Drawing.{pitch};
 ghost use Rattle.sram_netlist.specs.InstanceList.{logic_cells};
 ghost use Rattle.sram_netlist.specs.Numbers.{ArePlanNumbers};
 ghost use Rattle.sram_plan.specs.PlanNumbers.{numbers_of, organization};

@@ -31,7 +31,8 @@ use main_channel::main_channel;
 use or_geom::{Memory, Shape};
 use sram_plan::Plan;
 use std::alloc::Global;
-use tech_rules::{RouteFault, Wire};
+use tech_rules::Wire;
+use wire_drawing::RouteFault;
 
 /// How a macro is laid out: the sides of its leaf cells, where its parts stand and where it ends, the wires of a bank
 /// from its lower edge, each once and in order, and the main channel.

@@ -6,7 +6,7 @@ use Rattle.std.proofs.lemmas.Int.{ints}
 use Rattle.or_geom.specs.declared.shape.Shape.{Shape}
 use Rattle.cell_roles.specs.declared.role.Role.TheVariants.{Write, Sense, Precharge}
 use Rattle.tech_rules.specs.declared.tech.Wire.{Wire}
-use Rattle.tech_rules.specs.Drawing.{IsBox, IsVia}
+use Rattle.wire_drawing.specs.Drawing.{IsBox, IsVia}
 use Rattle.tech_rules.specs.WireRules.{margin}
 use Rattle.channel_router.specs.declared.channel.Channel.{Channel}
 use Rattle.channel_router.specs.declared.channel.Interval.{Interval}

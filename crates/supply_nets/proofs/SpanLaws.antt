@@ -4,7 +4,7 @@ use Rattle.std.specs.Int.{int_max}
 use Rattle.std.proofs.lemmas.Int.{ints, clamps}
 use Rattle.or_geom.specs.declared.place.Place.{Place}
 use Rattle.cell_roles.specs.declared.role.Role.TheVariants.{Driver}
-use Rattle.tech_rules.specs.Drawing.{pitch}
+use Rattle.wire_drawing.specs.Drawing.{pitch}
 use Rattle.tech_rules.specs.Facts.{AreSizes}
 use Rattle.sram_netlist.specs.Organization.{columns_of, banks_of, words_per_row}
 use Rattle.sram_netlist.specs.Instances.{LogicCell, LogicAt}

@@ -9,7 +9,7 @@ use Rattle.or_geom.specs.Place.{placed, IsImage}
 use Rattle.cell_roles.specs.declared.role.Role.{Role}
 use Rattle.cell_roles.specs.declared.role.Role.TheVariants.{Write}
 use Rattle.tech_rules.specs.declared.tech.Wire.{Wire}
-use Rattle.tech_rules.specs.Drawing.{IsBox}
+use Rattle.wire_drawing.specs.Drawing.{IsBox}
 use Rattle.sram_netlist.specs.Organization.{Organization, banks_of, bank_rows, columns_of, words_per_row}
 use Rattle.sram_netlist.specs.Instances.{LeafInstance, NandAt, DriverAt, PrechargeAt, SenseAt}
 use Rattle.sram_netlist.specs.Nets.{Net}

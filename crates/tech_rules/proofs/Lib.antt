@@ -5,7 +5,5 @@ pub mod RuleFacts
 pub mod WireFacts
 pub mod DeviceFacts
 pub mod TechFacts
-pub mod SpacingLaws
-pub mod DrawingLaws
 pub mod WireLaws
 pub mod LinkedLaws

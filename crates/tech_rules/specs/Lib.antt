@@ -9,8 +9,6 @@ pub mod Roles
 pub mod Devices
 pub mod Facts
 pub mod Technology
-pub mod Drawing
-pub mod Spacing
 pub mod Touch
 pub mod Linked
 pub mod Net

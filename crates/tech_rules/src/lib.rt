@@ -8,7 +8,6 @@ mod layers;
 mod names;
 mod read;
 mod roles;
-mod route;
 mod rules;
 mod tech;
 mod wire_rules;
@@ -16,5 +15,5 @@ mod wires;
 
 pub use fault::TechFault;
 pub use read::read_tech;
-pub use route::{RouteFault, Tap, first_close, via};
 pub use tech::{Connect, Device, Layer, RoleName, RoleRows, Rule, Tech, Wire};
+pub use wire_rules::margin;

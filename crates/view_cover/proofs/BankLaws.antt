@@ -8,7 +8,7 @@ use Rattle.or_geom.specs.declared.place.Place.{Place}
 use Rattle.or_geom.specs.Place.{placed, IsImage}
 use Rattle.cell_roles.specs.declared.role.Role.TheVariants.{Precharge}
 use Rattle.tech_rules.specs.declared.tech.Wire.{Wire}
-use Rattle.tech_rules.specs.Drawing.{pitch, IsBox, IsVia}
+use Rattle.wire_drawing.specs.Drawing.{pitch, IsBox, IsVia}
 use Rattle.channel_router.specs.Wires.{track_y}
 use Rattle.sram_netlist.specs.Organization.{Organization}
 use Rattle.sram_netlist.specs.Nets.{Net}

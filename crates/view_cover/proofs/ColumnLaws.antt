@@ -8,7 +8,7 @@ use Rattle.or_geom.specs.declared.shape.Shape.{Shape}
 use Rattle.or_geom.specs.declared.place.Place.{Place}
 use Rattle.cell_roles.specs.declared.role.Role.TheVariants.{Mux, Tie, Sense}
 use Rattle.tech_rules.specs.declared.tech.Wire.{Wire}
-use Rattle.tech_rules.specs.Drawing.{pitch}
+use Rattle.wire_drawing.specs.Drawing.{pitch}
 use Rattle.channel_router.specs.declared.channel.Channel.{Channel}
 use Rattle.channel_router.specs.declared.channel.Interval.{Interval}
 use Rattle.channel_router.specs.Channel.{IsPinOf, places}

@@ -5,7 +5,7 @@ use Rattle.or_geom.specs.declared.shape.Rect.{Rect}
 use Rattle.or_geom.specs.declared.shape.Shape.{Shape}
 use Rattle.or_geom.specs.declared.place.Place.{Place}
 use Rattle.or_geom.specs.Place.{placed, IsImage}
-use Rattle.tech_rules.specs.Drawing.{IsBox}
+use Rattle.wire_drawing.specs.Drawing.{IsBox}
 use Rattle.macro_layout.specs.Places.{upright, mirrored_at}
 use Rattle.macro_layout.specs.Stated.{IsShifted}
 use Rattle.view_cover.specs.Bits.{LiesWithin, LiesInCell}

@@ -7,7 +7,7 @@ use Rattle.or_geom.specs.declared.shape.Rect.{Rect}
 use Rattle.or_geom.specs.declared.shape.Shape.{Shape}
 use Rattle.tech_rules.specs.declared.tech.Layer.{Layer}
 use Rattle.tech_rules.specs.declared.tech.Wire.{Wire}
-use Rattle.tech_rules.specs.Drawing.{pitch}
+use Rattle.wire_drawing.specs.Drawing.{pitch}
 use Rattle.cell_builder.specs.Flat.{IsShapeTaken}
 use Rattle.channel_router.specs.Apart.{AreSevenLayers}
 use Rattle.sram_netlist.specs.Organization.{Organization}

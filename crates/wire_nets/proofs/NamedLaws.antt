@@ -10,7 +10,7 @@ use Rattle.or_geom.specs.declared.place.Place.{Place}
 use Rattle.or_geom.specs.Place.{placed, IsImage}
 use Rattle.cell_roles.specs.declared.role.Role.TheVariants.{Sense}
 use Rattle.tech_rules.specs.declared.tech.Wire.{Wire}
-use Rattle.tech_rules.specs.Drawing.{pitch}
+use Rattle.wire_drawing.specs.Drawing.{pitch}
 use Rattle.channel_router.specs.declared.channel.Channel.{Channel}
 use Rattle.channel_router.specs.declared.channel.ChannelPin.{ChannelPin}
 use Rattle.channel_router.specs.Channel.{IsPinOf}

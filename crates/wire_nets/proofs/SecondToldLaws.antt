@@ -8,7 +8,7 @@ use Rattle.or_geom.specs.declared.shape.Shape.{Shape}
 use Rattle.or_geom.specs.declared.place.Place.{Place}
 use Rattle.or_geom.specs.Place.{placed, IsImage}
 use Rattle.tech_rules.specs.declared.tech.Wire.{Wire}
-use Rattle.tech_rules.specs.Drawing.{IsBox, pitch}
+use Rattle.wire_drawing.specs.Drawing.{IsBox, pitch}
 use Rattle.channel_router.specs.Wires.{IsOfNet, IsWireOf, channel_height, track_y}
 use Rattle.sram_netlist.specs.Organization.{Organization, banks_of}
 use Rattle.sram_netlist.specs.Instances.{LogicCell, LogicAt}

@@ -4,8 +4,8 @@ use Rattle.std.proofs.lemmas.Bool.{cases_lt}
 use Rattle.std.proofs.lemmas.List.Elements.{Contains-append_left, Contains-append_right, Contains-append_cases}
 use Rattle.or_geom.specs.declared.shape.Shape.{Shape}
 use Rattle.or_geom.proofs.ListLaws.{contains_none, contains_cases, contains_first, contains_later}
-use Rattle.tech_rules.specs.Drawing.{IsBox}
-use Rattle.tech_rules.proofs.DrawingLaws.{same_box}
+use Rattle.wire_drawing.specs.Drawing.{IsBox}
+use Rattle.wire_drawing.proofs.DrawingLaws.{same_box}
 use Rattle.kit_nets.proofs.ChannelDrawnLaws.{box_there}
 
 pub record IsListing (Holds : Shape → Type 0) : Type 0 where

@@ -7,7 +7,7 @@ use Rattle.or_geom.specs.declared.shape.Rect.{Rect}
 use Rattle.or_geom.specs.declared.shape.Shape.{Shape}
 use Rattle.or_geom.specs.Joined.{IsIn}
 use Rattle.tech_rules.specs.declared.tech.Tech.{Tech}
-use Rattle.tech_rules.specs.Drawing.{pitch}
+use Rattle.wire_drawing.specs.Drawing.{pitch}
 use Rattle.tech_rules.specs.Net.{AreOnOneNet}
 use Rattle.cell_hierarchy.specs.Plain.{FlatLists}
 use Rattle.channel_router.specs.Wires.{track_y}

@@ -6,7 +6,7 @@ use Rattle.or_geom.specs.declared.shape.Shape.{Shape}
 use Rattle.or_geom.specs.declared.place.Place.{Place}
 use Rattle.cell_roles.specs.declared.role.Role.TheVariants.{Sense, Write}
 use Rattle.tech_rules.specs.declared.tech.Tech.{Tech}
-use Rattle.tech_rules.specs.Drawing.{pitch}
+use Rattle.wire_drawing.specs.Drawing.{pitch}
 use Rattle.cell_hierarchy.specs.Plain.{FlatLists}
 use Rattle.sram_netlist.specs.Organization.{banks_of, words_per_row}
 use Rattle.sram_netlist.specs.Instances.{LeafInstance, BitAt, NandAt, DriverAt, PrechargeAt, WriteAt, SenseAt, MuxAt, TieAt, LogicAt}

@@ -5,11 +5,11 @@ use Rattle.std.proofs.lemmas.Int.{ints}
 use Rattle.or_geom.specs.declared.shape.Shape.{Shape}
 use Rattle.or_geom.specs.Covered.{HasCell}
 use Rattle.tech_rules.specs.declared.tech.Tech.{Tech}
-use Rattle.tech_rules.specs.Drawing.{IsBox}
+use Rattle.wire_drawing.specs.Drawing.{IsBox}
 use Rattle.tech_rules.specs.Net.{AreOnOneNet}
 use Rattle.tech_rules.specs.Touch.{IsCutTo, Touch, TouchByCut}
 use Rattle.tech_rules.specs.WireRules.{margin}
-use Rattle.tech_rules.proofs.DrawingLaws.{twice_margin}
+use Rattle.wire_drawing.proofs.DrawingLaws.{twice_margin}
 use Rattle.tech_rules.proofs.LinkedLaws.{linked_next}
 use Rattle.cell_hierarchy.specs.Plain.{FlatLists}
 use Rattle.sram_netlist.specs.Organization.{banks_of}

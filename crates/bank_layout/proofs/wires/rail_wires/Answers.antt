@@ -1,9 +1,9 @@
 -- The rails and their taps.
 use Rattle.std.proofs.Common.{◌≡◌, ℕ, ℤ, pos, List, ap, sym, subst, ◌∙◌, arith}
-use Rattle.tech_rules.specs.declared.route.Tap.{Tap}
+use Rattle.wire_drawing.specs.declared.route.Tap.{Tap}
 use Rattle.rail_bus.specs.Rails.{AreRails, tap_ys}
-use Rattle.tech_rules.specs.Drawing.{pitch}
-use Rattle.tech_rules.specs.Spacing.{AreClose}
+use Rattle.wire_drawing.specs.Drawing.{pitch}
+use Rattle.wire_drawing.specs.Spacing.{AreClose}
 use Rattle.sram_netlist.specs.InstanceList.{tabulate}
 use Rattle.sram_plan.specs.PlanNumbers.{organization}
 use Rattle.macro_layout.specs.Floorplan.{rail_count, rail_x}

@@ -2,8 +2,8 @@
 use Rattle.std.proofs.Common.{◌≡◌, ◌+ℤ◌, ℕ, ◌<◌, ℤ, List, length, get_or, w64, to_z, of_z, sym, subst, arith}
 use Rattle.std.proofs.lemmas.Int.{ints}
 use Rattle.or_geom.specs.Distance.{IsNear}
-use Rattle.tech_rules.specs.Drawing.{pitch}
-use Rattle.tech_rules.specs.Spacing.{IsFirstClose}
+use Rattle.wire_drawing.specs.Drawing.{pitch}
+use Rattle.wire_drawing.specs.Spacing.{IsFirstClose}
 use Rattle.channel_router.proofs.PinLaws.{near_xs}
 use Rattle.channel_router.proofs.close.close_pins.Goals as goal
 

@@ -7,8 +7,8 @@ use Rattle.std.proofs.lemmas.Option.{slice_get-get_or, get_or_from_slice_get}
 use Rattle.or_geom.specs.Distance.{IsNear}
 use Rattle.or_geom.proofs.ListLaws.{rest_at}
 use Rattle.or_geom.proofs.GatheringLaws.{gather_goes_on, gather_ends}
-use Rattle.tech_rules.specs.Drawing.{IsBox, IsVia}
-use Rattle.tech_rules.proofs.DrawingLaws.{same_box}
+use Rattle.wire_drawing.specs.Drawing.{IsBox, IsVia}
+use Rattle.wire_drawing.proofs.DrawingLaws.{same_box}
 use Rattle.channel_router.specs.declared.channel.ChannelPin.{ChannelPin}
 use Rattle.channel_router.specs.Wires.{channel_height, track_y}
 use Rattle.channel_router.proofs.WireLaws.{pin_adds, kept, y_is, y_above, x_above, room_at, room_near}

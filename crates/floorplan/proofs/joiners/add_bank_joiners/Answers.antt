@@ -4,7 +4,7 @@ use Rattle.std.specs.Prelude.{slice_index}
 use Rattle.std.proofs.lemmas.Int.{ints}
 use Rattle.or_geom.specs.declared.shape.Shape.{Shape}
 use Rattle.or_geom.specs.Adds.{Adds}
-use Rattle.tech_rules.specs.Drawing.{IsBox}
+use Rattle.wire_drawing.specs.Drawing.{IsBox}
 use Rattle.sram_netlist.specs.Organization.{IsWritten, columns_of}
 use Rattle.sram_plan.specs.PlanNumbers.{numbers_of, organization}
 use Rattle.port_lists.proofs.NumberLaws.{columns_are}

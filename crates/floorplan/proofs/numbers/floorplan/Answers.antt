@@ -1,7 +1,7 @@
 -- Rows and columns are at most 256.
 use Rattle.std.proofs.Common.{ℕ, ◌+◌, pos, ◌*ℤ◌, ap, ◌∙◌, arith}
 use Rattle.std.proofs.lemmas.Int.{ints}
-use Rattle.tech_rules.specs.Drawing.{pitch}
+use Rattle.wire_drawing.specs.Drawing.{pitch}
 use Rattle.sram_plan.specs.PlanNumbers.{numbers_of}
 use Rattle.port_lists.proofs.NumberLaws.{rows_are, columns_are}
 use Rattle.floorplan.proofs.FloorplanLaws.{next, next_channel, first_channel, next_bank, rows_high, placed, placed_near, kept, columns_within}

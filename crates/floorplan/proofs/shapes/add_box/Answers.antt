@@ -1,7 +1,7 @@
 -- A layer and four corners are one shape's.
 use Rattle.std.proofs.Common.{refl}
 use Rattle.or_geom.proofs.AddsLaws.{adds_one}
-use Rattle.tech_rules.proofs.DrawingLaws.{same_box}
+use Rattle.wire_drawing.proofs.DrawingLaws.{same_box}
 use Rattle.floorplan.proofs.shapes.add_box.Goals as goal
 
 pub returns : goal.returns

@@ -7,7 +7,7 @@ use Rattle.port_lists.proofs.NumberLaws.{banks_are}
 use Rattle.main_channel.proofs.CountLaws.{few_rails}
 use Rattle.main_channel.proofs.StepLaws.{bank_more, all_banks}
 use Rattle.main_channel.proofs.RailLaws.{rails_named}
-use Rattle.tech_rules.specs.Drawing.{pitch}
+use Rattle.wire_drawing.specs.Drawing.{pitch}
 use Rattle.floorplan.specs.LeafSides.{leaf_width}
 use Rattle.main_channel.specs.Leaves.{pin_begin}
 use Rattle.main_channel.specs.Numbers.{found_number}

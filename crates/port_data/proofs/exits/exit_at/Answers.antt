@@ -1,7 +1,7 @@
 -- As many pitches before the rows as there are choices left.
 use Rattle.std.proofs.Common.{◌-◌, ◌*◌, ◌+◌, ℤ, pos, ◌-ℤ◌, to_z, of_z, w64, ap, ◌∙◌, arith}
 use Rattle.std.proofs.lemmas.Int.{ints}
-use Rattle.tech_rules.specs.Drawing.{pitch}
+use Rattle.wire_drawing.specs.Drawing.{pitch}
 use Rattle.port_data.proofs.FormulaLaws.{few_pitches, distance_read, exit_made}
 use Rattle.port_data.proofs.exits.exit_at.Goals as goal
 

@@ -1,6 +1,6 @@
 -- The exit of one choice more.
 use Rattle.std.proofs.Common.{[], arith}
-use Rattle.tech_rules.specs.Drawing.{pitch}
+use Rattle.wire_drawing.specs.Drawing.{pitch}
 use Rattle.port_lists.proofs.TabulateLaws.{grown_as, all_of}
 use Rattle.port_data.specs.Pins.{exit_at}
 use Rattle.port_data.proofs.exits.exit_pins.Goals as goal

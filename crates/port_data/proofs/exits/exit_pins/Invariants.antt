@@ -1,6 +1,6 @@
 use Rattle.std.proofs.Common.{◌≡◌}
 use Rattle.sram_netlist.specs.InstanceList.{tabulate}
-use Rattle.tech_rules.specs.Drawing.{pitch}
+use Rattle.wire_drawing.specs.Drawing.{pitch}
 use Rattle.port_data.specs.Pins.{exit_at}
 use Rattle.port_data.proofs.exits.exit_pins.Given as goal
 

@@ -1,8 +1,8 @@
 -- The pitch and the taps' places are what they are in the contract.
 use Rattle.std.proofs.Common.{◌≡◌, ◌+ℤ◌, ℕ, ◌<◌, ℤ, List, length, get_or, sym, w64, to_z, of_z, subst, arith}
 use Rattle.std.proofs.lemmas.Int.{ints}
-use Rattle.tech_rules.specs.Drawing.{pitch}
-use Rattle.tech_rules.specs.Spacing.{IsFirstClose}
+use Rattle.wire_drawing.specs.Drawing.{pitch}
+use Rattle.wire_drawing.specs.Spacing.{IsFirstClose}
 use Rattle.or_geom.specs.Distance.{IsNear}
 use Rattle.rail_bus.proofs.RailLaws.{near_ys}
 use Rattle.rail_bus.proofs.draw.close_taps.Goals as goal

@@ -3,7 +3,7 @@ use Rattle.std.proofs.Common.{◌≡◌, ◌<◌, ◌≤ℤ◌, ◌⊎◌, inl, 
 use Rattle.std.proofs.lemmas.Int.{ints, to_z-of_z}
 use Rattle.std.proofs.lemmas.List.{take_more, take_all}
 use Rattle.std.proofs.lemmas.Option.{slice_get_read, get_or_from_slice_get}
-use Rattle.tech_rules.specs.declared.route.Tap.{Tap}
+use Rattle.wire_drawing.specs.declared.route.Tap.{Tap}
 use Rattle.rail_bus.proofs.RailLaws.{highest_more, max_of}
 use Rattle.rail_bus.proofs.highest.highest_taps.Goals as goal
 

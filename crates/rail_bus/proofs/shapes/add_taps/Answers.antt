@@ -6,7 +6,7 @@ use Rattle.std.proofs.lemmas.List.{drop_all}
 use Rattle.std.proofs.lemmas.Option.{slice_get-get_or, get_or_from_slice_get}
 use Rattle.or_geom.proofs.ListLaws.{rest_at, contained_at}
 use Rattle.or_geom.proofs.GatheringLaws.{gather_goes_on, gather_ends}
-use Rattle.tech_rules.specs.declared.route.Tap.{Tap}
+use Rattle.wire_drawing.specs.declared.route.Tap.{Tap}
 use Rattle.rail_bus.proofs.RailLaws.{tap_adds, kept}
 use Rattle.rail_bus.proofs.shapes.add_taps.Goals as goal
 

@@ -1,7 +1,7 @@
 -- As the stated ends.
 use Rattle.std.proofs.Common.{ℤ, pos, ◌*ℤ◌, ◌+ℤ◌, ◌∙◌, ap, sym, subst, arith}
 use Rattle.std.proofs.lemmas.Int.{ints}
-use Rattle.tech_rules.specs.Drawing.{pitch}
+use Rattle.wire_drawing.specs.Drawing.{pitch}
 use Rattle.sram_plan.specs.PlanNumbers.{numbers_of, organization}
 use Rattle.port_lists.proofs.NumberLaws.{banks_are}
 use Rattle.floorplan.specs.FloorplanNumbers.{floorplan_of, IsUpTo}

@@ -2,7 +2,7 @@
 use Rattle.std.proofs.Common.{◌≡◌, ℕ, Result, IfOk, IfErr, inl, inr, sym, subst, ◌∙◌}
 use Rattle.std.proofs.lemmas.Option.{same_Some}
 use Rattle.std.proofs.lemmas.Result.{err_from_is_err_and}
-use Rattle.tech_rules.specs.declared.route.RouteFault.{RouteFault}
+use Rattle.wire_drawing.specs.declared.route.RouteFault.{RouteFault}
 use Rattle.channel_router.specs.declared.channel.Routed.{Routed}
 use Rattle.sram_macro.specs.Layout.{IsMainFault, IsMainRouted}
 use Rattle.tech_rules.specs.declared.tech.Wire.{Wire}

@@ -1,13 +1,12 @@
 ghost use Rattle.std.specs.Prelude.{◌<◌, length};
 ghost use Rattle.tech_rules.specs.Facts.{AreSizes};
-ghost use Rattle.tech_rules.specs.Drawing.{IsVia, LeavesRoom};
-ghost use Rattle.tech_rules.specs.Spacing.{AreNearNumbers, IsFirstClose};
+ghost use Rattle.wire_drawing.specs.Drawing.{IsVia, LeavesRoom};
+ghost use Rattle.wire_drawing.specs.Spacing.{AreNearNumbers, IsFirstClose};
 
-use crate::tech::Wire;
-use crate::wire_rules::margin;
 use or_geom::{Memory, Rect, Shape};
 use std::error::Error;
 use std::fmt;
+use tech_rules::{Wire, margin};
 
 /// A place where a wire joins a vertical rail: the rail's place, from 0, in the list of rails, the lower edge of the
 /// wire, and the x at which the wire ends on the right.
@@ -55,7 +54,7 @@ impl Error for RouteFault {}
 
 impl From<Memory> for RouteFault {
     ghost use Rattle.std.specs.Prelude.{◌≡◌};
-    ghost use Rattle.tech_rules.specs.declared.route.RouteFault.TheVariants as route_fault;
+    ghost use Rattle.wire_drawing.specs.declared.route.RouteFault.TheVariants as route_fault;
 
     ghost from_gives = { λ _ e. e ≡ route_fault.Memory };
 

@@ -6,7 +6,7 @@ use Rattle.or_geom.specs.declared.shape.Shape.{Shape}
 use Rattle.or_geom.proofs.PlaceLaws.{same_rect}
 use Rattle.tech_rules.specs.declared.tech.Wire.{Wire}
 use Rattle.tech_rules.specs.Facts.{AreSizes}
-use Rattle.tech_rules.specs.Drawing.{IsBox}
+use Rattle.wire_drawing.specs.Drawing.{IsBox}
 use Rattle.tech_rules.specs.WireRules.{margin}
 
 halves : (whole half rest : ℤ) → (half *ℤ pos 2) +ℤ rest ≡ whole → rest ≡ pos 0 → half +ℤ half ≡ whole

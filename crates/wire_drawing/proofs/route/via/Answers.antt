@@ -1,8 +1,8 @@
 -- The cut's corners.
 use Rattle.std.proofs.Common.{refl, arith}
 use Rattle.std.proofs.lemmas.Int.{ints}
-use Rattle.tech_rules.proofs.DrawingLaws.{twice_margin}
-use Rattle.tech_rules.proofs.route.via.Goals as goal
+use Rattle.wire_drawing.proofs.DrawingLaws.{twice_margin}
+use Rattle.wire_drawing.proofs.route.via.Goals as goal
 
 pub returns : goal.returns
 returns c =

@@ -4,8 +4,8 @@ use Rattle.std.proofs.lemmas.Bool.{cases_lt}
 use Rattle.std.proofs.lemmas.Int.{ints, to_z-of_z}
 use Rattle.std.proofs.lemmas.List.Sorted.{IsPermutation-sym}
 use Rattle.or_geom.specs.Distance.{IsNear}
-use Rattle.tech_rules.proofs.SpacingLaws.{AreApartBelow, near_at, at_default, first_close_at, first_permuted, none_close, close_permuted}
-use Rattle.tech_rules.proofs.route.first_close.Goals as goal
+use Rattle.wire_drawing.proofs.SpacingLaws.{AreApartBelow, near_at, at_default, first_close_at, first_permuted, none_close, close_permuted}
+use Rattle.wire_drawing.proofs.route.first_close.Goals as goal
 
 difference_fits : (x y : ℤ) → IsNear x → IsNear y → FitsSigned w64 (to_z w64 (of_z w64 y) -ℤ to_z w64 (of_z w64 x))
 difference_fits x y m n = omega (arith, ints, m.above, m.below, n.above, n.below)

@@ -10,7 +10,7 @@ use Rattle.std.proofs.lemmas.List.Sorted.{IsPermutation-keeps, IsPermutation-sym
 use Rattle.std.proofs.lemmas.List.Elements.{All-contains}
 use Rattle.std.proofs.lemmas.Option.{slice_get-get_or, slice_get_read, slice_get_within, get_or_from_slice_get}
 use Rattle.or_geom.specs.Distance.{IsNear}
-use Rattle.tech_rules.specs.Spacing.{AreTwoOf, AreCloseTwo, AreFirstClose, AreClose}
+use Rattle.wire_drawing.specs.Spacing.{AreTwoOf, AreCloseTwo, AreFirstClose, AreClose}
 
 -- what stands at p stands at q once the items at i and j are exchanged
 IsMoved : ℕ → ℕ → ℕ → ℕ → Type 0
