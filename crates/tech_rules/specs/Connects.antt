@@ -1,11 +1,12 @@
 -- Which conductors the cuts of a technology connect.
-use Rattle.std.specs.Prelude.{ℕ, List, [], length, Result, Ok, Err, if◌then◌else◌, codes}
+use Rattle.std.specs.Prelude.{ℕ, List, [], Result, Ok, Err, if◌then◌else◌, codes}
 use Rattle.toml.specs.Data.{Data}
 use Rattle.tech_rules.specs.declared.fault.TechFault.{TechFault}
 use Rattle.toml_keys.specs.Fault.{◌>>=◌, in_turn}
-use Rattle.toml_keys.specs.Keys.{Section, out_of_range, item_section, text_under, texts_under, optional_tables, counted}
+use Rattle.toml_keys.specs.Keys.{Section, out_of_range, text_under, texts_under, optional_tables, counted}
 use Rattle.tech_rules.specs.declared.tech.Connect.{Connect}
 use Rattle.tech_rules.specs.declared.tech.Layer.{Layer}
+use Rattle.tech_rules.specs.Entries.{entry_after}
 use Rattle.tech_rules.specs.Layers.{layer_index_of, layer_indices_of}
 use Rattle.tech_rules.specs.Names.{holds}
 
@@ -25,7 +26,7 @@ connect_in layers s =
 
 -- one table of `connect`, after these connections
 abbrev pub connect_of : List Layer → Section TechFault → List Connect → Data → Result Connect TechFault
-connect_of layers document before d = connect_in layers (item_section document (codes "connect") (length before) d)
+connect_of layers document before d = entry_after (connect_in layers) document (codes "connect") before d
 
 abbrev pub connects_under : List Layer → Section TechFault → Result (List Connect) TechFault
 connects_under layers s = optional_tables 64 s (codes "connect") >>= in_turn (connect_of layers s) []

@@ -1,11 +1,12 @@
 -- The kinds of transistors of a technology.
-use Rattle.std.specs.Prelude.{ℕ, List, [], ◌∷◌, length, Result, Ok, Err, if◌then◌else◌, codes}
+use Rattle.std.specs.Prelude.{ℕ, List, [], ◌∷◌, Result, Ok, Err, if◌then◌else◌, codes}
 use Rattle.toml.specs.Data.{Data}
 use Rattle.tech_rules.specs.declared.fault.TechFault.{TechFault}
 use Rattle.toml_keys.specs.Fault.{◌>>=◌, in_turn}
-use Rattle.toml_keys.specs.Keys.{Section, has_key, out_of_range, item_section, text_under, tables_under}
+use Rattle.toml_keys.specs.Keys.{Section, has_key, out_of_range, text_under, tables_under}
 use Rattle.tech_rules.specs.declared.tech.Device.{Device}
 use Rattle.tech_rules.specs.declared.tech.Layer.{Layer}
+use Rattle.tech_rules.specs.Entries.{entry_after}
 use Rattle.tech_rules.specs.Layers.{layer_index_of}
 use Rattle.tech_rules.specs.Names.{are_different}
 use Rattle.tech_rules.specs.Roles.{is_cell_name}
@@ -35,7 +36,7 @@ device_in layers s =
 
 -- one table of `device`, after these devices
 abbrev pub device_of : List Layer → Section TechFault → List Device → Data → Result Device TechFault
-device_of layers document before d = device_in layers (item_section document (codes "device") (length before) d)
+device_of layers document before d = entry_after (device_in layers) document (codes "device") before d
 
 abbrev pub devices_under : List Layer → Section TechFault → Result (List Device) TechFault
 devices_under layers s =

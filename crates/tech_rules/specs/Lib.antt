@@ -1,6 +1,7 @@
 pub mod Fault
 pub mod Layers
 pub mod Names
+pub mod Entries
 pub mod Rules
 pub mod Connects
 pub mod Wires

@@ -1,13 +1,14 @@
 -- The design rules of a technology.
-use Rattle.std.specs.Prelude.{ℕ, ℤ, pos, List, [], length, Result, Ok, Err, if◌then◌else◌, codes}
+use Rattle.std.specs.Prelude.{ℕ, ℤ, pos, List, [], Result, Ok, Err, if◌then◌else◌, codes}
 use Rattle.std.specs.Str.{bytes_eq}
 use Rattle.toml.specs.Data.{Data}
 use Rattle.tech_rules.specs.declared.fault.TechFault.{TechFault}
 use Rattle.tech_rules.specs.declared.tech.Layer.{Layer}
+use Rattle.tech_rules.specs.Entries.{entry_after}
 use Rattle.tech_rules.specs.declared.tech.Rule.{Rule}
 use Rattle.tech_rules.specs.declared.tech.Rule.TheVariants.{Width, Space, Enclose}
 use Rattle.toml_keys.specs.Fault.{◌>>=◌, in_turn}
-use Rattle.toml_keys.specs.Keys.{Section, out_of_range, item_section, text_under, texts_under, number_under, optional_tables, counted}
+use Rattle.toml_keys.specs.Keys.{Section, out_of_range, text_under, texts_under, number_under, optional_tables, counted}
 use Rattle.tech_rules.specs.Layers.{layer_under, layer_indices_of}
 
 abbrev pub minimum_under : Section TechFault → Result ℤ TechFault
@@ -45,7 +46,7 @@ rule_in layers s =
 
 -- one table of `rule`, after these rules
 abbrev pub rule_of : List Layer → Section TechFault → List Rule → Data → Result Rule TechFault
-rule_of layers document before d = rule_in layers (item_section document (codes "rule") (length before) d)
+rule_of layers document before d = entry_after (rule_in layers) document (codes "rule") before d
 
 abbrev pub rules_under : List Layer → Section TechFault → Result (List Rule) TechFault
 rules_under layers s = optional_tables 256 s (codes "rule") >>= in_turn (rule_of layers s) []

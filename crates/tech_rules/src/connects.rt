@@ -1,17 +1,16 @@
 ghost use Rattle.tech_rules.specs.Fault.{tech_faults};
 ghost use Rattle.tech_rules.specs.declared.fault.TechFault.TheVariants.{Memory};
-ghost use Rattle.std.specs.Prelude.{◌≤◌, [], map, length};
-ghost use Rattle.toml.specs.View.{view};
-ghost use Rattle.toml_keys.specs.Fault.{MatchesUnless, in_turn};
+ghost use Rattle.std.specs.Prelude.{◌≤◌, length};
+ghost use Rattle.toml_keys.specs.Fault.{MatchesUnless};
 ghost use Rattle.toml_keys.specs.Section.{section_of};
-ghost use Rattle.tech_rules.specs.Connects.{other_names, connect_in, connect_of, connects_under};
+ghost use Rattle.tech_rules.specs.Connects.{other_names, connect_in, connects_under};
 
+use crate::entries::{Entry, entries_in};
 use crate::fault::TechFault;
 use crate::layers::{index_at, indices_at};
 use crate::names::holds;
 use crate::tech::{Connect, Layer};
 use or_geom::{Items, Name};
-use toml::Value;
 use toml_keys::KeyTable;
 
 /// The greatest number of connections.
@@ -31,51 +30,20 @@ pub fn connects_from(
     ensures { MatchesUnless Memory result (connects_under layers.now (section_of tech_faults document.now)) }
 {
     let tables = document.optional_tables("connect", MAX_CONNECTS)?;
-    connects_in(document, layers, tables)
+    entries_in(document, "connect", layers, tables)
 }
 
-fn connects_in(
-    document: &KeyTable<TechFault>,
-    layers: &[Layer],
-    tables: &[Value],
-) -> Result<Items<Connect>, TechFault>
-    requires { length layers.now ≤ 64 }
-    ensures { MatchesUnless Memory result (in_turn (connect_of layers.now (section_of tech_faults document.now)) []
-        (map view tables.now)) }
-{
-    let mut connects = Items::new(document.alloc());
-    for table in tables {
-        let connect = connect_after(document, layers, connects.as_slice(), table)?;
-        connects.push(connect)?;
+impl Entry for Connect {
+    ghost entry_in = { connect_in };
+
+    #[tactic(auto, unfolding(crate::specs::Connects::connect_in))]
+    fn from_keys(keys: &KeyTable<TechFault>, layers: &[Layer]) -> Result<Self, TechFault> {
+        let name = keys.text("cut")?;
+        let cut = index_at(keys, "cut", layers, name.as_bytes())?;
+        let names = other_names(keys, "to", name.as_bytes())?;
+        let to = indices_at(keys, "to", layers, names.as_slice())?;
+        Ok(Connect { cut, to })
     }
-    Ok(connects)
-}
-
-/// One connection, after those before it.
-fn connect_after(
-    document: &KeyTable<TechFault>,
-    layers: &[Layer],
-    before: &[Connect],
-    table: &Value,
-) -> Result<Connect, TechFault>
-    requires { length layers.now ≤ 64 }
-    ensures { MatchesUnless Memory result (connect_of layers.now (section_of tech_faults document.now) before.now
-        (view table.now)) }
-{
-    let keys = document.item("connect", before.len(), table)?;
-    connect_from(&keys, layers)
-}
-
-#[tactic(auto, unfolding(crate::specs::Connects::connect_in))]
-fn connect_from(keys: &KeyTable<TechFault>, layers: &[Layer]) -> Result<Connect, TechFault>
-    requires { length layers.now ≤ 64 }
-    ensures { MatchesUnless Memory result (connect_in layers.now (section_of tech_faults keys.now)) }
-{
-    let name = keys.text("cut")?;
-    let cut = index_at(keys, "cut", layers, name.as_bytes())?;
-    let names = other_names(keys, "to", name.as_bytes())?;
-    let to = indices_at(keys, "to", layers, names.as_slice())?;
-    Ok(Connect { cut, to })
 }
 
 /// The 2 to 8 names under a key, which aren't this name.

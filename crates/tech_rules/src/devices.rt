@@ -1,18 +1,17 @@
 ghost use Rattle.tech_rules.specs.Fault.{tech_faults};
 ghost use Rattle.tech_rules.specs.declared.fault.TechFault.TheVariants.{Memory};
-ghost use Rattle.std.specs.Prelude.{◌≡◌, ◌≤◌, [], ◌∷◌, map, length};
-ghost use Rattle.toml.specs.View.{view};
-ghost use Rattle.toml_keys.specs.Fault.{MatchesUnless, ViewMatchesUnless, in_turn};
+ghost use Rattle.std.specs.Prelude.{◌≡◌, ◌≤◌, [], ◌∷◌, length};
+ghost use Rattle.toml_keys.specs.Fault.{MatchesUnless, ViewMatchesUnless};
 ghost use Rattle.toml_keys.specs.Section.{section_of};
-ghost use Rattle.tech_rules.specs.Devices.{model_under, third_name, device_in, device_of, devices_under};
+ghost use Rattle.tech_rules.specs.Devices.{model_under, third_name, device_in, devices_under};
 ghost use Rattle.tech_rules.specs.Names.{are_different};
 
+use crate::entries::{Entry, entries_in};
 use crate::fault::TechFault;
 use crate::layers::index_at;
 use crate::roles::is_cell_name;
 use crate::tech::{Device, Layer};
 use or_geom::{Items, Name};
-use toml::Value;
 use toml_keys::KeyTable;
 
 /// The greatest number of kinds of transistors.
@@ -30,59 +29,28 @@ pub fn devices_from(
         return Ok(Items::new(document.alloc()));
     }
     let tables = document.tables("device", 1, MAX_DEVICES)?;
-    devices_in(document, layers, tables)
+    entries_in(document, "device", layers, tables)
 }
 
-fn devices_in(
-    document: &KeyTable<TechFault>,
-    layers: &[Layer],
-    tables: &[Value],
-) -> Result<Items<Device>, TechFault>
-    requires { length layers.now ≤ 64 }
-    ensures { MatchesUnless Memory result (in_turn (device_of layers.now (section_of tech_faults document.now)) []
-        (map view tables.now)) }
-{
-    let mut devices = Items::new(document.alloc());
-    for table in tables {
-        let device = device_after(document, layers, devices.as_slice(), table)?;
-        devices.push(device)?;
+impl Entry for Device {
+    ghost entry_in = { device_in };
+
+    #[tactic(auto, unfolding(crate::specs::Devices::device_in))]
+    fn from_keys(keys: &KeyTable<TechFault>, layers: &[Layer]) -> Result<Self, TechFault> {
+        let model = model_from(keys)?;
+        let gate_name = keys.text("gate")?;
+        let gate = index_at(keys, "gate", layers, gate_name.as_bytes())?;
+        let active_name = keys.text("active")?;
+        let active = index_at(keys, "active", layers, active_name.as_bytes())?;
+        let by_name = third_name(keys, gate_name, active_name)?;
+        let by = index_at(keys, "by", layers, by_name.as_bytes())?;
+        Ok(Device {
+            model,
+            gate,
+            active,
+            by,
+        })
     }
-    Ok(devices)
-}
-
-/// One kind of transistor, after those before it.
-fn device_after(
-    document: &KeyTable<TechFault>,
-    layers: &[Layer],
-    before: &[Device],
-    table: &Value,
-) -> Result<Device, TechFault>
-    requires { length layers.now ≤ 64 }
-    ensures { MatchesUnless Memory result (device_of layers.now (section_of tech_faults document.now) before.now
-        (view table.now)) }
-{
-    let keys = document.item("device", before.len(), table)?;
-    device_from(&keys, layers)
-}
-
-#[tactic(auto, unfolding(crate::specs::Devices::device_in))]
-fn device_from(keys: &KeyTable<TechFault>, layers: &[Layer]) -> Result<Device, TechFault>
-    requires { length layers.now ≤ 64 }
-    ensures { MatchesUnless Memory result (device_in layers.now (section_of tech_faults keys.now)) }
-{
-    let model = model_from(keys)?;
-    let gate_name = keys.text("gate")?;
-    let gate = index_at(keys, "gate", layers, gate_name.as_bytes())?;
-    let active_name = keys.text("active")?;
-    let active = index_at(keys, "active", layers, active_name.as_bytes())?;
-    let by_name = third_name(keys, gate_name, active_name)?;
-    let by = index_at(keys, "by", layers, by_name.as_bytes())?;
-    Ok(Device {
-        model,
-        gate,
-        active,
-        by,
-    })
 }
 
 fn model_from(keys: &KeyTable<TechFault>) -> Result<Name, TechFault>

@@ -3,6 +3,7 @@
 
 mod connects;
 mod devices;
+mod entries;
 mod fault;
 mod layers;
 mod names;

@@ -1,17 +1,16 @@
 ghost use Rattle.tech_rules.specs.Fault.{tech_faults};
 ghost use Rattle.tech_rules.specs.declared.fault.TechFault.TheVariants.{Memory};
-ghost use Rattle.std.specs.Prelude.{◌≤◌, [], map, codes, length};
-ghost use Rattle.toml.specs.View.{view};
-ghost use Rattle.toml_keys.specs.Fault.{MatchesUnless, in_turn};
+ghost use Rattle.std.specs.Prelude.{◌≤◌, codes, length};
+ghost use Rattle.toml_keys.specs.Fault.{MatchesUnless};
 ghost use Rattle.tech_rules.specs.Rules.{minimum_under, layers_named, width_rule, space_rule, enclose_rule, rule_in};
-ghost use Rattle.tech_rules.specs.Rules.{rule_of, rules_under};
+ghost use Rattle.tech_rules.specs.Rules.{rules_under};
 ghost use Rattle.toml_keys.specs.Section.{section_of};
 
+use crate::entries::{Entry, entries_in};
 use crate::fault::TechFault;
 use crate::layers::{indices_at, layer_at};
 use crate::tech::{Layer, Rule};
 use or_geom::Items;
-use toml::Value;
 use toml_keys::KeyTable;
 
 /// The greatest number of rules.
@@ -32,57 +31,26 @@ pub fn rules_from(
     ensures { MatchesUnless Memory result (rules_under layers.now (section_of tech_faults document.now)) }
 {
     let tables = document.optional_tables("rule", MAX_RULES)?;
-    rules_in(document, layers, tables)
+    entries_in(document, "rule", layers, tables)
 }
 
-fn rules_in(
-    document: &KeyTable<TechFault>,
-    layers: &[Layer],
-    tables: &[Value],
-) -> Result<Items<Rule>, TechFault>
-    requires { length layers.now ≤ 64 }
-    ensures { MatchesUnless Memory result (in_turn (rule_of layers.now (section_of tech_faults document.now)) []
-        (map view tables.now)) }
-{
-    let mut rules = Items::new(document.alloc());
-    for table in tables {
-        let rule = rule_after(document, layers, rules.as_slice(), table)?;
-        rules.push(rule)?;
-    }
-    Ok(rules)
-}
+impl Entry for Rule {
+    ghost entry_in = { rule_in };
 
-/// One rule, after those before it.
-fn rule_after(
-    document: &KeyTable<TechFault>,
-    layers: &[Layer],
-    before: &[Rule],
-    table: &Value,
-) -> Result<Rule, TechFault>
-    requires { length layers.now ≤ 64 }
-    ensures { MatchesUnless Memory result (rule_of layers.now (section_of tech_faults document.now) before.now
-        (view table.now)) }
-{
-    let keys = document.item("rule", before.len(), table)?;
-    rule_from(&keys, layers)
-}
-
-#[tactic(auto, unfolding(crate::specs::Rules::rule_in))]
-fn rule_from(keys: &KeyTable<TechFault>, layers: &[Layer]) -> Result<Rule, TechFault>
-    requires { length layers.now ≤ 64 }
-    ensures { MatchesUnless Memory result (rule_in layers.now (section_of tech_faults keys.now)) }
-{
-    let kind = keys.text("kind")?;
-    if kind == "width" {
-        return width_from(keys, layers);
+    #[tactic(auto, unfolding(crate::specs::Rules::rule_in))]
+    fn from_keys(keys: &KeyTable<TechFault>, layers: &[Layer]) -> Result<Self, TechFault> {
+        let kind = keys.text("kind")?;
+        if kind == "width" {
+            return width_from(keys, layers);
+        }
+        if kind == "space" {
+            return space_from(keys, layers);
+        }
+        if kind == "enclose" {
+            return enclose_from(keys, layers);
+        }
+        Err(keys.out_of_range("kind"))
     }
-    if kind == "space" {
-        return space_from(keys, layers);
-    }
-    if kind == "enclose" {
-        return enclose_from(keys, layers);
-    }
-    Err(keys.out_of_range("kind"))
 }
 
 #[tactic(auto, unfolding(crate::specs::Rules::width_rule))]
