@@ -19,7 +19,7 @@ use Rattle.tech_rules.specs.Connects.{connects_under}
 use Rattle.tech_rules.specs.Devices.{devices_under}
 use Rattle.tech_rules.specs.Facts.{IsLayerIndex, IsWire, IsTech}
 use Rattle.tech_rules.specs.Layers.{layers_under, layer_under}
-use Rattle.tech_rules.specs.Roles.{is_cell_name, role_names, role_cell, roles_in, cells_of, roles_under, rows_under}
+use Rattle.tech_rules.specs.Roles.{is_cell_name, role_names, role_cell, roles_in, of_roles, roles_under, rows_under}
 use Rattle.tech_rules.specs.Rules.{rules_under}
 use Rattle.tech_rules.specs.Fault.{tech_faults}
 use Rattle.tech_rules.specs.Technology.{tech_in, technology}
@@ -45,7 +45,7 @@ either_roles true given roles good_if made = good_if made
 either_roles false given roles good_if made = let same : [] ≡ roles = cc in subst (All (λ (r : RoleName). IsTrue (is_cell_name r.cell))) same (All-nil (λ (r : RoleName). IsTrue (is_cell_name r.cell)))
 
 given_roles : (s : Section TechFault) (roles : List RoleName)
-    → (section_under s (codes "role") >>= λ r. cells_of r role_names) ≡ Ok roles
+    → (section_under s (codes "role") >>= λ r. of_roles role_cell r role_names) ≡ Ok roles
     → All (λ r. IsTrue (is_cell_name r.cell)) roles
 given_roles s roles made =
     let a = steps_of (section_under s (codes "role")) _ roles made in

@@ -34,22 +34,19 @@ role_cell s role =
 abbrev pub role_rows : Section TechFault → List ℕ → Result RoleRows TechFault
 role_rows s role = texts_under s role >>= λ rows. Ok (record { role = role; rows = rows })
 
--- the cells of these roles
-abbrev pub cells_of : Section TechFault → List (List ℕ) → Result (List RoleName) TechFault
-cells_of s roles = in_turn (λ _ role. role_cell s role) [] (roles_in s roles)
+-- what a table says of these roles, one by one
+abbrev pub of_roles : {A : Type 0} → (Section TechFault → List ℕ → Result A TechFault) → Section TechFault → List (List ℕ) → Result (List A) TechFault
+of_roles of_role s roles = in_turn (λ _ role. of_role s role) [] (roles_in s roles)
 
--- the rows of these roles
-abbrev pub rows_of : Section TechFault → List (List ℕ) → Result (List RoleRows) TechFault
-rows_of s roles = in_turn (λ _ role. role_rows s role) [] (roles_in s roles)
+-- what the table under a key says of all roles, if there is one
+abbrev pub of_roles_under : {A : Type 0} → (Section TechFault → List ℕ → Result A TechFault) → Section TechFault → List ℕ → Result (List A) TechFault
+of_roles_under of_role s key =
+    if has_key s key
+    then (section_under s key >>= λ r. of_roles of_role r role_names)
+    else Ok []
 
 abbrev pub roles_under : Section TechFault → Result (List RoleName) TechFault
-roles_under s =
-    if has_key s (codes "role")
-    then (section_under s (codes "role") >>= λ r. cells_of r role_names)
-    else Ok []
+roles_under s = of_roles_under role_cell s (codes "role")
 
 abbrev pub rows_under : Section TechFault → Result (List RoleRows) TechFault
-rows_under s =
-    if has_key s (codes "table")
-    then (section_under s (codes "table") >>= λ r. rows_of r role_names)
-    else Ok []
+rows_under s = of_roles_under role_rows s (codes "table")

@@ -14,7 +14,7 @@ use crate::connects::connects_from;
 use crate::devices::devices_from;
 use crate::fault::TechFault;
 use crate::layers::{layer_at, layers_from};
-use crate::roles::{roles_from, rows_from};
+use crate::roles::by_role;
 use crate::rules::rules_from;
 use crate::tech::Tech;
 use crate::wire_rules::bad_layer;
@@ -56,8 +56,8 @@ fn tech_in(document: &KeyTable<TechFault>) -> Result<Tech, TechFault>
     let rules = rules_from(document, layers.as_slice())?;
     let connects = connects_from(document, layers.as_slice())?;
     let wire = wire_from(document, layers.as_slice())?;
-    let roles = roles_from(document)?;
-    let tables = rows_from(document)?;
+    let roles = by_role(document, "role")?;
+    let tables = by_role(document, "table")?;
     let devices = devices_from(document, layers.as_slice())?;
     let tech = Tech {
         layers,

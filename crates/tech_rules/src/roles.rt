@@ -5,7 +5,7 @@ ghost use Rattle.std.specs.List.{list_all};
 ghost use Rattle.toml_keys.specs.Fault.{MatchesUnless};
 ghost use Rattle.toml_keys.specs.Section.{section_of};
 ghost use Rattle.tech_rules.specs.Roles.{is_cell_byte, is_cell_name, role_cell, role_rows};
-ghost use Rattle.tech_rules.specs.Roles.{cells_of, rows_of, roles_under, rows_under};
+ghost use Rattle.tech_rules.specs.Roles.{of_roles, of_roles_under};
 
 use crate::fault::TechFault;
 use crate::tech::{RoleName, RoleRows};
@@ -36,41 +36,68 @@ const ROLES: [&str; 16] = [
     "rom1",
 ];
 
-/// The cells that play the roles of the document, if it names any.
-pub fn roles_from(document: &KeyTable<TechFault>) -> Result<Items<RoleName>, TechFault>
-    ensures { MatchesUnless Memory result (roles_under (section_of tech_faults document.now)) }
-{
-    if !document.has("role") {
-        return Ok(Items::new(document.alloc()));
-    }
-    let section = document.section("role")?;
-    cells_in(&section, &ROLES)
+/// What a technology says of one role, such as the cell that plays it.
+pub trait OfRole: Drop {
+    ghost use Rattle.std.specs.Prelude.{ℕ, List, Result};
+    ghost use Rattle.toml_keys.specs.Keys.{Section};
+    ghost use Rattle.tech_rules.specs.declared.fault.TechFault.{TechFault};
+
+    /// What stands under a role's name in a table, or its fault.
+    ghost of_role: { Section TechFault → List ℕ → Result Self TechFault };
+
+    /// What stands under a role's name.
+    fn at(section: &KeyTable<TechFault>, role: &str) -> Result<Self, TechFault>
+        ensures { MatchesUnless Memory result (of_role (section_of tech_faults section.now) role.now) };
 }
 
-fn cells_in(section: &KeyTable<TechFault>, names: &[&str]) -> Result<Items<RoleName>, TechFault>
-    ensures { MatchesUnless Memory result (cells_of (section_of tech_faults section.now) (map (λ t. t.now) names.now)) }
+/// What the table under a key of the document says of the roles, if there is one.
+pub fn by_role<R: OfRole>(document: &KeyTable<TechFault>, key: &str) -> Result<Items<R>, TechFault>
+    ensures { MatchesUnless Memory result (of_roles_under R.of_role (section_of tech_faults document.now) key.now) }
 {
-    let mut roles = Items::new(section.alloc());
+    if !document.has(key) {
+        return Ok(Items::new(document.alloc()));
+    }
+    let section = document.section(key)?;
+    in_table(&section, &ROLES)
+}
+
+fn in_table<R: OfRole>(section: &KeyTable<TechFault>, names: &[&str]) -> Result<Items<R>, TechFault>
+    ensures { MatchesUnless Memory result
+        (of_roles R.of_role (section_of tech_faults section.now) (map (λ t. t.now) names.now)) }
+{
+    let mut found = Items::new(section.alloc());
     for role in names {
         if !section.has(role) {
             continue;
         }
-        let cell = cell_at(section, role)?;
-        roles.push(cell)?;
+        let one = R::at(section, role)?;
+        found.push(one)?;
     }
-    Ok(roles)
+    Ok(found)
 }
 
-fn cell_at(section: &KeyTable<TechFault>, role: &str) -> Result<RoleName, TechFault>
-    ensures { MatchesUnless Memory result (role_cell (section_of tech_faults section.now) role.now) }
-{
-    let cell = section.text(role)?;
-    if !is_cell_name(cell.as_bytes()) {
-        return Err(section.out_of_range(role));
+impl OfRole for RoleName {
+    ghost of_role = { role_cell };
+
+    fn at(section: &KeyTable<TechFault>, role: &str) -> Result<Self, TechFault> {
+        let cell = section.text(role)?;
+        if !is_cell_name(cell.as_bytes()) {
+            return Err(section.out_of_range(role));
+        }
+        let cell = Name::from_bytes(section.alloc(), cell.as_bytes())?;
+        let role = Name::from_bytes(section.alloc(), role.as_bytes())?;
+        Ok(RoleName { role, cell })
     }
-    let cell = Name::from_bytes(section.alloc(), cell.as_bytes())?;
-    let role = Name::from_bytes(section.alloc(), role.as_bytes())?;
-    Ok(RoleName { role, cell })
+}
+
+impl OfRole for RoleRows {
+    ghost of_role = { role_rows };
+
+    fn at(section: &KeyTable<TechFault>, role: &str) -> Result<Self, TechFault> {
+        let rows = section.texts(role)?;
+        let role = Name::from_bytes(section.alloc(), role.as_bytes())?;
+        Ok(RoleRows { role, rows })
+    }
 }
 
 /// Whether the text may name a cell or a model: 1 to 32 printable ASCII characters without spaces.
@@ -84,37 +111,4 @@ fn are_cell_bytes(text: &[u8]) -> bool
     ensures { result ≡ list_all is_cell_byte text.now }
 {
     text.iter().all(|b| matches!(*b, 33..=126))
-}
-
-/// The tables of roles of the document, if it has any.
-pub fn rows_from(document: &KeyTable<TechFault>) -> Result<Items<RoleRows>, TechFault>
-    ensures { MatchesUnless Memory result (rows_under (section_of tech_faults document.now)) }
-{
-    if !document.has("table") {
-        return Ok(Items::new(document.alloc()));
-    }
-    let section = document.section("table")?;
-    rows_in(&section, &ROLES)
-}
-
-fn rows_in(section: &KeyTable<TechFault>, names: &[&str]) -> Result<Items<RoleRows>, TechFault>
-    ensures { MatchesUnless Memory result (rows_of (section_of tech_faults section.now) (map (λ t. t.now) names.now)) }
-{
-    let mut tables = Items::new(section.alloc());
-    for role in names {
-        if !section.has(role) {
-            continue;
-        }
-        let rows = rows_at(section, role)?;
-        tables.push(rows)?;
-    }
-    Ok(tables)
-}
-
-fn rows_at(section: &KeyTable<TechFault>, role: &str) -> Result<RoleRows, TechFault>
-    ensures { MatchesUnless Memory result (role_rows (section_of tech_faults section.now) role.now) }
-{
-    let rows = section.texts(role)?;
-    let role = Name::from_bytes(section.alloc(), role.as_bytes())?;
-    Ok(RoleRows { role, rows })
 }

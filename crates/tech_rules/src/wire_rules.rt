@@ -1,4 +1,4 @@
-ghost use Rattle.std.specs.Prelude.{◌≡◌, ◌==◌, find, slice_get, option_map};
+ghost use Rattle.std.specs.Prelude.{◌≡◌, ◌==◌, find, option_map};
 ghost use Rattle.std.specs.List.{list_any};
 ghost use Rattle.std.specs.Option.{ForSome};
 ghost use Rattle.tech_rules.specs.Facts.{AreSizes};
@@ -25,12 +25,6 @@ pub fn bad_layer(tech: &Tech) -> Option<&Layer>
         return None;
     };
     let index = first_bad_index(tech, wire)?;
-    layer_at(tech, index)
-}
-
-fn layer_at(tech: &Tech, index: u16) -> Option<&Layer>
-    ensures { option_map (λ l. l.now) result ≡ slice_get tech.now.layers index }
-{
     tech.layers.as_slice().get(usize::from(index))
 }
 
@@ -160,17 +154,11 @@ fn encloses_beyond(rule: &Rule, cut: u16, wire: &Wire) -> bool
 fn are_joined(connects: &[Connect], cut: u16, low: u16, high: u16) -> bool
     ensures { result ≡ list_any (joins cut low high) connects.now }
 {
-    connects
-        .iter()
-        .any(|connect| joins(connect, cut, low, high))
-}
-
-fn joins(connect: &Connect, cut: u16, low: u16, high: u16) -> bool
-    ensures { result ≡ joins cut low high connect.now }
-{
-    connect.cut == cut
-        && leads_to(connect.to.as_slice(), low)
-        && leads_to(connect.to.as_slice(), high)
+    connects.iter().any(|connect| {
+        connect.cut == cut
+            && leads_to(connect.to.as_slice(), low)
+            && leads_to(connect.to.as_slice(), high)
+    })
 }
 
 fn leads_to(indices: &[u16], index: u16) -> bool
@@ -195,11 +183,5 @@ fn is_hidden(layers: &[Layer], index: u16) -> bool
 fn is_among(layers: &[Layer], layer: &Layer) -> bool
     ensures { result ≡ list_any (has_numbers layer.now.number layer.now.datatype) layers.now }
 {
-    layers.iter().any(|other| has_numbers_of(other, layer))
-}
-
-fn has_numbers_of(other: &Layer, layer: &Layer) -> bool
-    ensures { result ≡ has_numbers layer.now.number layer.now.datatype other.now }
-{
-    other.number == layer.number && other.datatype == layer.datatype
+    layers.iter().any(|other| other.number == layer.number && other.datatype == layer.datatype)
 }

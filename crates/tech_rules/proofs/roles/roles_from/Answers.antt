@@ -1,5 +1,0 @@
-use Rattle.std.proofs.Common.{sym, ◌∙◌}
-use Rattle.tech_rules.proofs.roles.roles_from.Goals as goal
-
-pub returns : goal.returns
-returns c = rw (sym c.has.ensures ∙ c.if-not-has.false, c.in_ok-section.ensures) c.cells_in.ensures
