@@ -4,27 +4,8 @@ ghost use Rattle.shape_bins.specs.Meets.{Overlap};
 ghost use Rattle.drawn_devices.specs.NetsOver.{HasNetIfOver, HaveNetIfOver, IsNetOfAll, IsNetOver, NoNetOver};
 
 use or_geom::{Memory, Rect};
-use shape_bins::Bins;
+use shape_bins::{Bins, overlap};
 use std::alloc::Global;
-
-/// Whether the boxes share area.
-fn share_area(a: Rect, b: Rect) -> bool
-    ensures { IsTrue result ↔ Overlap a b }
-{
-    if a.x2 <= b.x1 {
-        return false;
-    }
-    if b.x2 <= a.x1 {
-        return false;
-    }
-    if a.y2 <= b.y1 {
-        return false;
-    }
-    if b.y2 <= a.y1 {
-        return false;
-    }
-    true
-}
 
 /// The number of the net of the shape at the index.
 fn net_at(nets: &[u32], index: usize) -> u32
@@ -58,7 +39,7 @@ fn has_net_if_over(
     requires near { IsNearShape bins.now _layer area index }
     ensures { IsTrue result ↔ HasNetIfOver bins.now nets.now _layer area net index }
 {
-    if !share_area(bins.shapes()[index].rect, area) {
+    if !overlap(bins.shapes()[index].rect, area) {
         return true;
     }
     net_at(nets, index) == net

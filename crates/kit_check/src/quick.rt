@@ -36,7 +36,8 @@ struct MadeMacro<'a> {
     deck: &'a Deck,
 }
 
-/// The quick check looks at memories of at most so many bits: that wider ones are in order follows from them.
+/// The quick check looks at memories of at most so many bits. That wider ones are in order follows from them where the
+/// macros are those that a build assembles.
 const MOST_BITS: u32 = 4;
 
 /// Where bits are written apart from each other, rules are looked at in memories of so many bits alone.

@@ -1,40 +1,23 @@
-ghost use Rattle.std.specs.Prelude.{◌≡◌, ◌↔◌, ◌⊎◌, Contains, IsTrue};
-ghost use Rattle.tech_rules.specs.Touch.{IsConductor, IsCutTo, Joins, ShareArea, Touch, TouchByCut, TouchOnLayer};
+ghost use Rattle.std.specs.Prelude.{◌≡◌, ◌↔◌, ◌⊎◌, IsTrue};
+ghost use Rattle.tech_rules.specs.Touch.{IsCutTo, Joins, ShareArea, Touch, TouchByCut, TouchOnLayer};
 
+use net_extractor::{connects, is_conductor};
 use or_geom::{Rect, Shape, joined};
+use shape_bins::overlap;
 use tech_rules::Connect;
-
-/// Whether the connection connects the layer.
-fn connects_layer(connect: &Connect, layer: u16) -> bool
-    ensures { IsTrue result ↔ Contains connect.now.to layer }
-{
-    connect.to.as_slice().contains(&layer)
-}
-
-/// Whether one of the connections connects the layer.
-fn is_conductor(connects: &[Connect], layer: u16) -> bool
-    ensures { IsTrue result ↔ IsConductor connects.now layer }
-{
-    for connect in connects {
-        if connects_layer(connect, layer) {
-            return true;
-        }
-    }
-    false
-}
 
 /// Whether the connection is of this cut layer and connects the other.
 fn joins(connect: &Connect, cut: u16, other: u16) -> bool
     ensures { IsTrue result ↔ Joins cut other connect.now }
 {
-    connect.cut == cut && connects_layer(connect, other)
+    connect.cut == cut && connects(connect, other)
 }
 
 /// Whether one of the connections is of this cut layer and connects the other.
-fn is_cut_to(connects: &[Connect], cut: u16, other: u16) -> bool
-    ensures { IsTrue result ↔ IsCutTo connects.now cut other }
+fn is_cut_to(connections: &[Connect], cut: u16, other: u16) -> bool
+    ensures { IsTrue result ↔ IsCutTo connections.now cut other }
 {
-    for connect in connects {
+    for connect in connections {
         if joins(connect, cut, other) {
             return true;
         }
@@ -42,51 +25,38 @@ fn is_cut_to(connects: &[Connect], cut: u16, other: u16) -> bool
     false
 }
 
-/// Whether the rectangles share area.
-#[tactic(auto, using(crate::proofs::FarLaws::shares_overlap))]
+/// Whether a unit cell lies in both rectangles.
 fn share_area(a: Rect, b: Rect) -> bool
     ensures { IsTrue result ↔ ShareArea a b }
 {
-    if a.x2 <= b.x1 {
-        return false;
-    }
-    if b.x2 <= a.x1 {
-        return false;
-    }
-    if a.y2 <= b.y1 {
-        return false;
-    }
-    if b.y2 <= a.y1 {
-        return false;
-    }
-    true
+    overlap(a, b)
 }
 
 /// Whether the shapes are joined on one conductor layer.
-fn touch_on_layer(connects: &[Connect], a: Shape, b: Shape) -> bool
-    ensures { IsTrue result ↔ TouchOnLayer connects.now a b }
+fn touch_on_layer(connections: &[Connect], a: Shape, b: Shape) -> bool
+    ensures { IsTrue result ↔ TouchOnLayer connections.now a b }
 {
     if a.layer != b.layer {
         return false;
     }
-    joined(a.rect, b.rect) && is_conductor(connects, a.layer)
+    joined(a.rect, b.rect) && is_conductor(connections, a.layer)
 }
 
 /// Whether the shapes share area, and the first is on a cut layer that connects the layer of the other.
-fn touch_by_cut(connects: &[Connect], cut: Shape, other: Shape) -> bool
-    ensures { IsTrue result ↔ TouchByCut connects.now cut other }
+fn touch_by_cut(connections: &[Connect], cut: Shape, other: Shape) -> bool
+    ensures { IsTrue result ↔ TouchByCut connections.now cut other }
 {
-    share_area(cut.rect, other.rect) && is_cut_to(connects, cut.layer, other.layer)
+    share_area(cut.rect, other.rect) && is_cut_to(connections, cut.layer, other.layer)
 }
 
 /// Whether the shapes touch.
-fn touch(connects: &[Connect], a: Shape, b: Shape) -> bool
-    ensures { IsTrue result ↔ Touch connects.now a b }
+fn touch(connections: &[Connect], a: Shape, b: Shape) -> bool
+    ensures { IsTrue result ↔ Touch connections.now a b }
 {
-    if touch_on_layer(connects, a, b) {
+    if touch_on_layer(connections, a, b) {
         return true;
     }
-    touch_by_cut(connects, a, b) || touch_by_cut(connects, b, a)
+    touch_by_cut(connections, a, b) || touch_by_cut(connections, b, a)
 }
 
 /// Whether the shapes are one.
@@ -97,8 +67,8 @@ fn is_same(a: Shape, b: Shape) -> bool
 }
 
 /// Whether the shapes touch, or are one.
-pub fn touch_or_same(connects: &[Connect], a: Shape, b: Shape) -> bool
-    ensures { IsTrue result ↔ (Touch connects.now a b ⊎ (a ≡ b)) }
+pub fn touch_or_same(connections: &[Connect], a: Shape, b: Shape) -> bool
+    ensures { IsTrue result ↔ (Touch connections.now a b ⊎ (a ≡ b)) }
 {
-    is_same(a, b) || touch(connects, a, b)
+    is_same(a, b) || touch(connections, a, b)
 }

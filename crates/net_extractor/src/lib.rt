@@ -26,5 +26,6 @@ pub use comparison::compare;
 pub use difference::{NetDiff, PinName};
 pub use label::{NetLabel, Nets};
 pub use laws::{differences_are_unique, differences_exclude_alike, nets_are_unique};
+pub use links::{connects, is_conductor};
 pub use net_numbers::shape_nets;
 pub use nets::extract;

@@ -7,7 +7,7 @@ use or_geom::Memory;
 use tech_rules::Connect;
 
 /// Whether the connection connects the layer.
-fn connects(connect: &Connect, layer: u16) -> bool
+pub fn connects(connect: &Connect, layer: u16) -> bool
     ensures { IsTrue result ↔ Contains connect.now.to layer }
 {
     connect.to.as_slice().contains(&layer)

@@ -3,4 +3,4 @@ use Rattle.tech_rules.specs.Touch.{Joins}
 use Rattle.leaf_contacts.proofs.touching.is_cut_to.Given as goal
 
 abbrev pub invariant-loop-connect : goal.invariant-loop-connect
-invariant-loop-connect l = IsAmongLeft (Joins l.cut l.other) l.connects l.connect-index
+invariant-loop-connect l = IsAmongLeft (Joins l.cut l.other) l.connections l.connect-index

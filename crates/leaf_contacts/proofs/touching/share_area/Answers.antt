@@ -1,14 +1,8 @@
-use Rattle.std.proofs.Common.{refl, arith}
-use Rattle.std.proofs.lemmas.Int.{ints}
-use Rattle.leaf_contacts.proofs.FarLaws.{overlap_shares}
+use Rattle.leaf_contacts.proofs.FarLaws.{overlap_shares, shares_overlap}
 use Rattle.leaf_contacts.proofs.touching.share_area.Goals as goal
 
 pub returns : goal.returns
-returns c =
-    let left = c.if-a-b.false in
-    let right = c.if-b-a.false in
-    let low = c.if-a-b-2.false in
-    let high = c.if-b-a-2.false in (
-      λ _. overlap_shares c.args.a c.args.b (omega (arith, ints, left)) (omega (arith, ints, right)) (omega (arith, ints, low)) (omega (arith, ints, high)),
-      λ _. refl,
-    )
+returns c = (
+  λ yes. let o = c.overlap.ensures.0 yes in overlap_shares c.args.a c.args.b o.right o.left o.high o.low,
+  λ s. c.overlap.ensures.1 (shares_overlap c.args.a c.args.b s),
+)
