@@ -12,11 +12,11 @@ pub range_more : (a n : ℕ) → range_with_len a (suc n) ≡ range_with_len a n
 range_more a zero = ap (λ (k : ℕ). k ∷ []) (omega arith)
 range_more a (suc n) = ap (λ (l : List ℕ). a ∷ l) (range_more (a + 1) n ∙ ap (λ (k : ℕ). range_with_len (a + 1) n ++ k ∷ []) (omega arith))
 
-pub keys_more : (keys : List (ℕ × ℕ)) (key : ℕ × ℕ) (begin place : ℕ) → begin ≤ place → map place_of_key keys ≡ range_with_len begin (place - begin) → key.1 ≡ place → map place_of_key (keys ++ key ∷ []) ≡ range_with_len begin (place + 1 - begin)
+pub keys_more : (keys : List ℕ) (key begin place : ℕ) → begin ≤ place → map place_of_key keys ≡ range_with_len begin (place - begin) → place_of_key key ≡ place → map place_of_key (keys ++ key ∷ []) ≡ range_with_len begin (place + 1 - begin)
 keys_more keys key begin place above is at =
     let step : place + 1 - begin ≡ suc (place - begin) = omega (arith, above) in
-    let here : begin + (place - begin) ≡ key.1 = omega (arith, above, at) in
-    map-append place_of_key keys (key ∷ []) ∙ (ap (λ (l : List ℕ). l ++ key.1 ∷ []) is ∙ (ap (λ (k : ℕ). range_with_len begin (place - begin) ++ k ∷ []) (sym here) ∙ (sym (range_more begin (place - begin)) ∙ ap (range_with_len begin) (sym step))))
+    let here : begin + (place - begin) ≡ place_of_key key = omega (arith, above, at) in
+    map-append place_of_key keys (key ∷ []) ∙ (ap (λ (l : List ℕ). l ++ place_of_key key ∷ []) is ∙ (ap (λ (k : ℕ). range_with_len begin (place - begin) ++ k ∷ []) (sym here) ∙ (sym (range_more begin (place - begin)) ∙ ap (range_with_len begin) (sym step))))
 
 in_range : (begin n place : ℕ) → Contains (range_with_len begin n) place → (begin ≤ place) × (place < begin + n)
 in_range begin n place h =
@@ -30,7 +30,7 @@ range_has begin n place above below =
     let at : begin + (place - begin) ≡ place = omega (arith, above) in
     (place - begin, subst (λ (k : ℕ). (place - begin) < k) (sym (length-range_with_len begin n)) lt, get_or-range_with_len begin n (place - begin) place lt ∙ at)
 
-pub order_added : (keys sorted : List (ℕ × ℕ)) (old new : List ℕ) (begin end : ℕ) → begin ≤ end → IsPermutation keys sorted → map place_of_key keys ≡ range_with_len begin (end - begin) → new ≡ old ++ map place_of_key sorted
+pub order_added : (keys sorted old new : List ℕ) (begin end : ℕ) → begin ≤ end → IsPermutation keys sorted → map place_of_key keys ≡ range_with_len begin (end - begin) → new ≡ old ++ map place_of_key sorted
     → IsOrderAdded begin end old new
 order_added keys sorted old new begin end order moved is made =
     let there = IsPermutation-map place_of_key keys sorted moved in

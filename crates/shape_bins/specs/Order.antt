@@ -1,8 +1,9 @@
 -- Places in an order.
-use Rattle.std.specs.Prelude.{◌≡◌, ◌↔◌, ℕ, ◌-◌, ◌<◌, ◌≤◌, List, ◌++◌, length, Contains}
+use Rattle.std.specs.Prelude.{◌≡◌, ◌↔◌, ℕ, ◌-◌, ◌%◌, ◌<◌, ◌≤◌, List, ◌++◌, length, Contains}
 
-abbrev pub place_of_key : ℕ × ℕ → ℕ
-place_of_key key = key.1
+-- the lower 32 bits
+abbrev pub place_of_key : ℕ → ℕ
+place_of_key key = key % 4294967296
 
 -- the places from one up to another were added, in some order
 pub record IsOrderAdded (begin end : ℕ) (old new : List ℕ) : Type 0 where
