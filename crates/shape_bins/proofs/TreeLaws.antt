@@ -76,7 +76,7 @@ leaves_least shapes places layer begin end least (x ∷ xs) all a at place above
 ]
 
 -- nodes one after another
-begin_first : (end mid : ℕ) (xs ys : List Node) (k : ℕ) → position_at end ys 0 ≡ mid → k ≤ length xs → position_at end (xs ++ ys) k ≡ position_at mid xs k
+pub begin_first : (end mid : ℕ) (xs ys : List Node) (k : ℕ) → position_at end ys 0 ≡ mid → k ≤ length xs → position_at end (xs ++ ys) k ≡ position_at mid xs k
 begin_first end mid [] ys zero begins le = begins
 begin_first end mid [] ys (suc k) begins le = absurd (omega (arith, le))
 begin_first end mid (x ∷ xs) ys zero begins le = refl

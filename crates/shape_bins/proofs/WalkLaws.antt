@@ -1,5 +1,5 @@
 -- What a walk over the nodes of trees passes over.
-use Rattle.std.proofs.Common.{◌≡◌, inl, inr, ℕ, List, length, Some, refl, sym, subst, ◌∙◌, arith}
+use Rattle.std.proofs.Common.{◌≡◌, inl, inr, ℕ, List, length, Some, refl, sym, subst, ◌∙◌, ◌≤◌, arith}
 use Rattle.std.specs.Prelude.{slice_get, MatchOption, Option, None}
 use Rattle.std.proofs.lemmas.Int.{ints}
 use Rattle.std.proofs.lemmas.Option.{same_Some, slice_get_within, slice_get-get_or}
@@ -11,16 +11,18 @@ use Rattle.or_geom.specs.Adds.{Adds}
 use Rattle.or_geom.specs.Joined.{IsIn}
 use Rattle.or_geom.proofs.AddsLaws.{adds_as}
 use Rattle.shape_bins.specs.declared.forest.IndexedShape.{IndexedShape}
+use Rattle.shape_bins.specs.declared.forest.NodeRange.{NodeRange}
 use Rattle.shape_bins.specs.declared.node.Node.{Node}
 use Rattle.shape_bins.specs.declared.query.Query.{Query}
 use Rattle.shape_bins.specs.declared.query.Query.TheVariants.{Meets, MeetsOutside, Joins, Overlaps, At, Holds}
-use Rattle.shape_bins.specs.Forest.{AreTreesTo, IsListedAt}
+use Rattle.shape_bins.specs.Forest.{AreTreesTo, IsRangeOf, IsListedAt}
 use Rattle.shape_bins.specs.Hits.{IsHit, IsHitFrom, NoHitFrom, IsFirstHit}
 use Rattle.shape_bins.specs.Least.{IsLeastWith}
 use Rattle.shape_bins.specs.Meets.{Meet}
-use Rattle.shape_bins.specs.Nodes.{IsNodeOver, IsNodeNear}
+use Rattle.shape_bins.specs.Nodes.{IsNodeOver, IsNodeNear, position_at}
 use Rattle.shape_bins.specs.Places.{HasBetween}
 use Rattle.shape_bins.specs.Query.{FitsQuery}
+use Rattle.shape_bins.proofs.NodeLaws.{begin_rises}
 
 in_outer : (outer inner : Rect) (p : Point) → HoldsRect outer inner → IsIn inner p → IsIn outer p
 in_outer outer inner p h i = record {
@@ -88,7 +90,7 @@ placed_no_hit shapes places layer at query placed is none hit =
     none (subst (λ (s : Shape). FitsQuery query s.rect) (same_Some hit.shape placed.shape (sym hit.there ∙ is.there)) hit.fits)
 
 -- each shape that is looked for stands somewhere in the list
-pub hit_between : (shapes : List Shape) (places : List ℕ) (nodes : List Node) (layer : ℕ) (query : Query) (place : ℕ) → AreTreesTo shapes (length shapes) places nodes → IsHit shapes layer query place
+pub hit_between : {ranges : List NodeRange} (shapes : List Shape) (places : List ℕ) (nodes : List Node) (layer : ℕ) (query : Query) (place : ℕ) → AreTreesTo shapes (length shapes) places nodes ranges → IsHit shapes layer query place
     → HasBetween (IsHit shapes layer query) places 0 (length shapes) place
 hit_between shapes places nodes layer query place trees hit =
     let among = trees.all place (slice_get_within shapes place hit.shape hit.there) in
@@ -107,23 +109,44 @@ pub near_none_from : (shapes : List Shape) (places : List ℕ) (layer : ℕ) (qu
     → HasBetween (IsHitFrom shapes layer query from) places node.first node.end place → ⊥
 near_none_from shapes places layer query from node over none place h = near_none shapes places layer query node over none place (h.0, h.1.hit)
 
-pub hit_between_from : (shapes : List Shape) (places : List ℕ) (nodes : List Node) (layer : ℕ) (query : Query) (from place : ℕ) → AreTreesTo shapes (length shapes) places nodes → IsHitFrom shapes layer query from place
-    → HasBetween (IsHitFrom shapes layer query from) places 0 (length shapes) place
-hit_between_from shapes places nodes layer query from place trees h = ((hit_between shapes places nodes layer query place trees h.hit).0, h)
+-- a walk from the first node of a layer's range up to the first one behind it
+module _ {ranges : List NodeRange} (shapes : List Shape) (places : List ℕ) (nodes : List Node) (layer : ℕ) (query : Query) (range : NodeRange) (trees : AreTreesTo shapes (length shapes) places nodes ranges)
+    (is : IsRangeOf shapes (length shapes) places nodes layer range) where
+  -- no shape that is looked for stands before the range
+  pub none_before : (place : ℕ) → HasBetween (IsHit shapes layer query) places 0 (position_at (length shapes) nodes range.first) place → ⊥
+  none_before place h =
+      let inside = is.holds h.0.at place h.0.there (record { shape = h.1.shape; there = h.1.there; on = h.1.on }) in
+      let from = inside.0 in
+      let to = h.0.to in
+      omega (arith, from, to)
 
-pub adds_all : (shapes : List Shape) (places : List ℕ) (nodes : List Node) (layer : ℕ) (query : Query) (old new : List ℕ) → AreTreesTo shapes (length shapes) places nodes
-    → Adds old new (HasBetween (IsHit shapes layer query) places 0 (length shapes)) → Adds old new (IsHit shapes layer query)
-adds_all shapes places nodes layer query old new trees a = adds_as old new (HasBetween (IsHit shapes layer query) places 0 (length shapes)) (IsHit shapes layer query) (λ p h. h.1) (λ p h. hit_between shapes places nodes layer query p trees h) a
+  pub none_before_from : (from place : ℕ) → HasBetween (IsHitFrom shapes layer query from) places 0 (position_at (length shapes) nodes range.first) place → ⊥
+  none_before_from from place h = none_before place (h.0, h.1.hit)
 
--- the least of all
-pub least_all : (shapes : List Shape) (places : List ℕ) (nodes : List Node) (layer : ℕ) (query : Query) (from : ℕ) (found : Option ℕ) → AreTreesTo shapes (length shapes) places nodes
-    → IsLeastWith None (HasBetween (IsHitFrom shapes layer query from) places 0 (length shapes)) found → MatchOption found (NoHitFrom shapes layer query from) (IsFirstHit shapes layer query from)
-least_all shapes places nodes layer query from None trees l = λ place above hit. l.least place (hit_between_from shapes places nodes layer query from place trees (record { from_there = above; hit = hit }))
-least_all shapes places nodes layer query from (Some place) trees l = elim (l.one place refl) [
-  | inl e ↦ absurd cc
-  | inr h ↦ record {
-    from_there = h.1.from_there;
-    hit = h.1.hit;
-    first = λ other above hit. l.least other (hit_between_from shapes places nodes layer query from other trees (record { from_there = above; hit = hit }));
-  }
-]
+  -- and none behind it
+  pub hit_before : (at place : ℕ) → range.end ≤ at → IsHit shapes layer query place → HasBetween (IsHit shapes layer query) places 0 (position_at (length shapes) nodes at) place
+  hit_before at place past hit =
+      let h = hit_between shapes places nodes layer query place trees hit in
+      let inside = is.holds h.0.at place h.0.there (record { shape = hit.shape; there = hit.there; on = hit.on }) in
+      let to = inside.1 in
+      let rise = begin_rises shapes places (length shapes) nodes range.end at trees.trees.each past in
+      (record { at = h.0.at; from = h.0.from; to = omega (arith, to, rise); there = h.0.there }, hit)
+
+  pub adds_all : (at : ℕ) (old new : List ℕ) → range.end ≤ at → Adds old new (HasBetween (IsHit shapes layer query) places 0 (position_at (length shapes) nodes at)) → Adds old new (IsHit shapes layer query)
+  adds_all at old new past a = adds_as old new (HasBetween (IsHit shapes layer query) places 0 (position_at (length shapes) nodes at)) (IsHit shapes layer query) (λ p h. h.1) (λ p h. hit_before at p past h) a
+
+  hit_before_from : (at from place : ℕ) → range.end ≤ at → from ≤ place → IsHit shapes layer query place → HasBetween (IsHitFrom shapes layer query from) places 0 (position_at (length shapes) nodes at) place
+  hit_before_from at from place past above hit = ((hit_before at place past hit).0, record { from_there = above; hit = hit })
+
+  -- the least of all
+  pub least_all : (at from : ℕ) (found : Option ℕ) → range.end ≤ at → IsLeastWith None (HasBetween (IsHitFrom shapes layer query from) places 0 (position_at (length shapes) nodes at)) found
+      → MatchOption found (NoHitFrom shapes layer query from) (IsFirstHit shapes layer query from)
+  least_all at from None past l = λ place above hit. l.least place (hit_before_from at from place past above hit)
+  least_all at from (Some place) past l = elim (l.one place refl) [
+    | inl e ↦ absurd cc
+    | inr h ↦ record {
+      from_there = h.1.from_there;
+      hit = h.1.hit;
+      first = λ other above hit. l.least other (hit_before_from at from other past above hit);
+    }
+  ]

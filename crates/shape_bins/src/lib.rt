@@ -16,7 +16,7 @@ mod walk;
 
 pub use bins::{Bins, bins_are_shared, index};
 pub use clear::ClearBox;
-pub use forest::Forest;
+pub use forest::{Forest, NodeRange, nodes_of};
 pub use node::Node;
 pub use query::{Query, overlap};
 pub use walk::{add_of_leaf, is_wanted};

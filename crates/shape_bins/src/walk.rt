@@ -8,7 +8,7 @@ ghost use Rattle.shape_bins.specs.Layers.{rects_on};
 ghost use Rattle.shape_bins.specs.Least.{IsAtMost, IsLeastWith, IsLesser};
 ghost use Rattle.shape_bins.specs.Nodes.{IsNodeNear, IsNodeOver};
 
-use crate::forest::{Forest, IndexedShape, placed_at};
+use crate::forest::{Forest, IndexedShape, nodes_of, placed_at};
 use crate::node::Node;
 use crate::query::{Query, fits};
 use or_geom::{Memory, Point, Rect};
@@ -50,9 +50,9 @@ pub fn add_near(
     requires { IsForest forest }
     ensures { OnOk result (Adds out.old.items out.new.items (IsHit forest.entry.shapes.now layer query)) }
 {
-    let mut at = 0;
-    let end = forest.nodes.len();
-    while at < end {
+    let range = nodes_of(forest, layer);
+    let mut at = range.first;
+    while at < range.end {
         let node = forest.nodes[at];
         if !is_wanted(node, layer, query) {
             at += node.size;
@@ -121,9 +121,9 @@ pub fn least_near(forest: Forest<'_>, layer: u16, query: Query, from: usize) -> 
         (IsFirstHit forest.entry.shapes.now layer query from) }
 {
     let mut found = None;
-    let mut at = 0;
-    let end = forest.nodes.len();
-    while at < end {
+    let range = nodes_of(forest, layer);
+    let mut at = range.first;
+    while at < range.end {
         let node = forest.nodes[at];
         if is_at_most(found, node.least) || !is_wanted(node, layer, query) {
             at += node.size;
@@ -158,9 +158,9 @@ pub fn some_near(forest: Forest<'_>, layer: u16, query: Query) -> Option<usize>
     ensures { MatchOption result (NoHitFrom forest.entry.shapes.now layer query 0)
         (IsHit forest.entry.shapes.now layer query) }
 {
-    let mut at = 0;
-    let end = forest.nodes.len();
-    while at < end {
+    let range = nodes_of(forest, layer);
+    let mut at = range.first;
+    while at < range.end {
         let node = forest.nodes[at];
         if !is_wanted(node, layer, query) {
             at += node.size;
@@ -231,9 +231,9 @@ pub fn largest_near(forest: Forest<'_>, layer: u16, query: Query) -> Option<usiz
     ensures { IfSome result (IsHit forest.entry.shapes.now layer query) }
 {
     let mut found: Option<IndexedShape> = None;
-    let mut at = 0;
-    let end = forest.nodes.len();
-    while at < end {
+    let range = nodes_of(forest, layer);
+    let mut at = range.first;
+    while at < range.end {
         let node = forest.nodes[at];
         if !is_wanted(node, layer, query) || !is_larger(node.hull.rect, found) {
             at += node.size;

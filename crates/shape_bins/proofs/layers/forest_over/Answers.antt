@@ -20,14 +20,14 @@ loop-begin-preserved c =
     let leaves : AreLeafNodes c.args.shapes.now c.add_order.new.places.items c.layer_at-layer.result c.loop-begin.begin c.run_end-end.result c.in_ok-leaves.leaves.items =
     subst (λ (k : ℕ). AreLeafNodes c.args.shapes.now c.add_order.new.places.items c.layer_at-layer.result c.loop-begin.begin k c.in_ok-leaves.leaves.items) sized (rw c.deref.ensures.value at c.in_ok-leaves.ensures.over) in
     record {
-      forest = forest_grows c.args.shapes.now c.loop-begin.begin c.run_end-end.result c.loop-begin.places.items c.add_order.new.places.items c.loop-begin.nodes.items c.in_ok-add_tree.ensures.tree c.add_tree.new.nodes.items rise
-          c.loop-begin.invariant.forest c.in_ok-add_order.ensures
+      forest = forest_grows c.args.shapes.now c.layer_at-layer.result c.loop-begin.begin c.run_end-end.result c.loop-begin.places.items c.add_order.new.places.items c.loop-begin.nodes.items c.in_ok-add_tree.ensures.tree c.add_tree.new.nodes.items
+          c.loop-begin.ranges.items c.add_range.new.ranges.items _ c.run_end-end.ensures c.loop-begin.invariant.forest c.in_ok-add_order.ensures
           (c.in_ok-add_tree.ensures.over c.args.shapes.now c.add_order.new.places.items c.layer_at-layer.result c.loop-begin.begin c.run_end-end.result (rw c.deref-in-loop-begin.ensures.value leaves))
-          c.in_ok-add_tree.ensures.is;
+          c.in_ok-add_tree.ensures.is (omega (arith, c.len-first.ensures, c.loop-begin.nodes.ok.0)) (omega (arith, c.len.ensures, c.add_tree.new.nodes.ok.0)) c.in_ok-add_range.ensures;
       within = c.run_end-end.ensures.within;
     }
 
 pub returns-clause-forest : goal.returns-clause-forest
 returns-clause-forest c =
     let all : c.loop-begin.begin ≡ length c.args.shapes.now = omega (arith, c.loop-begin.invariant.within, c.loop-begin-test.false) in
-    rw c.into_bump_slice.ensures (rw c.into_bump_slice-2.ensures (subst (λ (k : ℕ). AreTreesTo c.args.shapes.now k c.loop-begin.places.items c.loop-begin.nodes.items) all c.loop-begin.invariant.forest))
+    rw c.into_bump_slice.ensures (rw c.into_bump_slice-2.ensures (rw c.into_bump_slice-3.ensures (subst (λ (k : ℕ). AreTreesTo c.args.shapes.now k c.loop-begin.places.items c.loop-begin.nodes.items c.loop-begin.ranges.items) all c.loop-begin.invariant.forest)))

@@ -1,13 +1,12 @@
-use Rattle.std.proofs.Common.{◌≤◌, ◌-◌, length}
+use Rattle.std.proofs.Common.{◌-◌}
 use Rattle.std.specs.Prelude.{IfSome}
 use Rattle.shape_bins.specs.Hits.{IsHitOf}
 use Rattle.shape_bins.proofs.walk.largest_near.Given as goal
 
 abbrev pub invariant-loop-at : goal.invariant-loop-at
 invariant-loop-at l = record {
-  within : l.at ≤ length l.forest.nodes.now;
   hit : IfSome l.found (IsHitOf l.forest.shapes.now l.layer l.fn.query);
 }
 
 abbrev pub decreases-loop-at : goal.decreases-loop-at
-decreases-loop-at l = length l.forest.nodes.now - l.at
+decreases-loop-at l = l.range.end - l.at

@@ -1,4 +1,4 @@
-use Rattle.std.proofs.Common.{◌≤◌, ◌-◌, ℕ, length}
+use Rattle.std.proofs.Common.{◌-◌, ℕ, length}
 use Rattle.shape_bins.specs.Hits.{IsHit}
 use Rattle.shape_bins.specs.Nodes.{position_at}
 use Rattle.shape_bins.specs.Places.{HasBetween}
@@ -6,9 +6,8 @@ use Rattle.shape_bins.proofs.walk.some_near.Given as goal
 
 abbrev pub invariant-loop-at : goal.invariant-loop-at
 invariant-loop-at l = record {
-  within : l.at ≤ length l.forest.nodes.now;
   none : (place : ℕ) → HasBetween (IsHit l.forest.shapes.now l.layer l.fn.query) l.forest.places.now 0 (position_at (length l.forest.shapes.now) l.forest.nodes.now l.at) place → ⊥;
 }
 
 abbrev pub decreases-loop-at : goal.decreases-loop-at
-decreases-loop-at l = length l.forest.nodes.now - l.at
+decreases-loop-at l = l.range.end - l.at
