@@ -1,4 +1,4 @@
-use Rattle.std.proofs.Common.{◌≤◌, ◌-◌, length}
+use Rattle.std.proofs.Common.{◌-◌, length}
 use Rattle.or_geom.specs.Adds.{Adds}
 use Rattle.shape_bins.specs.Hits.{IsHit}
 use Rattle.shape_bins.specs.Nodes.{position_at}

@@ -1,4 +1,4 @@
-use Rattle.std.proofs.Common.{◌≤◌, ◌-◌, length}
+use Rattle.std.proofs.Common.{◌-◌}
 use Rattle.std.specs.Prelude.{IfSome}
 use Rattle.shape_bins.specs.Hits.{IsHitOf}
 use Rattle.shape_bins.proofs.walk.largest_near.Given as goal

@@ -1,4 +1,4 @@
-use Rattle.std.proofs.Common.{◌≤◌, ◌-◌, length, None}
+use Rattle.std.proofs.Common.{◌-◌, length, None}
 use Rattle.shape_bins.specs.Hits.{IsHitFrom}
 use Rattle.shape_bins.specs.Least.{IsLeastWith}
 use Rattle.shape_bins.specs.Nodes.{position_at}

@@ -1,4 +1,4 @@
-use Rattle.std.proofs.Common.{ℕ, length, get_or, sym, subst, arith}
+use Rattle.std.proofs.Common.{ℕ, length, get_or, subst, arith}
 use Rattle.shape_bins.specs.Hits.{IsHit}
 use Rattle.shape_bins.specs.Places.{HasBetween}
 use Rattle.shape_bins.proofs.NodeLaws.{node_read, from_first, to_behind, to_next, to_inner}

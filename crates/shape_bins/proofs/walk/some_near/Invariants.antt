@@ -1,4 +1,4 @@
-use Rattle.std.proofs.Common.{◌≤◌, ◌-◌, ℕ, length}
+use Rattle.std.proofs.Common.{◌-◌, ℕ, length}
 use Rattle.shape_bins.specs.Hits.{IsHit}
 use Rattle.shape_bins.specs.Nodes.{position_at}
 use Rattle.shape_bins.specs.Places.{HasBetween}
