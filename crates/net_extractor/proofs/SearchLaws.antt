@@ -3,12 +3,13 @@ use Rattle.std.proofs.Common.{◌≡◌, ◌⊎◌, inl, inr, ℕ, ◌+◌, ◌�
 use Rattle.std.specs.Prelude.{slice_get}
 use Rattle.std.proofs.lemmas.Bool.{cases_lt}
 use Rattle.shape_bins.specs.declared.forest.Forest.{Forest}
+use Rattle.shape_bins.specs.declared.forest.NodeRange.{NodeRange}
 use Rattle.shape_bins.specs.declared.node.Node.{Node}
 use Rattle.shape_bins.specs.declared.query.Query.TheVariants.{Meets}
-use Rattle.shape_bins.specs.Forest.{IsForest}
+use Rattle.shape_bins.specs.Forest.{IsForest, IsRangeOf}
 use Rattle.shape_bins.specs.Nodes.{IsNodeNear, position_at}
 use Rattle.shape_bins.proofs.NodeLaws.{IsNodeAt}
-use Rattle.shape_bins.proofs.WalkLaws.{hit_between, near_none}
+use Rattle.shape_bins.proofs.WalkLaws.{hit_before, near_none, none_before}
 use Rattle.net_extractor.specs.declared.walk.Search.{Search}
 use Rattle.net_extractor.specs.Marks.{AreMarkedSets, AreNodeMarks, IsMarkedStep, IsPairBetween, IsRunWithNode, IsSearched, JoinsBetween, JoinsMarked}
 use Rattle.net_extractor.specs.Runs.{AreOfRun}
@@ -41,17 +42,20 @@ no_pair_between P places first end a b short h =
     let to = h.1.to in
     omega (arith, from, to, short)
 
-pub between_begins : (P : ℕ → ℕ → Type 0) (places : List ℕ) (first end : ℕ) (above : List ℕ) → end ≤ first → IsFalling above → JoinsSets (IsPairBetween P places first end) above above
-between_begins P places first end above short falls = joins_none (IsPairBetween P places first end) above falls (λ a b h. no_pair_between P places first end a b short h)
-
 module _ (forest : Forest) (search : Search) (of : AreOfRun forest.shapes.now search.run search.own.now) where
-  -- all that is searched for stands somewhere in the order
-  pub between_all : (old new : List ℕ) → IsForest forest → JoinsBetween forest search 0 (length forest.shapes.now) old new → JoinsSets (IsSearched forest search) old new
-  between_all old new trees joins =
-      joins_as (IsPairBetween (IsSearched forest search) forest.places.now 0 (length forest.shapes.now)) (IsSearched forest search) old new
-      (λ a b h. inl h.0)
-      (λ a b p. inl (p, (hit_between forest.shapes.now forest.places.now forest.nodes.now search.layer (Meets search.run.hull) b trees (pair_hit forest.shapes.now search.run search.own.now of search.contact search.layer a b p)).0))
-      joins
+  module _ (range : NodeRange) (trees : IsForest forest) (is : IsRangeOf forest.shapes.now (length forest.shapes.now) forest.places.now forest.nodes.now search.layer range) where
+    -- nothing that is searched for stands before the nodes of the layer
+    pub between_begins : (above : List ℕ) → IsFalling above → JoinsBetween forest search 0 (position_at (length forest.shapes.now) forest.nodes.now range.first) above above
+    between_begins above falls = joins_none (IsPairBetween (IsSearched forest search) forest.places.now 0 (position_at (length forest.shapes.now) forest.nodes.now range.first)) above falls
+        (λ a b h. none_before forest.shapes.now forest.places.now forest.nodes.now search.layer (Meets search.run.hull) range trees is b (h.1, pair_hit forest.shapes.now search.run search.own.now of search.contact search.layer a b h.0))
+
+    -- and none behind them
+    pub between_all : (at : ℕ) (old new : List ℕ) → range.end ≤ at → JoinsBetween forest search 0 (position_at (length forest.shapes.now) forest.nodes.now at) old new → JoinsSets (IsSearched forest search) old new
+    between_all at old new past joins =
+        joins_as (IsPairBetween (IsSearched forest search) forest.places.now 0 (position_at (length forest.shapes.now) forest.nodes.now at)) (IsSearched forest search) old new
+        (λ a b h. inl h.0)
+        (λ a b p. inl (p, (hit_before forest.shapes.now forest.places.now forest.nodes.now search.layer (Meets search.run.hull) range trees is at b past (pair_hit forest.shapes.now search.run search.own.now of search.contact search.layer a b p)).0))
+        joins
 
   module _ (at : ℕ) (node : Node) (n : IsNodeAt forest.shapes.now forest.places.now (length forest.shapes.now) forest.nodes.now at node) where
     -- a step over a node and all below it

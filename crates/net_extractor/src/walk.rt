@@ -8,7 +8,7 @@ use crate::contacts::{Contact, join_places};
 use crate::marks::{is_leaf_one_set, is_one_set_with};
 use crate::run::{NearRun, RunShape};
 use or_geom::Memory;
-use shape_bins::{Forest, Node, Query, add_of_leaf, is_wanted};
+use shape_bins::{Forest, Node, Query, add_of_leaf, is_wanted, nodes_of};
 
 /// What the shapes of a run are joined with: the shapes of the layer that are in contact with them.
 #[derive(Clone, Copy)]
@@ -86,9 +86,9 @@ pub fn join_contacts(
     requires run { AreOfRun forest.shapes.now search.run search.own.now }
     ensures { OnOk result (JoinsMarked (IsSearched forest.entry search.entry) forest.entry above.old above.new marks.new) }
 {
-    let mut at = 0;
-    let end = forest.nodes.len();
-    while at < end {
+    let range = nodes_of(forest, search.layer);
+    let mut at = range.first;
+    while at < range.end {
         at = step(forest, at, search, marks, above, places)?;
     }
     Ok(())
