@@ -1,5 +1,7 @@
 -- Printing one line after another.
-use Rattle.std.proofs.Common.{◌≡◌, ℕ, ◌+◌, ◌<◌, List, [], ◌∷◌, ◌++◌, length, get_or, drop, take, map, Option, Some, None, Err, refl, sym, ap, subst, ◌∙◌, append_assoc, take-append-drop}
+use Rattle.std.proofs.Common.{◌≡◌, ℕ, ◌+◌, ◌<◌, List, [], ◌∷◌, ◌++◌, length, get_or, drop, take, map, Option, Some, None, Ok, Err, refl, sym, ap, subst, ◌∙◌, append_assoc, take-append-drop}
+use Rattle.std.specs.Prelude.{slice_get}
+use Rattle.std.proofs.lemmas.Option.{get_or_from_slice_get, slice_get_within}
 use Rattle.std.proofs.lemmas.List.{append_cancel_right, drop-map, get_or-map, length-map}
 use Rattle.or_geom.proofs.ListLaws.{rest_at}
 use Rattle.or_host.specs.declared.sink.PutFail.{PutFail}
@@ -21,6 +23,21 @@ first_lines : (lines : List (List ℕ)) (i : ℕ) (text : List ℕ) → IsBefore
 first_lines lines i text before =
     append_cancel_right text (lines_text (take i lines)) (lines_text (drop i lines))
     (sym before ∙ (ap lines_text (sym (take-append-drop i lines)) ∙ lines_text_append (take i lines) (drop i lines)))
+
+-- a line whose put went well stands behind those before it
+pub put_goes : (lines : List (List ℕ)) (i : ℕ) (line : List ℕ) (start mid end : Option (List ℕ)) → slice_get lines i ≡ Some line
+    → Grows (IsBefore (lines_text lines) (lines_text (drop i lines))) start mid → Puts mid end line (Ok tt) → Grows (IsBefore (lines_text lines) (lines_text (drop (i + 1) lines))) start end
+put_goes lines i line None mid end is so_far puts = tt
+put_goes lines i line (Some s) None end is so_far puts = absurd so_far
+put_goes lines i line (Some s) (Some m) None is so_far puts = absurd puts
+put_goes lines i line (Some s) (Some m) (Some e) is so_far puts =
+    let rest = lines_text (drop (i + 1) lines) in
+    let more : lines_text (drop i lines) ≡ line ++ rest = ap lines_text (rest_at lines i line (slice_get_within lines i line is) (sym (get_or_from_slice_get lines i line line is))) in (
+      so_far.0 ++ puts.0,
+      so_far.1
+          ∙ (ap (λ (l : List ℕ). so_far.0 ++ l) (more ∙ ap (λ (l : List ℕ). l ++ rest) (sym puts.1)) ∙ sym (append_assoc so_far.0 puts.0 rest)),
+      puts.2 ∙ (ap (λ (l : List ℕ). l ++ puts.0) so_far.2 ∙ append_assoc s so_far.0 puts.0),
+    )
 
 -- a put that failed leaves a prefix of all lines
 cut_at : (lines : List (List ℕ)) (i : ℕ) (line bytes : List ℕ) (start mid end : Option (List ℕ)) → i < length lines → line ≡ get_or lines i line → bytes ≡ line

@@ -8,7 +8,7 @@ ghost use Rattle.command_steps.specs.Printed.{Prints};
 
 use or_geom::Memory;
 use or_host::{PutFail, Sink};
-use reply_lines::{LineSource, ReplyLine, ReplyLines, violation_line};
+use reply_lines::{LineSource, ReplyLine, ReplyLines, TextLines, violation_line};
 use std::alloc::Global;
 use tech_rules::Layer;
 use tile_checker::Violation;
@@ -21,6 +21,21 @@ fn print_made<K: Sink>(lines: &[ReplyLine], out: &mut K) -> Result<(), PutFail>
 {
     for line in lines {
         match out.put(line.as_bytes()) {
+            Ok(()) => {}
+            Err(fail) => return Err(fail),
+        }
+    }
+    Ok(())
+}
+
+/// Prints lines that stand in one buffer, with as many puts as lines, or stops at the first that isn't printed.
+fn print_text<K: Sink>(lines: &TextLines, out: &mut K) -> Result<(), PutFail>
+    ensures printed { Prints lines.now (K.state out.old).text (K.state out.new).text result }
+    ensures cause { HasCause (K.state out.old).faults (K.state out.new).faults (put_failed result) }
+    ensures counted { OnOk result (RoseBy (length lines.now) (K.state out.old).puts (K.state out.new).puts) }
+{
+    for place in 0..lines.len() {
+        match out.put(lines.get(place)) {
             Ok(()) => {}
             Err(fail) => return Err(fail),
         }
@@ -75,6 +90,7 @@ pub fn print<K: Sink>(alloc: Global, lines: &ReplyLines, out: &mut K) -> Result<
 {
     match lines.source() {
         LineSource::Made(lines) => print_made(lines.as_slice(), out),
+        LineSource::Text(lines) => print_text(lines, out),
         LineSource::Report { layers, violations } => {
             print_report(alloc, layers.as_slice(), violations.as_slice(), out)
         }

@@ -12,4 +12,5 @@ report_lines layers violations = map (λ v. reply_line (violation_words layers v
 
 abbrev pub lines_from : LineSource → List (List ℕ)
 lines_from (from.Made lines) = lines
+lines_from (from.Text lines) = lines
 lines_from (from.Report layers violations) = report_lines layers violations

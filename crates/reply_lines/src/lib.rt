@@ -12,6 +12,7 @@ mod net_lines;
 mod refusal;
 mod reply;
 mod rom_refusal;
+mod text_lines;
 
 pub use difference::comparison_reply;
 pub use finding::{report_of, violation_line};
@@ -21,3 +22,4 @@ pub use lines::{LineSource, ReplyLines};
 pub use net_lines::nets_reply;
 pub use refusal::Refusal;
 pub use reply::Reply;
+pub use text_lines::TextLines;

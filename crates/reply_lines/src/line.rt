@@ -7,11 +7,11 @@ use or_geom::Memory;
 use std::alloc::Global;
 use std::marker::Model;
 
-/// Room for a line as most are, so that its buffer doesn't grow: a list of nets may have millions of lines.
+/// Room for a line as most are, so that its buffer doesn't grow.
 const LINE_BYTES: usize = 64;
 
-/// A printed line in the making: words with single spaces between them, in one buffer. Contracts see it as its bytes so
-/// far.
+/// A printed line in the making: words with single spaces between them, in one buffer. Behind a line that is ended the
+/// next one may begin, in the same buffer. Contracts see it as its bytes so far.
 #[derive(Debug, Drop)]
 pub struct ReplyLine {
     text: Vec<u8>,
@@ -26,21 +26,46 @@ impl Model for ReplyLine {
 }
 
 impl ReplyLine {
+    /// No word yet, and room for so many bytes.
+    pub(crate) fn with_room(alloc: Global, room: usize) -> Result<Self, Memory>
+        ensures { IfOk result (λ line. line ≡ []) }
+    {
+        Ok(ReplyLine {
+            text: Vec::with_capacity(alloc, room)?,
+        })
+    }
+
     /// A line that begins with a word.
     pub fn of(alloc: Global, word: &[u8]) -> Result<Self, Memory>
         ensures { IfOk result (λ line. line ≡ word.now) }
     {
-        let mut text = Vec::with_capacity(alloc, LINE_BYTES)?;
-        text.extend_from_slice(word)?;
-        Ok(ReplyLine { text })
+        let mut line = Self::with_room(alloc, LINE_BYTES)?;
+        line.first(word)?;
+        Ok(line)
     }
 
     /// A line that begins with a number.
     pub fn of_number(alloc: Global, number: u64) -> Result<Self, Memory>
         ensures { IfOk result (λ line. line ≡ decimal number) }
     {
+        let mut line = Self::with_room(alloc, LINE_BYTES)?;
+        line.first_number(number)?;
+        Ok(line)
+    }
+
+    /// Adds the first word of a line, as it stands.
+    pub(crate) fn first(&mut self, word: &[u8]) -> Result<(), Memory>
+        ensures { OnOk result (self.new ≡ self.old ++ word.now) }
+    {
+        Ok(self.text.extend_from_slice(word)?)
+    }
+
+    /// Adds a number as the first word of a line.
+    pub(crate) fn first_number(&mut self, number: u64) -> Result<(), Memory>
+        ensures { OnOk result (self.new ≡ self.old ++ decimal number) }
+    {
         let mut buffer = Buffer::new();
-        Self::of(alloc, buffer.format(number).as_bytes())
+        self.first(buffer.format(number).as_bytes())
     }
 
     /// Adds a space and a word as it stands.
@@ -86,7 +111,7 @@ impl ReplyLine {
         Ok(self.text.push(b'\n')?)
     }
 
-    /// The bytes of the line.
+    /// The bytes so far.
     pub fn as_bytes(&self) -> &[u8]
         ensures { result.now ≡ self.now }
     {

@@ -2,6 +2,7 @@ ghost use Rattle.std.specs.Prelude.{◌≡◌};
 ghost use Rattle.reply_lines.specs.ReportLines.{report_lines, lines_from};
 
 use crate::line::ReplyLine;
+use crate::text_lines::TextLines;
 use or_geom::Items;
 use std::marker::Model;
 use tech_rules::Layer;
@@ -12,6 +13,8 @@ use tile_checker::Violation;
 pub enum LineSource {
     /// The lines themselves.
     Made(Items<ReplyLine>),
+    /// The lines themselves, in one buffer.
+    Text(TextLines),
     /// The violations of a report over the layers of a technology. A report may have millions, so each line is made
     /// when it is printed.
     Report {
@@ -42,6 +45,15 @@ impl ReplyLines {
     {
         ReplyLines {
             source: LineSource::Made(lines),
+        }
+    }
+
+    /// Lines that are made, in one buffer.
+    pub(crate) fn text(lines: TextLines) -> Self
+        ensures { result ≡ lines }
+    {
+        ReplyLines {
+            source: LineSource::Text(lines),
         }
     }
 

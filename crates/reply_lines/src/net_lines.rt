@@ -1,4 +1,4 @@
-ghost use Rattle.std.specs.Prelude.{◌≡◌, map, IfOk};
+ghost use Rattle.std.specs.Prelude.{◌≡◌, ◌++◌, map, IfOk, OnOk};
 ghost use Rattle.net_extractor.specs.PlainNets.{plain_net};
 ghost use Rattle.reply_lines.specs.Lines.{reply_line};
 ghost use Rattle.reply_lines.specs.NetLines.{net_word, net_words, net_lines, nets_reply};
@@ -7,46 +7,59 @@ use crate::finding::name_of;
 use crate::line::ReplyLine;
 use crate::lines::ReplyLines;
 use crate::reply::Reply;
+use crate::text_lines::TextLines;
 use net_extractor::NetLabel;
-use or_geom::{Items, Memory};
+use or_geom::Memory;
 use std::alloc::Global;
 use tech_rules::Layer;
 
-/// A line that begins with the number of a net, or with `-` where there is none.
-fn line_of_net(alloc: Global, net: Option<u32>) -> Result<ReplyLine, Memory>
-    ensures { IfOk result (λ line. line ≡ net_word net) }
+/// How many bytes of a line are in no name: a number of ten digits, two spaces, `/` and the line's end.
+const NAMELESS_BYTES: usize = 14;
+
+/// How many bytes the lines take at most. Nothing is claimed of it: it is the room that is asked for.
+fn room_for(layers: &[Layer], labels: &[NetLabel]) -> usize {
+    let mut room: usize = 0;
+    for entry in labels {
+        let label = entry.label;
+        let pin = label.path.len().saturating_add(label.name.len());
+        let names = pin.saturating_add(name_of(layers, label.layer).len());
+        room = room.saturating_add(names).saturating_add(NAMELESS_BYTES);
+    }
+    room
+}
+
+/// Begins a line with the number of a net, or with `-` where there is none.
+fn begin_net(text: &mut ReplyLine, net: Option<u32>) -> Result<(), Memory>
+    ensures { OnOk result (text.new ≡ text.old ++ net_word net) }
 {
     match net {
-        Some(number) => ReplyLine::of_number(alloc, u64::from(number)),
-        None => ReplyLine::of(alloc, b"-"),
+        Some(number) => text.first_number(u64::from(number)),
+        None => text.first(b"-"),
     }
 }
 
-/// The line of a label.
-fn net_line(alloc: Global, layers: &[Layer], entry: &NetLabel) -> Result<ReplyLine, Memory>
-    ensures { IfOk result (λ line. line ≡ reply_line (net_words layers.now (plain_net entry.now))) }
+/// Adds the line of a label.
+fn add_net_line(text: &mut ReplyLine, layers: &[Layer], entry: &NetLabel) -> Result<(), Memory>
+    ensures { OnOk result (text.new ≡ text.old ++ reply_line (net_words layers.now (plain_net entry.now))) }
 {
-    let mut line = line_of_net(alloc, entry.net)?;
+    begin_net(text, entry.net)?;
     let label = entry.label;
-    line.word(name_of(layers, label.layer))?;
-    line.pin(label.path.as_bytes(), label.name.as_bytes())?;
-    line.end()?;
-    Ok(line)
+    text.word(name_of(layers, label.layer))?;
+    text.pin(label.path.as_bytes(), label.name.as_bytes())?;
+    text.end()
 }
 
 /// The lines of labels.
-fn lines_of(
-    alloc: Global,
-    layers: &[Layer],
-    labels: &[NetLabel],
-) -> Result<Items<ReplyLine>, Memory>
+fn lines_of(alloc: Global, layers: &[Layer], labels: &[NetLabel]) -> Result<TextLines, Memory>
     ensures { IfOk result (λ lines. lines ≡ net_lines layers.now (map plain_net labels.now)) }
 {
-    let mut lines = Items::new(alloc);
+    let mut text = ReplyLine::with_room(alloc, room_for(layers, labels))?;
+    let mut ends = Vec::with_capacity(alloc, labels.len())?;
     for label in labels {
-        lines.push(net_line(alloc, layers, label)?)?;
+        add_net_line(&mut text, layers, label)?;
+        ends.push(text.as_bytes().len())?;
     }
-    Ok(lines)
+    Ok(TextLines::from_parts(text, ends))
 }
 
 /// The answer that is a list of labels with their nets.
@@ -56,6 +69,6 @@ pub fn nets_reply(alloc: Global, layers: &[Layer], labels: &[NetLabel]) -> Resul
     let lines = lines_of(alloc, layers, labels)?;
     Ok(Reply {
         status: 0,
-        lines: ReplyLines::made(lines),
+        lines: ReplyLines::text(lines),
     })
 }
