@@ -15,7 +15,7 @@ mod EntryLaws
 mod ShapeNetLaws
 mod PinLaws
 mod KeyLaws
-mod KeyTextLaws
+pub mod KeyTextLaws
 mod MixedLaws
 mod ConflictLaws
 mod MatchingLaws

@@ -6,7 +6,7 @@ use Rattle.net_extractor.specs.PlainNets.{plain_net}
 use Rattle.net_extractor.proofs.MappedLaws.{mapped_twice}
 use Rattle.reply_lines.specs.Lines.{reply_line}
 use Rattle.reply_lines.specs.NetLines.{net_words}
-use Rattle.reply_lines.proofs.TextLaws.{has_next}
+use Rattle.net_extractor.proofs.KeyTextLaws.{has_next}
 use Rattle.reply_lines.proofs.net_lines.lines_of.Goals as goal
 
 pub loop-label-preserved : goal.loop-label-preserved

@@ -3,7 +3,7 @@ use Rattle.net_extractor.specs.declared.label.NetLabel.{NetLabel}
 use Rattle.net_extractor.specs.PlainNets.{plain_net}
 use Rattle.reply_lines.specs.Lines.{reply_line}
 use Rattle.reply_lines.specs.NetLines.{net_words}
-use Rattle.reply_lines.proofs.TextLaws.{HasTexts}
+use Rattle.net_extractor.proofs.KeyTextLaws.{HasTexts}
 use Rattle.reply_lines.proofs.net_lines.lines_of.Given as goal
 
 abbrev pub invariant-loop-label : goal.invariant-loop-label

@@ -1,5 +1,5 @@
 use Rattle.std.proofs.Common.{◌≤◌, ℕ, ◌-◌, length, get_or, take, drop, Some, ap, sym, ◌∙◌, arith}
-use Rattle.reply_lines.proofs.TextLaws.{stands_at, text_at}
+use Rattle.net_extractor.proofs.KeyTextLaws.{stands_at, text_at}
 use Rattle.reply_lines.proofs.text_lines.line_at.Goals as goal
 
 pub slice_bounds-result-count : goal.slice_bounds-result-count

@@ -1,5 +1,5 @@
 use Rattle.std.proofs.Common.{length, ap, arith}
-use Rattle.reply_lines.proofs.TextLaws.{length_texts}
+use Rattle.net_extractor.proofs.KeyTextLaws.{length_texts}
 use Rattle.reply_lines.proofs.text_lines.TextLines.get.Goals as goal
 
 pub line_at-requires-clause-inside : goal.line_at-requires-clause-inside

@@ -1,5 +1,5 @@
 use Rattle.std.proofs.Common.{length, ap, arith}
-use Rattle.reply_lines.proofs.TextLaws.{length_texts}
+use Rattle.net_extractor.proofs.KeyTextLaws.{length_texts}
 use Rattle.reply_lines.proofs.text_lines.TextLines.len.Goals as goal
 
 pub returns : goal.returns
