@@ -10,11 +10,15 @@ RULES = ([("width", m, "", 4) for m in METALS] + [("width", v, "", 2) for v in C
 CONNECTS = [(v, METALS[i : i + 2]) for i, v in enumerate(CUTS)]
 
 
-def bitcell():
+MOST_LABELS = 2**22  # flat labels that a layout may have
+
+
+def bitcell(labelled=True):
+    """The cell, with its five labels or without."""
+    labels = [label(12, 4, 2, b"bl"), label(12, 28, 2, b"br"), label(10, 2, 16, b"wl"), label(10, 2, 2, b"gnd"), label(10, 2, 30, b"vdd")]
     return structure(
         b"bitcell", rectangle(1, 0, 0, 32, 32), rectangle(10, 0, 0, 32, 4), rectangle(10, 0, 28, 32, 32),
-        rectangle(12, 2, 0, 6, 32), rectangle(12, 26, 0, 30, 32), rectangle(10, 0, 14, 32, 18), label(12, 4, 2, b"bl"),
-        label(12, 28, 2, b"br"), label(10, 2, 16, b"wl"), label(10, 2, 2, b"gnd"), label(10, 2, 30, b"vdd"))
+        rectangle(12, 2, 0, 6, 32), rectangle(12, 26, 0, 30, 32), rectangle(10, 0, 14, 32, 18), *(labels if labelled else []))
 
 
 def rows(cell, pitch, side):
