@@ -11,7 +11,7 @@ use reply_lines::{Refusal, Reply, ReplyLine, unwritten_line};
 use std::alloc::Global;
 
 /// The status of a fault outside: a store or a sink failed.
-pub const OUTSIDE: u8 = 4;
+const OUTSIDE: u8 = 4;
 
 /// The status where memory ran out.
 pub const NO_MEMORY: u8 = 5;

@@ -8,7 +8,7 @@ mod print;
 mod workers;
 mod write;
 
-pub use ending::{NO_MEMORY, OUTSIDE, finish, finish_unwritten, no_memory, refuse};
+pub use ending::{NO_MEMORY, finish, finish_unwritten, no_memory, refuse};
 pub use file::{read_file, read_technology, read_technology_under, with_ending};
 pub use workers::workers_in;
 pub use write::{Unwritten, file_text, write_files};

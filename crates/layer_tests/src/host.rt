@@ -95,7 +95,6 @@ fn a_new_file_gets_no_old_mode(rt: HostRuntime) -> Result<(), Fail> {
 fn the_real_output(rt: HostRuntime) {
     let mut sink = StreamSink::new(rt);
     assert!(rt; sink.put(b"a line\n") == Ok(()));
-    assert!(rt; sink.flush() == Ok(()));
 }
 
 /// A store of one file, of which the second and the fourth call fail.

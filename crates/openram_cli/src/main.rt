@@ -16,7 +16,7 @@ mod run;
 mod tests;
 
 use crate::run::run;
-use command_steps::{NO_MEMORY, OUTSIDE};
+use command_steps::NO_MEMORY;
 use or_host::{FileStore, StreamSink};
 use std::env;
 use std::io::ErrorKind;
@@ -45,10 +45,5 @@ fn main(rt: HostRuntime) -> ExitCode {
     };
     let mut store = FileStore::new(rt);
     let mut out = StreamSink::new(rt);
-    let status = run(&rt, rt.alloc(), &words, &mut store, &mut out);
-    // Lines that were put may still wait in the buffer: where they can't be written, the output failed.
-    match out.flush() {
-        Ok(()) => ExitCode::from(status),
-        Err(_) => ExitCode::from(OUTSIDE),
-    }
+    ExitCode::from(run(&rt, rt.alloc(), &words, &mut store, &mut out))
 }
