@@ -10,6 +10,7 @@ use crate::fault::FlattenFault;
 use crate::flat::Flat;
 use crate::parts::parts_of;
 use crate::sorted::sorted_flat;
+use crate::sorter::{OneThread, Sorter};
 use crate::top::top_drawing;
 use crate::tree::Tree;
 use bumpalo::Bump;
@@ -20,7 +21,8 @@ use std::alloc::Global;
 use tech_rules::{Layer, Tech};
 
 /// The flat layout of a structure on these layers, with its labels where they are to be kept.
-fn flat_of<'b>(
+fn flat_of<'b, S: Sorter>(
+    sorter: &S,
     alloc: Global,
     bump: &'b Bump,
     layers: &[Layer],
@@ -44,7 +46,7 @@ fn flat_of<'b>(
     };
     let counts = checked_counts(alloc, &tree, top)?;
     let gathered = top_drawing(alloc, bump, &tree, top, counts)?;
-    sorted_flat(gathered)
+    sorted_flat(sorter, gathered)
 }
 
 /// The flat layout of a structure: its own shapes and labels and those of all structures that it reaches, each turned,
@@ -62,7 +64,25 @@ pub fn flatten<'b>(
     ensures flat { IfOk result (λ flat. AreFlatLists tech.now.layers lib.now.structs top.now (lists_of flat)) }
     ensures fault { IfErr result (IsFault tech.now.layers lib.now.structs top.now) }
 {
+    flatten_by(&OneThread, alloc, bump, lib, tech, top)
+}
+
+/// What `flatten` gives, sorted by this sorter.
+pub fn flatten_by<'b, S: Sorter>(
+    sorter: &S,
+    alloc: Global,
+    bump: &'b Bump,
+    lib: &Library,
+    tech: &Tech,
+    top: &Name,
+) -> Result<Flat<'b>, FlattenFault>
+    requires writable { IsWritable lib.now }
+    requires few { length tech.now.layers ≤ 64 }
+    ensures flat { IfOk result (λ flat. AreFlatLists tech.now.layers lib.now.structs top.now (lists_of flat)) }
+    ensures fault { IfErr result (IsFault tech.now.layers lib.now.structs top.now) }
+{
     flat_of(
+        sorter,
         alloc,
         bump,
         tech.layers.as_slice(),
@@ -86,7 +106,26 @@ pub fn flatten_shapes<'b>(
     ensures none { IfOk result (λ flat. flat.labels.now ≡ []) }
     ensures fault { IfErr result (IsFault tech.now.layers lib.now.structs top.now) }
 {
+    flatten_shapes_by(&OneThread, alloc, bump, lib, tech, top)
+}
+
+/// What `flatten_shapes` gives, sorted by this sorter.
+pub fn flatten_shapes_by<'b, S: Sorter>(
+    sorter: &S,
+    alloc: Global,
+    bump: &'b Bump,
+    lib: &Library,
+    tech: &Tech,
+    top: &Name,
+) -> Result<Flat<'b>, FlattenFault>
+    requires writable { IsWritable lib.now }
+    requires few { length tech.now.layers ≤ 64 }
+    ensures shapes { IfOk result (λ flat. AreFlatShapes tech.now.layers lib.now.structs top.now flat.shapes.now) }
+    ensures none { IfOk result (λ flat. flat.labels.now ≡ []) }
+    ensures fault { IfErr result (IsFault tech.now.layers lib.now.structs top.now) }
+{
     flat_of(
+        sorter,
         alloc,
         bump,
         tech.layers.as_slice(),

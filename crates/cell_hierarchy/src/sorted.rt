@@ -1,5 +1,5 @@
 ghost use Rattle.std.specs.Prelude.{◌≡◌, ◌↔◌, IsTrue, Contains, map, IfOk, IfErr};
-ghost use Rattle.std.specs.List.Sorted.{IsStrictlySortedBy};
+ghost use Rattle.std.specs.List.Sorted.{IsPermutation, IsSorted, IsStrictlySortedBy};
 ghost use Rattle.element_drawing.specs.LabelOrder.{label_order};
 ghost use Rattle.element_drawing.specs.PlainLabel.{PlainLabel};
 ghost use Rattle.cell_hierarchy.specs.Plain.{plain_label};
@@ -9,34 +9,57 @@ use crate::far::far_point;
 use crate::fault::FlattenFault;
 use crate::flat::{Flat, Label};
 use crate::gathered::Gathered;
+use crate::sorter::Sorter;
 use bumpalo::Bump;
 use bumpalo::collections::into_bump_slice;
 
-/// Sorts a list in an arena and drops repetitions, as `sort_distinct` of `or_geom` does with a list on the heap. What
-/// compares as equal has to be equal for nothing to be lost, which the premise of `keeps` says of the type.
-fn sort_distinct<T: Ord + Drop>(list: &mut Vec<T, &Bump>)
+/// Sorts a list in an arena.
+fn sort_list<T: Ord + Send, S: Sorter>(sorter: &S, list: &mut Vec<T, &Bump>)
+    ensures permutation { IsPermutation list.old.items list.new.items }
+    ensures sorted { IsSorted T.cmp list.new.items }
+{
+    sorter.sort(list.as_mut_slice());
+}
+
+/// Drops repetitions from a sorted list in an arena. What compares as equal has to be equal for nothing to be lost, which
+/// the premise of `keeps` says of the type.
+fn drop_repetitions<T: Ord + Drop>(list: &mut Vec<T, &Bump>)
+    requires { IsSorted T.cmp list.old.items }
     ensures rises { IsStrictlySortedBy T.cmp list.new.items }
     ensures keeps { ((x y : T) → IsTrue (T.eq x y) → x ≡ y) → (x : T) → Contains list.old.items x
         → Contains list.new.items x }
     ensures adds_none { (x : T) → Contains list.new.items x → Contains list.old.items x }
 {
-    list.sort_unstable();
     list.dedup();
 }
 
+/// Sorts a list in an arena and drops repetitions, as `sort_distinct` of `or_geom` does with a list on the heap.
+fn sort_distinct<T: Ord + Drop + Send, S: Sorter>(sorter: &S, list: &mut Vec<T, &Bump>)
+    ensures rises { IsStrictlySortedBy T.cmp list.new.items }
+    ensures keeps { ((x y : T) → IsTrue (T.eq x y) → x ≡ y) → (x : T) → Contains list.old.items x
+        → Contains list.new.items x }
+    ensures adds_none { (x : T) → Contains list.new.items x → Contains list.old.items x }
+{
+    sort_list(sorter, list);
+    drop_repetitions(list);
+}
+
 /// Sorts the labels and drops repetitions. Labels with the same texts are one, wherever the texts lie.
-fn sort_distinct_labels<'b>(labels: &mut Vec<Label<'b>, &'b Bump>)
+fn sort_distinct_labels<'b, S: Sorter>(sorter: &S, labels: &mut Vec<Label<'b>, &'b Bump>)
     ensures rises { IsStrictlySortedBy label_order (map plain_label labels.new.items) }
     ensures same { (label : PlainLabel) → Contains (map plain_label labels.new.items) label
         ↔ Contains (map plain_label labels.old.items) label }
 {
-    labels.sort_unstable();
+    sort_list(sorter, labels);
     labels.dedup();
 }
 
 /// The shapes and labels that were gathered, each list sorted in the arena where it lies, and each item once. Refuses
 /// if a corner of a shape or a point of a label lies outside 32 bits, and tells the first that does.
-pub fn sorted_flat<'b>(gathered: Gathered<'b>) -> Result<Flat<'b>, FlattenFault>
+pub fn sorted_flat<'b, S: Sorter>(
+    sorter: &S,
+    gathered: Gathered<'b>,
+) -> Result<Flat<'b>, FlattenFault>
     ensures flat { IfOk result (IsFlatOf gathered.entry) }
     ensures far { IfErr result (IsFarFault gathered.entry) }
 {
@@ -48,8 +71,8 @@ pub fn sorted_flat<'b>(gathered: Gathered<'b>) -> Result<Flat<'b>, FlattenFault>
         mut labels,
         ..
     } = gathered;
-    sort_distinct(&mut shapes);
-    sort_distinct_labels(&mut labels);
+    sort_distinct(sorter, &mut shapes);
+    sort_distinct_labels(sorter, &mut labels);
     Ok(Flat {
         shapes: into_bump_slice(shapes),
         labels: into_bump_slice(labels),

@@ -17,7 +17,7 @@ use crate::query::Query;
 use crate::walk::{add_near, largest_near, least_near, rect_at, some_near};
 use bumpalo::Bump;
 use bumpalo::collections::into_bump_slice;
-use cell_hierarchy::Flat;
+use cell_hierarchy::{Flat, OneThread, Sorter};
 use or_geom::{Memory, Point, Rect, Shape};
 use std::alloc::Global;
 use std::marker::Model;
@@ -137,9 +137,22 @@ pub fn index<'b>(alloc: Global, bump: &'b Bump, flat: &Flat<'b>) -> Result<Bins<
     requires { length flat.now.shapes.now ≤ 4294967295 }
     ensures { IfOk result (λ bins. bins ≡ flat.now.shapes.now) }
 {
-    let forest = forest_over(alloc, bump, flat.shapes)?;
+    index_by(&OneThread, alloc, bump, flat)
+}
+
+/// The bins that `index` makes, for which this sorter sorts the shapes' places.
+pub fn index_by<'b, S: Sorter>(
+    sorter: &S,
+    alloc: Global,
+    bump: &'b Bump,
+    flat: &Flat<'b>,
+) -> Result<Bins<'b>, Memory>
+    requires { length flat.now.shapes.now ≤ 4294967295 }
+    ensures { IfOk result (λ bins. bins ≡ flat.now.shapes.now) }
+{
+    let forest = forest_over(sorter, alloc, bump, flat.shapes)?;
     let boxes = into_bump_slice(filled_boxes(alloc, bump, flat.shapes)?);
-    let boxes = forest_over(alloc, bump, boxes)?;
+    let boxes = forest_over(sorter, alloc, bump, boxes)?;
     let clearances = into_bump_slice(clearances_of(bump, forest, boxes.shapes)?);
     Ok(Bins {
         forest,

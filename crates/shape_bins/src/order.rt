@@ -1,10 +1,13 @@
-ghost use Rattle.std.specs.Prelude.{◌≡◌, ◌<◌, ◌≤◌, ◌-◌, ◌++◌, length, map, IfOk, OnOk};
+ghost use Rattle.std.specs.Prelude.{◌≡◌, ◌<◌, ◌≤◌, ◌-◌, ◌++◌, [], length, map, IfOk, OnOk};
 ghost use Rattle.std.specs.List.{range_with_len};
+ghost use Rattle.std.specs.List.Sorted.{IsPermutation};
 ghost use Rattle.shape_bins.specs.Order.{place_of_key, IsOrderAdded};
 
-use bumpalo::Bump;
-use or_geom::{Memory, Rect, Shape};
-use std::alloc::Global;
+use crate::curve::curve_at;
+use crate::placed::Placed;
+use cell_hierarchy::{OneThread, Sorter};
+use or_geom::{Memory, Point};
+use std::alloc::{Allocator, Global};
 
 /// A place in the lower 32 bits, and above it the number by which it is sorted: one number is compared faster than two.
 type Key = u64;
@@ -23,7 +26,7 @@ struct Scale {
     ghost few_upward: { upward < 64 },
 }
 
-/// Twice the least and the greatest middles of some shapes.
+/// Twice the least and the greatest middles of some items.
 #[derive(Clone, Copy)]
 struct Middles {
     left: i64,
@@ -33,13 +36,8 @@ struct Middles {
 }
 
 /// How many bits of a length are zero before its first one.
-fn zeros(low: i64, high: i64) -> u64 {
-    u64::from(high.wrapping_sub(low).leading_zeros())
-}
-
-/// Twice the middle of an interval.
-fn twice_middle(low: i64, high: i64) -> i64 {
-    low.wrapping_add(high)
+fn zeros(length: u64) -> u64 {
+    u64::from(length.leading_zeros())
 }
 
 /// How many powers of two the one sum is more than the other, on an average.
@@ -65,40 +63,40 @@ fn shift_of(length: u64, before: u32) -> u32
     bits.saturating_sub(BITS)
 }
 
-/// Twice the least and the greatest middles of the shapes.
-fn middles_of(shapes: &[Shape]) -> Middles {
+/// Twice the least and the greatest middles of the items.
+fn middles_of<T: Placed>(items: &[T]) -> Middles {
     let mut all = Middles {
         left: i64::MAX,
         low: i64::MAX,
         right: i64::MIN,
         high: i64::MIN,
     };
-    for shape in shapes {
-        let x = twice_middle(shape.rect.x1, shape.rect.x2);
-        let y = twice_middle(shape.rect.y1, shape.rect.y2);
+    for item in items {
+        let middle = item.twice_middle();
         all = Middles {
-            left: all.left.min(x),
-            low: all.low.min(y),
-            right: all.right.max(x),
-            high: all.high.max(y),
+            left: all.left.min(middle.x),
+            low: all.low.min(middle.y),
+            right: all.right.max(middle.x),
+            high: all.high.max(middle.y),
         };
     }
     all
 }
 
-/// A scale by which most of the shapes are about as wide as tall, so that many long wires come one after another as
+/// A scale by which most of the items are about as wide as tall, so that many long wires come one after another as
 /// they lie beside each other, and by which all middles fit the bits that are looked at.
-fn scale_of(shapes: &[Shape]) -> Scale {
+fn scale_of<T: Placed>(items: &[T]) -> Scale {
     let mut wide: u64 = 0;
     let mut tall: u64 = 0;
-    for shape in shapes {
-        wide = wide.wrapping_add(zeros(shape.rect.x1, shape.rect.x2));
-        tall = tall.wrapping_add(zeros(shape.rect.y1, shape.rect.y2));
+    for item in items {
+        let extent = item.extent();
+        wide = wide.wrapping_add(zeros(extent.width));
+        tall = tall.wrapping_add(zeros(extent.height));
     }
-    let count = shapes.len() as u64;
+    let count = items.len() as u64;
     let across = powers(tall, wide, count);
     let upward = powers(wide, tall, count);
-    let all = middles_of(shapes);
+    let all = middles_of(items);
     let width = all.right.wrapping_sub(all.left).cast_unsigned();
     let height = all.high.wrapping_sub(all.low).cast_unsigned();
     let more = shift_of(width, across).max(shift_of(height, upward));
@@ -117,34 +115,11 @@ fn first_bits(at: i64, least: i64, shift: u32) -> u32
     ((at.wrapping_sub(least).cast_unsigned() >> shift) & 0xffff) as u32
 }
 
-/// A step along Hilbert's curve: in which quarter of a square the point lies, by the order in which the curve goes
-/// through them, and the point as the curve within that quarter sees it.
-fn quarter_of(x: u32, y: u32, bit: u32) -> (u32, u32, u32)
-    requires { bit < 32 }
-{
-    let right = (x >> bit) & 1 == 1;
-    let up = (y >> bit) & 1 == 1;
-    match (right, up) {
-        (false, false) => (0, y, x),
-        (false, true) => (1, x, y),
-        (true, true) => (2, x, y),
-        (true, false) => (3, !y, !x),
-    }
-}
-
-/// Where the middle of the rectangle stands on Hilbert's curve, which fills the plane: what stands near on the curve
-/// lies near.
-fn curve_of(rect: Rect, scale: Scale) -> u32 {
-    let mut x = first_bits(twice_middle(rect.x1, rect.x2), scale.left, scale.across);
-    let mut y = first_bits(twice_middle(rect.y1, rect.y2), scale.low, scale.upward);
-    let mut curve: u32 = 0;
-    for bit in (0..BITS).rev() {
-        let (quarter, along, beside) = quarter_of(x, y, bit);
-        curve = (curve << 2) | quarter;
-        x = along;
-        y = beside;
-    }
-    curve
+/// The number of a middle, which is given twice, along a curve that fills the plane.
+fn curve_of(middle: Point, scale: Scale) -> u32 {
+    let x = first_bits(middle.x, scale.left, scale.across);
+    let y = first_bits(middle.y, scale.low, scale.upward);
+    curve_at(x, y)
 }
 
 /// The place with its number.
@@ -162,27 +137,34 @@ fn place_of(key: Key) -> u32
 }
 
 /// The places with their numbers.
-fn keys_of(
+fn keys_of<T: Placed>(
     alloc: Global,
-    shapes: &[Shape],
+    items: &[T],
     begin: usize,
     end: usize,
     scale: Scale,
 ) -> Result<Vec<Key>, Memory>
     requires order { begin ≤ end }
-    requires within { end ≤ length shapes.now }
+    requires within { end ≤ length items.now }
     requires few { end ≤ 4294967295 }
     ensures { IfOk result (λ keys. map place_of_key keys.items ≡ range_with_len begin (end - begin)) }
 {
     let mut keys = Vec::with_capacity(alloc, end - begin)?;
     for place in begin..end {
-        keys.push(key_of(curve_of(shapes[place].rect, scale), place as u32))?;
+        keys.push(key_of(curve_of(items[place].twice_middle(), scale), place as u32))?;
     }
     Ok(keys)
 }
 
+/// Sorts the keys by their numbers.
+fn sort_keys<S: Sorter>(sorter: &S, keys: &mut Vec<Key>)
+    ensures { IsPermutation keys.old.items keys.new.items }
+{
+    sorter.sort(keys.as_mut_slice());
+}
+
 /// Adds the places of the keys.
-fn add_places(keys: &[Key], places: &mut Vec<u32, &Bump>) -> Result<(), Memory>
+fn add_places<A: Allocator>(keys: &[Key], places: &mut Vec<u32, A>) -> Result<(), Memory>
     ensures { OnOk result (places.new.items ≡ places.old.items ++ map place_of_key keys.now) }
 {
     for key in keys {
@@ -191,21 +173,34 @@ fn add_places(keys: &[Key], places: &mut Vec<u32, &Bump>) -> Result<(), Memory>
     Ok(())
 }
 
-/// Adds the places from `begin` to `end`, those of near shapes one after another.
-pub fn add_order(
+/// Adds the places from `begin` to `end`, those of near items one after another.
+pub fn add_order<T: Placed, A: Allocator, S: Sorter>(
+    sorter: &S,
     alloc: Global,
-    shapes: &[Shape],
+    items: &[T],
     begin: usize,
     end: usize,
-    places: &mut Vec<u32, &Bump>,
+    places: &mut Vec<u32, A>,
 ) -> Result<(), Memory>
     requires order { begin ≤ end }
-    requires within { end ≤ length shapes.now }
+    requires within { end ≤ length items.now }
     requires few { end ≤ 4294967295 }
     ensures { OnOk result (IsOrderAdded begin end places.old.items places.new.items) }
 {
-    let scale = scale_of(&shapes[begin..end]);
-    let mut keys = keys_of(alloc, shapes, begin, end, scale)?;
-    keys.sort_unstable();
+    let scale = scale_of(&items[begin..end]);
+    let mut keys = keys_of(alloc, items, begin, end, scale)?;
+    sort_keys(sorter, &mut keys);
     add_places(&keys, places)
+}
+
+/// The places of all items, those of near ones one after another: who looks each up in a tree over the same plane, in
+/// this order, mostly finds what it needs in the caches. Nothing is claimed of the order but that each place stands in
+/// it.
+pub fn near_order<T: Placed>(alloc: Global, items: &[T]) -> Result<Vec<u32>, Memory>
+    requires { length items.now ≤ 4294967295 }
+    ensures { IfOk result (λ order. IsOrderAdded 0 (length items.now) [] order.items) }
+{
+    let mut order = Vec::with_capacity(alloc, items.len())?;
+    add_order(&OneThread, alloc, items, 0, items.len(), &mut order)?;
+    Ok(order)
 }

@@ -1,15 +1,12 @@
 -- What a sort and a dedup keep.
-use Rattle.std.proofs.lemmas.List.Filters.{dedup_is}
-use Rattle.std.proofs.lemmas.List.Kept.{Contains-dedup, Contains-from_dedup, IsStrictlySortedBy-dedup}
 use Rattle.std.proofs.lemmas.List.Sorted.{Contains-permutation, IsPermutation-sym}
 use Rattle.cell_hierarchy.proofs.sorted.sort_distinct.Goals as goal
 
 pub returns : goal.returns
 returns g c =
-    let is = dedup_is _ _ _ c.dedup.ensures.filtered in
-    let moved = c.sort_unstable.ensures.permutation in
+    let moved = c.sort_list.ensures.permutation in
     record {
-      rises = rw is (IsStrictlySortedBy-dedup g.met.T.Ord.total g.met.T.Ord.matches_eq _ c.sort_unstable.ensures.sorted);
-      keeps = λ exact x h. rw is (Contains-dedup g.met.T.Eq.laws exact _ x (Contains-permutation _ _ x moved h));
-      adds_none = λ x h. Contains-permutation _ _ x (IsPermutation-sym _ _ moved) (Contains-from_dedup _ _ x (rw is at h));
+      rises = c.drop_repetitions.ensures.rises;
+      keeps = λ exact x h. c.drop_repetitions.ensures.keeps exact x (Contains-permutation _ _ x moved h);
+      adds_none = λ x h. Contains-permutation _ _ x (IsPermutation-sym _ _ moved) (c.drop_repetitions.ensures.adds_none x h);
     }

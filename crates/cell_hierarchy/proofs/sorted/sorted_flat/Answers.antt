@@ -10,7 +10,7 @@ use Rattle.cell_hierarchy.proofs.SortedLaws.{same_items, same_plain}
 use Rattle.cell_hierarchy.proofs.sorted.sorted_flat.Goals as goal
 
 pub returns-clause-flat : goal.returns-clause-flat
-returns-clause-flat c =
+returns-clause-flat g c =
     let shapes = c.into_bump_slice.ensures in
     let labels = c.into_bump_slice-2.ensures in
     record {

@@ -4,4 +4,4 @@ use Rattle.shape_bins.specs.Order.{place_of_key}
 use Rattle.shape_bins.proofs.order.keys_of.Given as goal
 
 abbrev pub invariant-loop-place : goal.invariant-loop-place
-invariant-loop-place l = map place_of_key l.keys.items ≡ range_with_len l.begin (l.place - l.begin)
+invariant-loop-place g l = map place_of_key l.keys.items ≡ range_with_len l.begin (l.place - l.begin)
