@@ -1,3 +1,4 @@
 pub mod PlaceLaws
 mod BindLaws
+mod FoundLaws
 pub mod OneBindingLaws

@@ -3,6 +3,8 @@
 
 mod anchor;
 mod bind;
+mod places;
 
 pub use anchor::Anchor;
 pub use bind::bound_shape;
+pub use places::bound_places;

@@ -2,6 +2,7 @@ ghost use Rattle.std.specs.Prelude.{◌≡◌, ◌+◌, ◌^◌, ◌<◌, ◌≤
 ghost use Rattle.std.specs.List.Sorted.{IsStrictlySortedBy};
 ghost use Rattle.or_geom.specs.ShapeOrder.{shape_order};
 ghost use Rattle.cell_hierarchy.specs.Plain.{plain_label};
+ghost use Rattle.label_binding.specs.BoundPlaces.{anchor_of, IsFoundUnder};
 ghost use Rattle.net_extractor.specs.Entries.{IsNetOf};
 ghost use Rattle.net_extractor.specs.Extraction.{AreNets, AreNetsUnder};
 ghost use Rattle.net_extractor.specs.Numbering.{AreRootsWithin};
@@ -10,22 +11,27 @@ ghost use Rattle.net_extractor.specs.PlainNets.{plain_net};
 use crate::label::{NetLabel, Nets};
 use crate::numbering::{Numbering, no_numbers, number_at};
 use cell_hierarchy::{Flat, Label};
-use label_binding::{Anchor, bound_shape};
+use label_binding::bound_places;
 use or_geom::{Items, Memory};
 use shape_bins::Bins;
 use std::alloc::Global;
 use std::thread::Threads;
 use tech_rules::{Connect, Tech};
 
-/// The number of the net of the shape that a label binds, if it binds one.
-fn net_of(bins: &Bins, label: Anchor, numbering: &mut Numbering) -> Option<u32>
-    requires sized { length numbering.old.roots.items ≡ length bins.now }
+/// The number of the net of the shape that a label binds, if it binds one: `place` is where that stands.
+fn net_of(
+    _bins: &Bins,
+    _label: &Label,
+    place: Option<usize>,
+    numbering: &mut Numbering,
+) -> Option<u32>
+    requires found { IsFoundUnder _bins.now _label.now place }
+    requires sized { length numbering.old.roots.items ≡ length _bins.now }
     requires within { AreRootsWithin numbering.old }
     requires few { numbering.old.next + 1 < 2 ^ 32 }
-    ensures { IsNetOf bins.now label numbering.old result numbering.new }
+    ensures { IsNetOf _bins.now (anchor_of _label.now) numbering.old result numbering.new }
 {
-    let place = bound_shape(bins, label)?;
-    Some(number_at(place, numbering))
+    Some(number_at(place?, numbering))
 }
 
 /// The label at an index.
@@ -48,15 +54,12 @@ fn nets_of<'b>(
     ensures { IfOk result (λ nets. AreNetsUnder connections.now bins.now (map plain_label labels.now)
         (map plain_net nets.labels)) }
 {
+    let places = bound_places(alloc, bins, labels)?;
     let mut numbering = no_numbers(alloc, connections, bins)?;
     let mut entries = Items::new(alloc);
     for index in 0..labels.len() {
         let label = label_at(labels, index);
-        let anchor = Anchor {
-            layer: label.layer,
-            at: label.at,
-        };
-        let net = net_of(bins, anchor, &mut numbering);
+        let net = net_of(bins, label, places[index], &mut numbering);
         entries.push(NetLabel { label, net })?;
     }
     Ok(Nets { labels: entries })

@@ -1,5 +1,5 @@
-use Rattle.std.proofs.Common.{◌∙◌, map, sym, ap, arith}
-use Rattle.std.proofs.lemmas.Option.{get_or_from_slice_get}
+use Rattle.std.proofs.Common.{◌<◌, ◌∙◌, length, map, refl, sym, ap, arith}
+use Rattle.std.proofs.lemmas.Option.{get_or_from_slice_get, slice_get_read}
 use Rattle.std.proofs.lemmas.List.{map-append}
 use Rattle.net_extractor.specs.PlainNets.{plain_net}
 use Rattle.net_extractor.proofs.NumberLaws.{roots_within}
@@ -8,6 +8,13 @@ use Rattle.net_extractor.proofs.nets.nets_of.Goals as goal
 
 pub loop-index-init : goal.loop-index-init
 loop-index-init c = entries_begin c.args.connections.now c.args.bins.now c.args.labels.now _ _ c.in_ok-numbering.ensures.numbered c.in_ok-numbering.ensures.next (ap (map plain_net) c.new-entries.ensures)
+
+pub net_of-net-requires-clause-found : goal.net_of-net-requires-clause-found
+net_of-net-requires-clause-found c =
+    let places = c.in_ok-places.places.items in
+    let index = c.loop-index.index in
+    let inside : index < length places = omega (arith, c.in_ok-places.ensures.sized, c.loop-index-test.true) in
+    c.in_ok-places.ensures.each index c.label_at-label.result.now c.index.result.now c.label_at-label.ensures (slice_get_read places _ index c.index.result.now refl inside c.index.ensures)
 
 pub net_of-net-requires-clause-sized : goal.net_of-net-requires-clause-sized
 net_of-net-requires-clause-sized c = c.loop-index.invariant.numbered.roots.sized
