@@ -1,6 +1,9 @@
 ghost use Rattle.std.specs.Prelude.{◌≡◌, ◌↔◌, IsTrue, Contains, map, IfOk, IfErr};
 ghost use Rattle.std.specs.List.Sorted.{IsPermutation, IsSorted, IsStrictlySortedBy};
+ghost use Rattle.or_geom.specs.ShapeOrder.{shape_order};
+ghost use Rattle.or_geom.specs.declared.shape.Shape.{Shape};
 ghost use Rattle.element_drawing.specs.LabelOrder.{label_order};
+ghost use Rattle.cell_hierarchy.specs.LabelLaws.{flat_label_order};
 ghost use Rattle.element_drawing.specs.PlainLabel.{PlainLabel};
 ghost use Rattle.cell_hierarchy.specs.Plain.{plain_label};
 ghost use Rattle.cell_hierarchy.specs.Settled.{IsFlatOf, IsFarFault};
@@ -12,13 +15,22 @@ use crate::gathered::Gathered;
 use crate::sorter::Sorter;
 use bumpalo::Bump;
 use bumpalo::collections::into_bump_slice;
+use or_geom::Shape;
 
-/// Sorts a list in an arena.
-fn sort_list<T: Ord + Send, S: Sorter>(sorter: &S, list: &mut Vec<T, &Bump>)
-    ensures permutation { IsPermutation list.old.items list.new.items }
-    ensures sorted { IsSorted T.cmp list.new.items }
+/// Sorts shapes in an arena.
+fn sort_shapes<S: Sorter>(sorter: &S, shapes: &mut Vec<Shape, &Bump>)
+    ensures permutation { IsPermutation shapes.old.items shapes.new.items }
+    ensures sorted { IsSorted shape_order shapes.new.items }
 {
-    sorter.sort(list.as_mut_slice());
+    sorter.sort_shapes(shapes.as_mut_slice());
+}
+
+/// Sorts labels in an arena.
+fn sort_labels<'b, S: Sorter>(sorter: &S, labels: &mut Vec<Label<'b>, &'b Bump>)
+    ensures permutation { IsPermutation labels.old.items labels.new.items }
+    ensures sorted { IsSorted flat_label_order labels.new.items }
+{
+    sorter.sort_labels(labels.as_mut_slice());
 }
 
 /// Drops repetitions from a sorted list in an arena. What compares as equal has to be equal for nothing to be lost, which
@@ -33,15 +45,14 @@ fn drop_repetitions<T: Ord + Drop>(list: &mut Vec<T, &Bump>)
     list.dedup();
 }
 
-/// Sorts a list in an arena and drops repetitions, as `sort_distinct` of `or_geom` does with a list on the heap.
-fn sort_distinct<T: Ord + Drop + Send, S: Sorter>(sorter: &S, list: &mut Vec<T, &Bump>)
-    ensures rises { IsStrictlySortedBy T.cmp list.new.items }
-    ensures keeps { ((x y : T) → IsTrue (T.eq x y) → x ≡ y) → (x : T) → Contains list.old.items x
-        → Contains list.new.items x }
-    ensures adds_none { (x : T) → Contains list.new.items x → Contains list.old.items x }
+/// Sorts the shapes and drops repetitions.
+fn sort_distinct_shapes<S: Sorter>(sorter: &S, shapes: &mut Vec<Shape, &Bump>)
+    ensures rises { IsStrictlySortedBy shape_order shapes.new.items }
+    ensures keeps { (s : Shape) → Contains shapes.old.items s → Contains shapes.new.items s }
+    ensures adds_none { (s : Shape) → Contains shapes.new.items s → Contains shapes.old.items s }
 {
-    sort_list(sorter, list);
-    drop_repetitions(list);
+    sort_shapes(sorter, shapes);
+    drop_repetitions(shapes);
 }
 
 /// Sorts the labels and drops repetitions. Labels with the same texts are one, wherever the texts lie.
@@ -50,7 +61,7 @@ fn sort_distinct_labels<'b, S: Sorter>(sorter: &S, labels: &mut Vec<Label<'b>, &
     ensures same { (label : PlainLabel) → Contains (map plain_label labels.new.items) label
         ↔ Contains (map plain_label labels.old.items) label }
 {
-    sort_list(sorter, labels);
+    sort_labels(sorter, labels);
     labels.dedup();
 }
 
@@ -71,7 +82,7 @@ pub fn sorted_flat<'b, S: Sorter>(
         mut labels,
         ..
     } = gathered;
-    sort_distinct(sorter, &mut shapes);
+    sort_distinct_shapes(sorter, &mut shapes);
     sort_distinct_labels(sorter, &mut labels);
     Ok(Flat {
         shapes: into_bump_slice(shapes),

@@ -1,13 +1,30 @@
 ghost use Rattle.std.specs.Prelude.{◌≡◌, length};
 ghost use Rattle.std.specs.List.Sorted.{IsPermutation, IsSorted};
+ghost use Rattle.or_geom.specs.ShapeOrder.{shape_order};
+ghost use Rattle.cell_hierarchy.specs.LabelLaws.{flat_label_order};
 
-/// Who sorts a list, which may have millions of items: one thread, or several.
+use crate::flat::Label;
+use or_geom::Shape;
+
+/// Who sorts the lists of a layout, which may have millions of items: one thread, or several. Items that compare as
+/// equal may change places.
 pub trait Sorter {
-    /// Sorts the items. Those that compare as equal may change places.
-    fn sort<T: Ord + Send>(&self, items: &mut [T])
-        ensures permutation { IsPermutation items.old items.new }
-        ensures len { length items.new ≡ length items.old }
-        ensures sorted { IsSorted T.cmp items.new };
+    /// Sorts shapes.
+    fn sort_shapes(&self, shapes: &mut [Shape])
+        ensures permutation { IsPermutation shapes.old shapes.new }
+        ensures len { length shapes.new ≡ length shapes.old }
+        ensures sorted { IsSorted shape_order shapes.new };
+
+    /// Sorts labels.
+    fn sort_labels(&self, labels: &mut [Label])
+        ensures permutation { IsPermutation labels.old labels.new }
+        ensures len { length labels.new ≡ length labels.old }
+        ensures sorted { IsSorted flat_label_order labels.new };
+
+    /// Sorts numbers.
+    fn sort_numbers(&self, numbers: &mut [u64])
+        ensures permutation { IsPermutation numbers.old numbers.new }
+        ensures len { length numbers.new ≡ length numbers.old };
 }
 
 /// The thread that calls sorts.
@@ -15,7 +32,15 @@ pub trait Sorter {
 pub struct OneThread;
 
 impl Sorter for OneThread {
-    fn sort<T: Ord + Send>(&self, items: &mut [T]) {
-        items.sort_unstable();
+    fn sort_shapes(&self, shapes: &mut [Shape]) {
+        shapes.sort_unstable();
+    }
+
+    fn sort_labels(&self, labels: &mut [Label]) {
+        labels.sort_unstable();
+    }
+
+    fn sort_numbers(&self, numbers: &mut [u64]) {
+        numbers.sort_unstable();
     }
 }

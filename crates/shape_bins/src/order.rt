@@ -160,7 +160,7 @@ fn keys_of<T: Placed>(
 fn sort_keys<S: Sorter>(sorter: &S, keys: &mut Vec<Key>)
     ensures { IsPermutation keys.old.items keys.new.items }
 {
-    sorter.sort(keys.as_mut_slice());
+    sorter.sort_numbers(keys.as_mut_slice());
 }
 
 /// Adds the places of the keys.

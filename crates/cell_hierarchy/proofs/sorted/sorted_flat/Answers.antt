@@ -2,7 +2,6 @@ use Rattle.std.proofs.Common.{List, map, sym, subst}
 use Rattle.std.specs.List.Sorted.{IsStrictlySortedBy}
 use Rattle.or_geom.specs.declared.shape.Shape.{Shape}
 use Rattle.or_geom.specs.ShapeOrder.{shape_order}
-use Rattle.or_geom.proofs.ShapeOrderLaws.{same_shape}
 use Rattle.element_drawing.specs.LabelOrder.{label_order}
 use Rattle.cell_hierarchy.specs.Plain.{plain_label}
 use Rattle.cell_hierarchy.specs.declared.flat.Label.{Label}
@@ -15,8 +14,8 @@ returns-clause-flat g c =
     let labels = c.into_bump_slice-2.ensures in
     record {
       near = rw (c.deref.ensures.value, c.deref-2.ensures.value) at c.in_default.ensures;
-      shapes_rise = subst (λ (l : List Shape). IsStrictlySortedBy shape_order l) (sym shapes) c.sort_distinct.ensures.rises;
-      shapes_same = same_items _ _ _ shapes (λ s h. c.sort_distinct.ensures.keeps same_shape s h) c.sort_distinct.ensures.adds_none;
+      shapes_rise = subst (λ (l : List Shape). IsStrictlySortedBy shape_order l) (sym shapes) c.sort_distinct_shapes.ensures.rises;
+      shapes_same = same_items _ _ _ shapes c.sort_distinct_shapes.ensures.keeps c.sort_distinct_shapes.ensures.adds_none;
       labels_rise = subst (λ (l : List Label). IsStrictlySortedBy label_order (map plain_label l)) (sym labels) c.sort_distinct_labels.ensures.rises;
       labels_same = same_plain _ _ _ labels c.sort_distinct_labels.ensures.same;
     }

@@ -1,0 +1,6 @@
+//! Sorts of long lists by several threads.
+#![tactic(auto)]
+
+mod workers;
+
+pub use workers::WorkerSorter;
