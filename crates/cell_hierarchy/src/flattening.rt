@@ -30,6 +30,7 @@ fn flat_of<'b, S: Sorter>(
     top: &Name,
     keeps_labels: bool,
 ) -> Result<Flat<'b>, FlattenFault>
+    requires ready { S.ready sorter.now }
     requires few { length layers.now ≤ 64 }
     requires writable { AllByRecursion IsWritableCell structs.now }
     ensures flat { IfOk result (IsFlatKept layers.now keeps_labels structs.now top.now) }
@@ -76,6 +77,7 @@ pub fn flatten_by<'b, S: Sorter>(
     tech: &Tech,
     top: &Name,
 ) -> Result<Flat<'b>, FlattenFault>
+    requires ready { S.ready sorter.now }
     requires writable { IsWritable lib.now }
     requires few { length tech.now.layers ≤ 64 }
     ensures flat { IfOk result (λ flat. AreFlatLists tech.now.layers lib.now.structs top.now (lists_of flat)) }
@@ -118,6 +120,7 @@ pub fn flatten_shapes_by<'b, S: Sorter>(
     tech: &Tech,
     top: &Name,
 ) -> Result<Flat<'b>, FlattenFault>
+    requires ready { S.ready sorter.now }
     requires writable { IsWritable lib.now }
     requires few { length tech.now.layers ≤ 64 }
     ensures shapes { IfOk result (λ flat. AreFlatShapes tech.now.layers lib.now.structs top.now flat.shapes.now) }

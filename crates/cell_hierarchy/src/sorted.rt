@@ -19,6 +19,7 @@ use or_geom::Shape;
 
 /// Sorts shapes in an arena.
 fn sort_shapes<S: Sorter>(sorter: &S, shapes: &mut Vec<Shape, &Bump>)
+    requires { S.ready sorter.now }
     ensures permutation { IsPermutation shapes.old.items shapes.new.items }
     ensures sorted { IsSorted shape_order shapes.new.items }
 {
@@ -27,6 +28,7 @@ fn sort_shapes<S: Sorter>(sorter: &S, shapes: &mut Vec<Shape, &Bump>)
 
 /// Sorts labels in an arena.
 fn sort_labels<'b, S: Sorter>(sorter: &S, labels: &mut Vec<Label<'b>, &'b Bump>)
+    requires { S.ready sorter.now }
     ensures permutation { IsPermutation labels.old.items labels.new.items }
     ensures sorted { IsSorted flat_label_order labels.new.items }
 {
@@ -47,6 +49,7 @@ fn drop_repetitions<T: Ord + Drop>(list: &mut Vec<T, &Bump>)
 
 /// Sorts the shapes and drops repetitions.
 fn sort_distinct_shapes<S: Sorter>(sorter: &S, shapes: &mut Vec<Shape, &Bump>)
+    requires { S.ready sorter.now }
     ensures rises { IsStrictlySortedBy shape_order shapes.new.items }
     ensures keeps { (s : Shape) → Contains shapes.old.items s → Contains shapes.new.items s }
     ensures adds_none { (s : Shape) → Contains shapes.new.items s → Contains shapes.old.items s }
@@ -57,6 +60,7 @@ fn sort_distinct_shapes<S: Sorter>(sorter: &S, shapes: &mut Vec<Shape, &Bump>)
 
 /// Sorts the labels and drops repetitions. Labels with the same texts are one, wherever the texts lie.
 fn sort_distinct_labels<'b, S: Sorter>(sorter: &S, labels: &mut Vec<Label<'b>, &'b Bump>)
+    requires { S.ready sorter.now }
     ensures rises { IsStrictlySortedBy label_order (map plain_label labels.new.items) }
     ensures same { (label : PlainLabel) → Contains (map plain_label labels.new.items) label
         ↔ Contains (map plain_label labels.old.items) label }
@@ -71,6 +75,7 @@ pub fn sorted_flat<'b, S: Sorter>(
     sorter: &S,
     gathered: Gathered<'b>,
 ) -> Result<Flat<'b>, FlattenFault>
+    requires { S.ready sorter.now }
     ensures flat { IfOk result (IsFlatOf gathered.entry) }
     ensures far { IfErr result (IsFarFault gathered.entry) }
 {

@@ -11,6 +11,10 @@ pub struct WorkerSorter<'r, R> {
 }
 
 impl<R: Threads + Sync> Sorter for WorkerSorter<'_, R> {
+    ghost use Rattle.std.specs.Thread.{IsSync};
+
+    ghost ready = { λ _. IsSync R.row };
+
     fn sort_shapes(&self, shapes: &mut [Shape]) {
         if self.workers == 1 {
             shapes.sort_unstable();

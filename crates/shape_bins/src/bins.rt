@@ -147,7 +147,8 @@ pub fn index_by<'b, S: Sorter>(
     bump: &'b Bump,
     flat: &Flat<'b>,
 ) -> Result<Bins<'b>, Memory>
-    requires { length flat.now.shapes.now ≤ 4294967295 }
+    requires ready { S.ready sorter.now }
+    requires few { length flat.now.shapes.now ≤ 4294967295 }
     ensures { IfOk result (λ bins. bins ≡ flat.now.shapes.now) }
 {
     let forest = forest_over(sorter, alloc, bump, flat.shapes)?;

@@ -158,6 +158,7 @@ fn keys_of<T: Placed>(
 
 /// Sorts the keys by their numbers.
 fn sort_keys<S: Sorter>(sorter: &S, keys: &mut Vec<Key>)
+    requires { S.ready sorter.now }
     ensures { IsPermutation keys.old.items keys.new.items }
 {
     sorter.sort_numbers(keys.as_mut_slice());
@@ -182,6 +183,7 @@ pub fn add_order<T: Placed, A: Allocator, S: Sorter>(
     end: usize,
     places: &mut Vec<u32, A>,
 ) -> Result<(), Memory>
+    requires ready { S.ready sorter.now }
     requires order { begin ≤ end }
     requires within { end ≤ length items.now }
     requires few { end ≤ 4294967295 }

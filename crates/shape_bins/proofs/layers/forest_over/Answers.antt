@@ -11,7 +11,7 @@ leaves_over-requires-clause-on g c = rw c.deref.ensures.value (added_on c.args.s
 pub leaves_over-requires-clause-few : goal.leaves_over-requires-clause-few
 leaves_over-requires-clause-few g c =
     let sized = added_len c.loop-begin.begin c.run_end-end.result c.loop-begin.places.items c.add_order.new.places.items c.loop-begin.invariant.forest.sized (omega (arith, c.run_end-end.ensures.longer)) c.in_ok-add_order.ensures in
-    rw c.deref.ensures.value (omega (arith, sized, c.run_end-end.ensures.within, c.requires))
+    rw c.deref.ensures.value (omega (arith, sized, c.run_end-end.ensures.within, c.requires.few))
 
 pub loop-begin-preserved : goal.loop-begin-preserved
 loop-begin-preserved g c =
