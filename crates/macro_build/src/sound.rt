@@ -16,22 +16,25 @@ use crate::built::BuildFault;
 use crate::order::Order;
 use crate::rows::rows_of;
 use bumpalo::Bump;
-use cell_hierarchy::{Flat, flatten};
+use cell_hierarchy::{Flat, Sorter, flatten_by};
 use net_extractor::{NetDiff, compare, extract};
 use or_geom::Memory;
-use shape_bins::{Bins, index};
+use parallel_sort::WorkerSorter;
+use shape_bins::{Bins, index_by};
 use sram_macro::Macro;
 use std::alloc::Global;
 use std::thread::Threads;
 use tile_checker::{Gate, first_violation};
 
 /// The flat shapes and labels of the macro, in the arena.
-fn flat_of<'b>(
+fn flat_of<'b, S: Sorter>(
+    sorter: &S,
     alloc: Global,
     bump: &'b Bump,
     order: &Order,
     made: &Macro,
 ) -> Result<Flat<'b>, BuildFault>
+    requires ready { S.ready sorter.now }
     requires kit { IsKit order.now.kit.now }
     requires made { IsMacro order.now.kit.now order.now.plan.now (held_of order.now.contents)
         order.now.name.now made.now }
@@ -44,7 +47,7 @@ fn flat_of<'b>(
     ensures fault { IfErr result (IsBuildFault order.now.kit.now order.now.plan.now (held_of order.now.contents)
         order.now.name.now) }
 {
-    Ok(flatten(alloc, bump, &made.lib, &order.kit.tech, order.name)?)
+    Ok(flatten_by(sorter, alloc, bump, &made.lib, &order.kit.tech, order.name)?)
 }
 
 /// The first difference of the nets of a flat layout from the macro's netlist.
@@ -91,8 +94,9 @@ pub fn check_sound<R: Threads + Sync, G: Gate + Sync>(
         order.now.name.now) }
 {
     let bump = Bump::new(alloc);
-    let flat = flat_of(alloc, &bump, order, made)?;
-    let bins = index(alloc, &bump, &flat)?;
+    let sorter = WorkerSorter { rt, workers };
+    let flat = flat_of(&sorter, alloc, &bump, order, made)?;
+    let bins = index_by(&sorter, alloc, &bump, &flat)?;
     let tech = &order.kit.tech;
     if let Some(violation) = first_violation(rt, alloc, gate, tech, &flat, &bins, workers)? {
         return Err(BuildFault::RuleBroken(violation));

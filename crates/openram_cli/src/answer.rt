@@ -13,14 +13,15 @@ ghost use Rattle.command_steps.specs.Outcome.{UnlessMemory, is_read_failed, is_u
 
 use crate::inputs::{Inputs, LayoutInput};
 use bumpalo::Bump;
-use cell_hierarchy::{Flat, flatten, flatten_shapes};
+use cell_hierarchy::{Flat, Sorter, flatten, flatten_shapes_by};
 use device_command::answer_devices;
 use kit_command::answer_kit;
 use net_extractor::{Nets, compare, extract};
 use netlist::{Deck, Rows};
 use or_geom::{Memory, Name};
+use parallel_sort::WorkerSorter;
 use reply_lines::{Refusal, Reply, comparison_reply, nets_reply, report_of};
-use shape_bins::index;
+use shape_bins::{index, index_by};
 use spice_netlist::flat_rows;
 use std::alloc::Global;
 use std::thread::Threads;
@@ -41,8 +42,14 @@ fn flat_of<'b>(alloc: Global, bump: &'b Bump, layout: &LayoutInput) -> Result<Fl
 }
 
 /// The flat shapes of the structure alone, in the arena.
-fn shapes_of<'b>(alloc: Global, bump: &'b Bump, layout: &LayoutInput) -> Result<Flat<'b>, Refusal>
-    requires { IsReadLayout layout.now }
+fn shapes_of<'b, S: Sorter>(
+    sorter: &S,
+    alloc: Global,
+    bump: &'b Bump,
+    layout: &LayoutInput,
+) -> Result<Flat<'b>, Refusal>
+    requires ready { S.ready sorter.now }
+    requires read { IsReadLayout layout.now }
     ensures flat { UnlessMemory (AreFlatShapesIn layout.now) result }
     ensures rises { IfOk result (λ flat. IsStrictlySortedBy shape_order flat.shapes.now) }
     ensures reach { IfOk result (λ flat. AreReachable flat.shapes.now) }
@@ -50,7 +57,7 @@ fn shapes_of<'b>(alloc: Global, bump: &'b Bump, layout: &LayoutInput) -> Result<
     ensures read { is_read_failed result ≡ false }
     ensures words { is_usage_outcome result ≡ false }
 {
-    Ok(flatten_shapes(alloc, bump, &layout.lib, &layout.tech, &layout.top)?)
+    Ok(flatten_shapes_by(sorter, alloc, bump, &layout.lib, &layout.tech, &layout.top)?)
 }
 
 /// The labels of a flat layout with their nets.
@@ -88,7 +95,7 @@ fn violations_of<'b, R: Threads + Sync, G: Gate + Sync>(
     requires at_most { workers ≤ 64 }
     ensures { IfOk result (λ list. IsReport tech.now.rules flat.now.shapes.now list.items) }
 {
-    let bins = index(alloc, bump, flat)?;
+    let bins = index_by(&WorkerSorter { rt, workers }, alloc, bump, flat)?;
     check_all(rt, alloc, gate, tech, flat, &bins, workers)
 }
 
@@ -130,7 +137,7 @@ fn answer_check<R: Threads + Sync, G: Gate + Sync>(
     ensures words { is_usage_outcome result ≡ false }
 {
     let bump = Bump::new(alloc);
-    let flat = shapes_of(alloc, &bump, &layout)?;
+    let flat = shapes_of(&WorkerSorter { rt, workers }, alloc, &bump, &layout)?;
     let violations = violations_of(rt, alloc, gate, &bump, &layout.tech, &flat, workers)?;
     let LayoutInput { tech, .. } = layout;
     Ok(report_of(tech.layers, violations))

@@ -5,6 +5,7 @@ use std::thread::Threads;
 
 /// Sorts for so many workers: one worker is the thread that calls; for more the lists are sorted by as many threads as
 /// there are processors.
+#[derive(Drop)]
 pub struct WorkerSorter<'r, R> {
     pub rt: &'r R,
     pub workers: u8,
