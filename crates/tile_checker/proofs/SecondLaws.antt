@@ -3,6 +3,8 @@ use Rattle.std.proofs.Common.{◌≡◌, ℕ, List, [], Some, refl, sym, subst, 
 use Rattle.std.specs.Prelude.{slice_get}
 use Rattle.std.proofs.lemmas.Int.{ints}
 use Rattle.std.proofs.lemmas.Option.{slice_get_within}
+use Rattle.std.proofs.lemmas.List.Sorted.{Contains-permutation, IsPermutation-sym}
+use Rattle.std.specs.List.Sorted.{IsPermutation}
 use Rattle.or_geom.specs.declared.shape.Rect.{Rect}
 use Rattle.or_geom.specs.declared.shape.Shape.{Shape}
 use Rattle.or_geom.specs.Adds.{Adds}
@@ -22,6 +24,17 @@ use Rattle.tile_checker.proofs.PlaceLaws.{adds_all}
 pub near_read : (shapes : List Shape) (layer : ℕ) (area : Rect) (none places read : List ℕ) → none ≡ [] → read ≡ places → Adds none places (IsNearShape shapes layer area) → Adds [] read (IsNearShape shapes layer area)
 near_read shapes layer area none places read empty same adds =
     subst (λ (l : List ℕ). Adds [] l (IsNearShape shapes layer area)) (sym same) (subst (λ (l : List ℕ). Adds l places (IsNearShape shapes layer area)) empty adds)
+
+-- sorted they are the same
+pub near_sorted : (shapes : List Shape) (layer : ℕ) (area : Rect) (places sorted read : List ℕ) → IsPermutation places sorted → read ≡ sorted → Adds [] places (IsNearShape shapes layer area) → Adds [] read (IsNearShape shapes layer area)
+near_sorted shapes layer area places sorted read moved same adds =
+    let all = adds_all places (IsNearShape shapes layer area) adds in
+    subst (λ (l : List ℕ). Adds [] l (IsNearShape shapes layer area)) (sym same) (record {
+      added = sorted;
+      is = refl;
+      only = λ place h. (all place).0 (Contains-permutation sorted places place (IsPermutation-sym places sorted moved) h);
+      each = λ place near. Contains-permutation places sorted place moved ((all place).1 near);
+    })
 
 -- shapes stand at the places
 pub near_places : (shapes : List Shape) (layer : ℕ) (area : Rect) (places : List ℕ) → Adds [] places (IsNearShape shapes layer area) → ArePlaces shapes places

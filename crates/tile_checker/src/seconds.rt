@@ -14,7 +14,7 @@ use shape_bins::Bins;
 use std::alloc::Global;
 
 /// No longer list is kept: to look through it for each first shape would take longer than to ask the bins.
-const MOST_SECONDS: usize = 256;
+const MOST_SECONDS: usize = 2048;
 
 /// A shape that may come second in a pair: its place among the shapes, and its rectangle.
 #[derive(Clone, Copy)]
@@ -37,10 +37,10 @@ pub struct Seconds {
 fn meet(a: Rect, b: Rect) -> bool
     ensures { IsTrue result ↔ Meet a b }
 {
-    if a.x2 < b.x1 {
+    if b.x2 < a.x1 {
         return false;
     }
-    if b.x2 < a.x1 {
+    if a.x2 < b.x1 {
         return false;
     }
     if a.y2 < b.y1 {
@@ -58,7 +58,7 @@ fn seconds_at(alloc: Global, bins: &Bins, places: &[usize]) -> Result<Vec<Second
     ensures { IfOk result (λ seconds. Adds [] seconds.items (SomeGives (IsSecondAt bins.now) places.now)) }
 {
     let shapes = bins.shapes();
-    let mut seconds = Vec::new(alloc);
+    let mut seconds = Vec::with_capacity(alloc, places.len())?;
     for place in places {
         seconds.push(Second {
             place: *place,
@@ -68,20 +68,22 @@ fn seconds_at(alloc: Global, bins: &Bins, places: &[usize]) -> Result<Vec<Second
     Ok(seconds)
 }
 
-/// The shapes of the layer that meet the area, from their places. None where they are too many to be kept.
+/// The shapes of the layer that meet the area, from their places. None where they are too many to be kept. They come in
+/// the order of their left sides, since the shapes do: then most tests of one go as those of the one before.
 fn list_of(
     alloc: Global,
     bins: &Bins,
     _layer: u16,
     _area: Rect,
-    places: &[usize],
+    places: &mut Vec<usize>,
 ) -> Result<Option<Vec<Second>>, Memory>
-    requires { Adds [] places.now (IsNearShape bins.now _layer _area) }
+    requires { Adds [] places.old.items (IsNearShape bins.now _layer _area) }
     ensures { IfOk result (λ list. IfSome list (λ seconds. AreSeconds bins.now _layer _area seconds.items)) }
 {
     if MOST_SECONDS < places.len() {
         return Ok(None);
     }
+    places.sort_unstable();
     Ok(Some(seconds_at(alloc, bins, places)?))
 }
 
@@ -104,7 +106,7 @@ fn renew(bins: &Bins, layer: u16, tile: Rect, notes: &mut Notes) -> Result<(), M
     }
     notes.near.clear();
     bins.add_near(layer, tile, &mut notes.near)?;
-    let list = list_of(notes.alloc, bins, layer, tile, &notes.near)?;
+    let list = list_of(notes.alloc, bins, layer, tile, &mut notes.near)?;
     notes.seconds = Some(Seconds {
         layer,
         asked: tile,

@@ -9,7 +9,7 @@ use std::alloc::Global;
 
 /// A tile is at least so many times as wide and tall as the shapes on an average. So few shapes lie in several tiles,
 /// and a wire that is as long as others crosses few.
-const MEAN_SIDES_PER_TILE: u64 = 10;
+const MEAN_SIDES_PER_TILE: u64 = 24;
 
 /// On an average a tile has at least about so many shapes, also where the shapes lie far apart.
 const SHAPES_PER_TILE: u64 = 64;

@@ -8,7 +8,7 @@ use Rattle.tile_checker.proofs.SecondLaws.{same_at}
 use Rattle.tile_checker.proofs.seconds.seconds_at.Goals as goal
 
 pub loop-place-init : goal.loop-place-init
-loop-place-init c = record { completes = λ new a. rw c.new-seconds.ensures.items at a }
+loop-place-init c = record { completes = λ new a. rw c.in_ok-seconds.ensures.items at a }
 
 pub shape_at-requires : goal.shape_at-requires
 shape_at-requires c = inside_read c.args.bins.now c.shapes-shapes.result.now _ c.shapes-shapes.ensures (c.requires _ (item_in c.args.places.now c.loop-place.place-index 0 c.loop-place-test.true))
