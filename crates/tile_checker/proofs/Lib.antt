@@ -12,6 +12,7 @@ mod NearLaws
 mod PlaceLaws
 mod FirstLaws
 mod FilledLaws
+mod SecondLaws
 mod PairLaws
 mod BoxLaws
 mod StripLaws

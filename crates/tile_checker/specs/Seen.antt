@@ -2,10 +2,12 @@
 use Rattle.std.specs.Prelude.{List, IfSome}
 use Rattle.or_geom.specs.declared.shape.Shape.{Shape}
 use Rattle.tile_checker.specs.ClearArea.{IsClearArea}
+use Rattle.tile_checker.specs.Seconds.{AreTrueSeconds}
 use Rattle.tile_checker.specs.WideArea.{IsSeen}
 use Rattle.tile_checker.specs.declared.notes.Notes.{Notes}
 
--- the wide area and the clear box of the notes, if there are any, are what they say
+-- the wide area, the clear box and the second shapes of the notes, if there are any, are what they say
 pub record AreTrueNotes (shapes : List Shape) (notes : Notes) : Type 0 where
   pub wide : IsSeen shapes notes.wide
   pub clear : IfSome notes.clear (IsClearArea shapes)
+  pub seconds : IfSome notes.seconds (AreTrueSeconds shapes)

@@ -17,6 +17,7 @@ mod laws;
 mod minimum;
 mod notes;
 mod owner;
+mod seconds;
 mod share;
 mod sides;
 mod space;

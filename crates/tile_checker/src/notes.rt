@@ -1,6 +1,7 @@
 ghost use Rattle.std.specs.Prelude.{◌≡◌, [], None};
 
 use crate::clear::ClearArea;
+use crate::seconds::Seconds;
 use crate::violation::Violation;
 use crate::width::WideArea;
 use std::alloc::Global;
@@ -19,6 +20,8 @@ pub struct Notes {
     pub wide: Option<WideArea>,
     /// The clear box found last, for the same reason.
     pub clear: Option<ClearArea>,
+    /// The shapes of one layer that meet the tile, from which the partners of its first shapes are listed.
+    pub seconds: Option<Seconds>,
 }
 
 impl Notes {
@@ -27,6 +30,7 @@ impl Notes {
         ensures found { result.found.items ≡ [] }
         ensures wide { result.wide ≡ None }
         ensures clear { result.clear ≡ None }
+        ensures seconds { result.seconds ≡ None }
     {
         Notes {
             alloc,
@@ -34,6 +38,7 @@ impl Notes {
             found: Vec::new(alloc),
             wide: None,
             clear: None,
+            seconds: None,
         }
     }
 }

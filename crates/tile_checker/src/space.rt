@@ -1,4 +1,4 @@
-ghost use Rattle.std.specs.Prelude.{◌↔◌, ◌<ℤ◌, ◌≤ℤ◌, IsTrue, IfSome, OnOk, MatchOption};
+ghost use Rattle.std.specs.Prelude.{◌≡◌, ◌↔◌, ◌<ℤ◌, ◌≤ℤ◌, IsTrue, OnOk, MatchOption};
 ghost use Rattle.std.specs.List.Sorted.{IsStrictlySortedBy};
 ghost use Rattle.or_geom.specs.Distance.{IsReachable};
 ghost use Rattle.or_geom.specs.Adds.{Adds};
@@ -11,7 +11,6 @@ ghost use Rattle.tile_checker.specs.Found.{AreOnLayersOf, IsSpaceFound};
 ghost use Rattle.tech_rules.specs.declared.tech.Rule.TheVariants as kind;
 ghost use Rattle.std.specs.Int.{int_max, int_min};
 ghost use Rattle.tile_checker.specs.Firsts.{IsAt, IsPartner, HasNoPartner, ArePartners, ArePartnersIn};
-ghost use Rattle.tile_checker.specs.ClearArea.{IsClearArea};
 ghost use Rattle.tile_checker.specs.Seen.{AreTrueNotes};
 ghost use Rattle.tile_checker.specs.Tiles.{IsFromIn, IsPairAt, IsPartIn};
 
@@ -21,6 +20,7 @@ use crate::first::{First, shape_at};
 use crate::minimum::Minimum;
 use crate::notes::Notes;
 use crate::owner::owns_pair;
+use crate::seconds::list_seconds;
 use crate::violation::Violation;
 use or_geom::{Memory, Rect, Shape, dist2, gap_box, joined};
 use shape_bins::Bins;
@@ -139,38 +139,39 @@ fn add_pairs(
 
 /// Lists the places of the partner's shapes that meet the area, but for some that break no rule of this minimum with
 /// the first shape. These lie with it in one box, so that their layer covers the gap between them, or are no nearer than
-/// the minimum, as all shapes outside of a box are whose clearance isn't less. A box of such clearance is kept in `last`,
-/// since the next shapes often lie in it too. No other is: the bins may know a larger one round these.
+/// the minimum, as all shapes outside of a box are whose clearance isn't less. A box of such clearance is kept in the
+/// notes, since the next shapes often lie in it too. No other is: the bins may know a larger one round these.
 fn list_partners(
     bins: &Bins,
     partner: u16,
     min: Minimum,
     first: Shape,
+    tile: Rect,
     area: Rect,
-    near: &mut Vec<usize>,
-    last: &mut Option<ClearArea>,
+    notes: &mut Notes,
 ) -> Result<(), Memory>
-    requires seen { IfSome last.old (IsClearArea bins.now) }
-    ensures seen { IfSome last.new (IsClearArea bins.now) }
-    ensures partners { OnOk result (ArePartnersIn min.value bins.now partner first area near.new.items) }
+    requires seen { AreTrueNotes bins.now notes.old }
+    ensures seen { AreTrueNotes bins.now notes.new }
+    ensures found { notes.new.found ≡ notes.old.found }
+    ensures partners { OnOk result (ArePartnersIn min.value bins.now partner first area notes.new.near.items) }
 {
-    near.clear();
+    notes.near.clear();
     if partner == first.layer {
-        if lies_clear(bins, first, min, *last) {
+        if lies_clear(bins, first, min, notes.clear) {
             return Ok(());
         }
         if let Some(filled) = filled_around(bins, first) {
             if min.value <= filled.clearance {
-                *last = Some(ClearArea {
+                notes.clear = Some(ClearArea {
                     layer: first.layer,
                     filled,
                 });
                 return Ok(());
             }
-            return bins.add_outside(partner, area, filled.rect, near);
+            return bins.add_outside(partner, area, filled.rect, &mut notes.near);
         }
     }
-    bins.add_near(partner, area, near)
+    list_seconds(bins, partner, tile, area, notes)
 }
 
 /// Adds the pairs of shapes that break the rule, whose first is this one and which the tile owns.
@@ -193,8 +194,6 @@ pub fn add_spaces(
         return Ok(());
     };
     let area = part_in(tile, grown(first.shape.rect, rule.min));
-    let near = &mut notes.near;
-    let last = &mut notes.clear;
-    list_partners(bins, partner, rule.min, first.shape, area, near, last)?;
+    list_partners(bins, partner, rule.min, first.shape, tile, area, notes)?;
     add_pairs(bins, rule, tile, first, &notes.near, &mut notes.found)
 }

@@ -8,8 +8,9 @@ use or_geom::{Memory, Rect, Shape};
 use std::alloc::Global;
 
 /// A tile is at least so many times as wide and tall as the shapes on an average. So few shapes lie in several tiles,
-/// and a wire that is as long as others crosses few.
-const MEAN_SIDES_PER_TILE: u64 = 64;
+/// and a wire that is as long as others crosses few. In larger tiles the lists would be longer that space rules go
+/// through for each first shape.
+const MEAN_SIDES_PER_TILE: u64 = 14;
 
 /// On an average a tile has at least about so many shapes, also where the shapes lie far apart.
 const SHAPES_PER_TILE: u64 = 64;

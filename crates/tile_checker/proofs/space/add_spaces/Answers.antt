@@ -20,4 +20,4 @@ add_pairs-requires-clause-partners c =
 pub returns-clause-adds : goal.returns-clause-adds
 returns-clause-adds c =
     on_ok_weaker _ (λ a. pairs_found c.args.rule c.args.bins.now c.args.tile c.args.first c.in-Some.partner c.grown.result c.part_in-area.result _ _ _ c.requires.rises c.requires.at c.in-Some.ensures c.grown.ensures c.part_in-area.ensures c.in_ok-list_partners.ensures.partners
-    (rw c.deref.ensures.value at a)) c.add_pairs.ensures
+    (rw c.list_partners.ensures.found at (rw c.deref.ensures.value at a))) c.add_pairs.ensures

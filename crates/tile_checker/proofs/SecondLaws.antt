@@ -1,0 +1,109 @@
+-- The second shapes that are kept of a tile answer for each area in it.
+use Rattle.std.proofs.Common.{◌≡◌, ℕ, List, [], Some, refl, sym, subst, ◌∙◌, arith}
+use Rattle.std.specs.Prelude.{slice_get}
+use Rattle.std.proofs.lemmas.Int.{ints}
+use Rattle.std.proofs.lemmas.Option.{slice_get_within}
+use Rattle.std.proofs.lemmas.List.Sorted.{Contains-permutation, IsPermutation-sym}
+use Rattle.std.specs.List.Sorted.{IsPermutation}
+use Rattle.or_geom.specs.declared.shape.Rect.{Rect}
+use Rattle.or_geom.specs.declared.shape.Shape.{Shape}
+use Rattle.or_geom.specs.Adds.{Adds}
+use Rattle.or_geom.specs.Containing.{HoldsRect}
+use Rattle.or_geom.specs.Gathering.{SomeGives}
+use Rattle.or_geom.proofs.AddsLaws.{adds_as}
+use Rattle.or_geom.proofs.GatheringLaws.{giver, gives_some}
+use Rattle.or_geom.proofs.ListLaws.{one_at}
+use Rattle.shape_bins.specs.Hits.{IsNearShape}
+use Rattle.shape_bins.specs.Meets.{Meet}
+use Rattle.tile_checker.specs.declared.seconds.Second.{Second}
+use Rattle.tile_checker.specs.Firsts.{ArePlaces}
+use Rattle.tile_checker.specs.Seconds.{IsSecondAt, IsSecond, AreSeconds, AreSecondsOver, IsPlaceOf}
+use Rattle.tile_checker.proofs.PlaceLaws.{adds_all}
+
+-- what was added to a list that had been emptied, as it is read
+pub near_read : (shapes : List Shape) (layer : ℕ) (area : Rect) (none places read : List ℕ) → none ≡ [] → read ≡ places → Adds none places (IsNearShape shapes layer area) → Adds [] read (IsNearShape shapes layer area)
+near_read shapes layer area none places read empty same adds =
+    subst (λ (l : List ℕ). Adds [] l (IsNearShape shapes layer area)) (sym same) (subst (λ (l : List ℕ). Adds l places (IsNearShape shapes layer area)) empty adds)
+
+-- sorted they are the same
+pub near_sorted : (shapes : List Shape) (layer : ℕ) (area : Rect) (places sorted read : List ℕ) → IsPermutation places sorted → read ≡ sorted → Adds [] places (IsNearShape shapes layer area) → Adds [] read (IsNearShape shapes layer area)
+near_sorted shapes layer area places sorted read moved same adds =
+    let all = adds_all places (IsNearShape shapes layer area) adds in
+    subst (λ (l : List ℕ). Adds [] l (IsNearShape shapes layer area)) (sym same) (record {
+      added = sorted;
+      is = refl;
+      only = λ place h. (all place).0 (Contains-permutation sorted places place (IsPermutation-sym places sorted moved) h);
+      each = λ place near. Contains-permutation places sorted place moved ((all place).1 near);
+    })
+
+-- shapes stand at the places
+pub near_places : (shapes : List Shape) (layer : ℕ) (area : Rect) (places : List ℕ) → Adds [] places (IsNearShape shapes layer area) → ArePlaces shapes places
+near_places shapes layer area places adds = λ place h.
+    let hit = (adds_all places (IsNearShape shapes layer area) adds place).0 h in
+    slice_get_within shapes place hit.shape hit.there
+
+-- a place has one shape
+pub same_at : (shapes : List Shape) (place : ℕ) (s : Shape) (second : Second) → slice_get shapes place ≡ Some s → IsSecondAt shapes place second → second ≡ record { place = place; rect = s.rect }
+same_at shapes place s second at p =
+    let e : p.shape ≡ s = one_at shapes place p.shape s p.there at in
+    p.is ∙ (λ i. record { place = place; rect = (e i).rect })
+
+second_is : (shapes : List Shape) (layer : ℕ) (area : Rect) (place : ℕ) (second : Second) → IsNearShape shapes layer area place → IsSecondAt shapes place second → IsSecond shapes layer area second
+second_is shapes layer area place second hit p =
+    let e : p.shape ≡ hit.shape = one_at shapes place p.shape hit.shape p.there hit.there in
+    let at : second.place ≡ place = λ i. (p.is i).place in
+    record {
+      shape = hit.shape;
+      there = subst (λ (k : ℕ). slice_get shapes k ≡ Some hit.shape) (sym at) hit.there;
+      on = hit.on;
+      is = (λ i. (p.is i).rect) ∙ (λ i. (e i).rect);
+      meets = hit.fits;
+    }
+
+-- the shapes at the places of all that meet an area
+pub seconds_are : (shapes : List Shape) (layer : ℕ) (area : Rect) (places : List ℕ) (seconds : List Second) → Adds [] places (IsNearShape shapes layer area) → Adds [] seconds (SomeGives (IsSecondAt shapes) places) → AreSeconds shapes layer area seconds
+seconds_are shapes layer area places seconds near adds =
+    let all = adds_all places (IsNearShape shapes layer area) near in
+    adds_all seconds (IsSecond shapes layer area)
+    (adds_as [] seconds (SomeGives (IsSecondAt shapes) places) (IsSecond shapes layer area)
+    (λ second g. let r = giver (IsSecondAt shapes) places second g in second_is shapes layer area r.0 second ((all r.0).0 r.1) r.2)
+    (λ second s. gives_some (IsSecondAt shapes) places second second.place
+    ((all second.place).1 (record { shape = s.shape; there = s.there; on = s.on; fits = s.meets }))
+    (record { shape = s.shape; there = s.there; is = λ i. record { place = second.place; rect = s.is i } }))
+    adds)
+
+-- what meets an area meets each that holds it
+meets_more : (r asked area : Rect) → HoldsRect asked area → Meet r area → Meet r asked
+meets_more r asked area h m = record {
+  left = omega (arith, ints, h.right, m.left);
+  right = omega (arith, ints, h.left, m.right);
+  low = omega (arith, ints, h.high, m.low);
+  high = omega (arith, ints, h.low, m.high);
+}
+
+-- of those, the ones that meet an area which the other holds
+pub seconds_answer : (shapes : List Shape) (layer : ℕ) (area : Rect) (seconds : List Second) (old new : List ℕ) → AreSecondsOver shapes layer area seconds → Adds old new (SomeGives (IsPlaceOf area) seconds) → Adds old new (IsNearShape shapes layer area)
+seconds_answer shapes layer area seconds old new over adds =
+    adds_as old new (SomeGives (IsPlaceOf area) seconds) (IsNearShape shapes layer area)
+    (λ place g.
+    let r = giver (IsPlaceOf area) seconds place g in
+    let s = (over.are r.0).0 r.1 in
+    record {
+      shape = s.shape;
+      there = subst (λ (k : ℕ). slice_get shapes k ≡ Some s.shape) (sym r.2.is) s.there;
+      on = s.on;
+      fits = subst (λ (b : Rect). Meet b area) s.is r.2.meets;
+    })
+    (λ place hit. gives_some (IsPlaceOf area) seconds place (record { place = place; rect = hit.shape.rect })
+    ((over.are (record { place = place; rect = hit.shape.rect })).1
+    (record { shape = hit.shape; there = hit.there; on = hit.on; is = refl; meets = meets_more hit.shape.rect over.asked area over.holds hit.fits }))
+    (record { is = refl; meets = hit.fits }))
+    adds
+
+-- those that are kept of a layer and an area, as they are read
+pub kept_are : (shapes : List Shape) (own layer : ℕ) (asked area : Rect) (seconds read : List Second) → own ≡ layer → read ≡ seconds → HoldsRect asked area → AreSeconds shapes own asked seconds → AreSecondsOver shapes layer area read
+kept_are shapes own layer asked area seconds read on same holds are = record {
+  asked = asked;
+  holds = holds;
+  are = subst (λ (l : List Second). AreSeconds shapes layer asked l) (sym same) (subst (λ (k : ℕ). AreSeconds shapes k asked seconds) on are);
+}

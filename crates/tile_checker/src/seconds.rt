@@ -1,0 +1,177 @@
+ghost use Rattle.std.specs.Prelude.{◌↔◌, ◌≡◌, [], IsTrue, IfOk, IfSome, OnOk};
+ghost use Rattle.or_geom.specs.Adds.{Adds};
+ghost use Rattle.or_geom.specs.Gathering.{SomeGives};
+ghost use Rattle.shape_bins.specs.Hits.{IsNearShape};
+ghost use Rattle.shape_bins.specs.Meets.{Meet};
+ghost use Rattle.tile_checker.specs.Firsts.{ArePlaces};
+ghost use Rattle.tile_checker.specs.Seconds.{IsSecondAt, AreSeconds, AreSecondsOver, AreTrueSeconds, IsPlaceOf};
+ghost use Rattle.tile_checker.specs.Seen.{AreTrueNotes};
+
+use crate::first::shape_at;
+use crate::notes::Notes;
+use or_geom::{Memory, Rect, holds};
+use shape_bins::Bins;
+use std::alloc::Global;
+
+/// No longer list is kept: to look through it for each first shape would take longer than to ask the bins.
+const MOST_SECONDS: usize = 2048;
+
+/// A shape that may come second in a pair: its place among the shapes, and its rectangle.
+#[derive(Clone, Copy)]
+pub struct Second {
+    pub place: usize,
+    pub rect: Rect,
+}
+
+/// The shapes of a layer that meet an area.
+#[derive(Drop)]
+pub struct Seconds {
+    pub layer: u16,
+    pub asked: Rect,
+    /// None where they are too many to be kept.
+    pub list: Option<Vec<Second>>,
+}
+
+/// Whether the closed rectangles have a point in common.
+#[inline(always)]
+fn meet(a: Rect, b: Rect) -> bool
+    ensures { IsTrue result ↔ Meet a b }
+{
+    if b.x2 < a.x1 {
+        return false;
+    }
+    if a.x2 < b.x1 {
+        return false;
+    }
+    if a.y2 < b.y1 {
+        return false;
+    }
+    if b.y2 < a.y1 {
+        return false;
+    }
+    true
+}
+
+/// The shapes at the places, each with its place.
+fn seconds_at(alloc: Global, bins: &Bins, places: &[usize]) -> Result<Vec<Second>, Memory>
+    requires { ArePlaces bins.now places.now }
+    ensures { IfOk result (λ seconds. Adds [] seconds.items (SomeGives (IsSecondAt bins.now) places.now)) }
+{
+    let shapes = bins.shapes();
+    let mut seconds = Vec::with_capacity(alloc, places.len())?;
+    for place in places {
+        seconds.push(Second {
+            place: *place,
+            rect: shape_at(shapes, *place).rect,
+        })?;
+    }
+    Ok(seconds)
+}
+
+/// The shapes of the layer that meet the area, from their places. None where they are too many to be kept. They come in
+/// the order of their left sides, since the shapes do: then most tests of one go as those of the one before.
+fn list_of(
+    alloc: Global,
+    bins: &Bins,
+    _layer: u16,
+    _area: Rect,
+    places: &mut Vec<usize>,
+) -> Result<Option<Vec<Second>>, Memory>
+    requires { Adds [] places.old.items (IsNearShape bins.now _layer _area) }
+    ensures { IfOk result (λ list. IfSome list (λ seconds. AreSeconds bins.now _layer _area seconds.items)) }
+{
+    if MOST_SECONDS < places.len() {
+        return Ok(None);
+    }
+    places.sort_unstable();
+    Ok(Some(seconds_at(alloc, bins, places)?))
+}
+
+/// Whether what is kept is of this layer and this tile.
+fn is_about(seconds: &Option<Seconds>, layer: u16, tile: Rect) -> bool {
+    match seconds {
+        Some(kept) => kept.layer == layer && kept.asked == tile,
+        None => false,
+    }
+}
+
+/// Lists the layer's shapes that meet the tile, unless what is kept is of this layer and tile.
+fn renew(bins: &Bins, layer: u16, tile: Rect, notes: &mut Notes) -> Result<(), Memory>
+    requires seen { AreTrueNotes bins.now notes.old }
+    ensures seen { AreTrueNotes bins.now notes.new }
+    ensures found { notes.new.found ≡ notes.old.found }
+{
+    if is_about(&notes.seconds, layer, tile) {
+        return Ok(());
+    }
+    notes.near.clear();
+    bins.add_near(layer, tile, &mut notes.near)?;
+    let list = list_of(notes.alloc, bins, layer, tile, &mut notes.near)?;
+    notes.seconds = Some(Seconds {
+        layer,
+        asked: tile,
+        list,
+    });
+    Ok(())
+}
+
+/// The list that is kept, if it has all shapes of the layer that meet the area.
+fn kept_over<'n>(
+    _bins: &Bins,
+    kept: &'n Option<Seconds>,
+    layer: u16,
+    area: Rect,
+) -> Option<&'n [Second]>
+    requires { IfSome kept.now (AreTrueSeconds _bins.now) }
+    ensures { IfSome result (λ seconds. AreSecondsOver _bins.now layer area seconds.now) }
+{
+    let Some(seconds) = kept else {
+        return None;
+    };
+    if seconds.layer != layer {
+        return None;
+    }
+    if !holds(seconds.asked, area) {
+        return None;
+    }
+    match &seconds.list {
+        Some(list) => Some(list),
+        None => None,
+    }
+}
+
+/// Adds the places of those that meet the area.
+fn add_places(seconds: &[Second], area: Rect, near: &mut Vec<usize>) -> Result<(), Memory>
+    ensures { OnOk result (Adds near.old.items near.new.items (SomeGives (IsPlaceOf area) seconds.now)) }
+{
+    for second in seconds {
+        if !meet(second.rect, area) {
+            continue;
+        }
+        near.push(second.place)?;
+    }
+    Ok(())
+}
+
+/// Lists the places of the layer's shapes that meet the area. The tile's shapes of the layer are asked for once and
+/// kept, and each area that lies in the tile is answered from them; the bins are asked where it doesn't, or where the
+/// tile has too many.
+pub fn list_seconds(
+    bins: &Bins,
+    layer: u16,
+    tile: Rect,
+    area: Rect,
+    notes: &mut Notes,
+) -> Result<(), Memory>
+    requires seen { AreTrueNotes bins.now notes.old }
+    ensures seen { AreTrueNotes bins.now notes.new }
+    ensures found { notes.new.found ≡ notes.old.found }
+    ensures adds { OnOk result (Adds [] notes.new.near.items (IsNearShape bins.now layer area)) }
+{
+    renew(bins, layer, tile, notes)?;
+    notes.near.clear();
+    if let Some(seconds) = kept_over(bins, &notes.seconds, layer, area) {
+        return add_places(seconds, area, &mut notes.near);
+    }
+    bins.add_near(layer, area, &mut notes.near)
+}
