@@ -93,7 +93,7 @@ pub fn check_all<G: Gate + Sync, R: Threads + Sync>(
     requires few { workers ≤ 64 }
     ensures { IfOk result (λ list. IsReport tech.now.rules flat.now.shapes.now list.items) }
 {
-    let tiles = tiles_of(alloc, bins.shapes())?;
+    let tiles = tiles_of(alloc, bins)?;
     if workers == 1 {
         gate.enter(0);
         return report_alone(alloc, tech, bins, &tiles);

@@ -118,7 +118,7 @@ pub fn first_violation<G: Gate + Sync, R: Threads + Sync>(
     requires few { workers ≤ 64 }
     ensures { IfOk result (IsFirstOfReport tech.now.rules flat.now.shapes.now) }
 {
-    let tiles = tiles_of(alloc, bins.shapes())?;
+    let tiles = tiles_of(alloc, bins)?;
     if workers == 1 {
         gate.enter(0);
         return first_alone(alloc, tech, bins, &tiles);
