@@ -6,7 +6,7 @@ ghost use Rattle.reply_lines.specs.Refusals.{headed, config_words, table_words, 
 ghost use Rattle.reply_lines.specs.Shapes.{shape_words, second_words, violation_words};
 
 use crate::finding::add_shape;
-use crate::heading::{heading, named, named_twice, plain, pointed};
+use crate::heading::{heading, with_name, with_names, with_point, without_fields};
 use crate::line::ReplyLine;
 use crate::refusal::{flatten_line, gds_line, spice_line};
 use leaf_tables::{KitFault, PartFault, TableFault};
@@ -21,12 +21,12 @@ pub fn config_line(alloc: Global, fault: &ConfigFault) -> Result<ReplyLine, Memo
     ensures { IfOk result (λ line. line ≡ reply_line (config_words fault.now)) }
 {
     match fault {
-        ConfigFault::NotToml => plain(alloc, 61, b"NotToml"),
-        ConfigFault::UnknownKey { key } => named(alloc, 64, b"UnknownKey", key),
-        ConfigFault::Missing { key } => named(alloc, 62, b"Missing", key),
-        ConfigFault::WrongKind { key } => named(alloc, 63, b"WrongKind", key),
-        ConfigFault::OutOfRange { key } => named(alloc, 65, b"OutOfRange", key),
-        ConfigFault::Memory => plain(alloc, 94, b"Memory"),
+        ConfigFault::NotToml => without_fields(alloc, 61, b"NotToml"),
+        ConfigFault::UnknownKey { key } => with_name(alloc, 64, b"UnknownKey", key),
+        ConfigFault::Missing { key } => with_name(alloc, 62, b"Missing", key),
+        ConfigFault::WrongKind { key } => with_name(alloc, 63, b"WrongKind", key),
+        ConfigFault::OutOfRange { key } => with_name(alloc, 65, b"OutOfRange", key),
+        ConfigFault::Memory => without_fields(alloc, 94, b"Memory"),
     }
 }
 
@@ -45,10 +45,10 @@ fn table_line(alloc: Global, fault: &TableFault) -> Result<ReplyLine, Memory>
     ensures { IfOk result (λ line. line ≡ reply_line (table_words fault.now)) }
 {
     match fault {
-        TableFault::MissingRole { role } => named(alloc, 51, b"MissingRole", role),
+        TableFault::MissingRole { role } => with_name(alloc, 51, b"MissingRole", role),
         TableFault::BadRow { role, row } => row_line(alloc, role, *row),
-        TableFault::Differs { role, point } => named_twice(alloc, 53, b"Differs", role, point),
-        TableFault::Memory => plain(alloc, 94, b"Memory"),
+        TableFault::Differs { role, point } => with_names(alloc, 53, b"Differs", role, point),
+        TableFault::Memory => without_fields(alloc, 94, b"Memory"),
     }
 }
 
@@ -58,18 +58,18 @@ pub fn kit_line(alloc: Global, fault: &KitFault) -> Result<ReplyLine, Memory>
     match fault {
         KitFault::Gds(fault) => gds_line(alloc, *fault),
         KitFault::Spice(fault) => spice_line(alloc, *fault),
-        KitFault::NoWire => plain(alloc, 50, b"NoWire"),
+        KitFault::NoWire => without_fields(alloc, 50, b"NoWire"),
         KitFault::Table(fault) => table_line(alloc, fault),
         KitFault::Flatten(fault) => flatten_line(alloc, fault),
-        KitFault::Outline { role } => named(alloc, 56, b"Outline", role),
-        KitFault::UnknownSubckt { name } => named(alloc, 16, b"UnknownSubckt", name),
-        KitFault::PortsDiffer { role } => named(alloc, 60, b"PortsDiffer", role),
-        KitFault::PinMissing { role, pin } => named_twice(alloc, 54, b"PinMissing", role, pin),
-        KitFault::PinLayer { role, pin } => named_twice(alloc, 55, b"PinLayer", role, pin),
-        KitFault::EdgePin { role, pin } => named_twice(alloc, 59, b"EdgePin", role, pin),
-        KitFault::HeightDiffers { role } => named(alloc, 57, b"HeightDiffers", role),
-        KitFault::WidthDiffers { role } => named(alloc, 58, b"WidthDiffers", role),
-        KitFault::Memory => plain(alloc, 94, b"Memory"),
+        KitFault::Outline { role } => with_name(alloc, 56, b"Outline", role),
+        KitFault::UnknownSubckt { name } => with_name(alloc, 16, b"UnknownSubckt", name),
+        KitFault::PortsDiffer { role } => with_name(alloc, 60, b"PortsDiffer", role),
+        KitFault::PinMissing { role, pin } => with_names(alloc, 54, b"PinMissing", role, pin),
+        KitFault::PinLayer { role, pin } => with_names(alloc, 55, b"PinLayer", role, pin),
+        KitFault::EdgePin { role, pin } => with_names(alloc, 59, b"EdgePin", role, pin),
+        KitFault::HeightDiffers { role } => with_name(alloc, 57, b"HeightDiffers", role),
+        KitFault::WidthDiffers { role } => with_name(alloc, 58, b"WidthDiffers", role),
+        KitFault::Memory => without_fields(alloc, 94, b"Memory"),
     }
 }
 
@@ -96,7 +96,7 @@ pub fn part_line(alloc: Global, fault: &PartFault) -> Result<ReplyLine, Memory>
             second,
         } => close_line(alloc, *side, *first, *second),
         PartFault::TapsClose { first, second } => {
-            pointed(
+            with_point(
                 alloc,
                 72,
                 b"TapsClose",
@@ -106,9 +106,9 @@ pub fn part_line(alloc: Global, fault: &PartFault) -> Result<ReplyLine, Memory>
                 },
             )
         }
-        PartFault::SliceTooNarrow { role } => named(alloc, 73, b"SliceTooNarrow", role),
-        PartFault::NameTaken { name } => named(alloc, 74, b"NameTaken", name),
-        PartFault::Memory => plain(alloc, 94, b"Memory"),
+        PartFault::SliceTooNarrow { role } => with_name(alloc, 73, b"SliceTooNarrow", role),
+        PartFault::NameTaken { name } => with_name(alloc, 74, b"NameTaken", name),
+        PartFault::Memory => without_fields(alloc, 94, b"Memory"),
     }
 }
 

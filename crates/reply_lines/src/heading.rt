@@ -18,7 +18,7 @@ pub fn heading(alloc: Global, number: u64, name: &[u8]) -> Result<ReplyLine, Mem
 }
 
 /// A line without fields.
-pub fn plain(alloc: Global, number: u64, name: &[u8]) -> Result<ReplyLine, Memory>
+pub fn without_fields(alloc: Global, number: u64, name: &[u8]) -> Result<ReplyLine, Memory>
     ensures { IfOk result (λ line. line ≡ reply_line (headed number name.now [])) }
 {
     let mut line = heading(alloc, number, name)?;
@@ -27,7 +27,7 @@ pub fn plain(alloc: Global, number: u64, name: &[u8]) -> Result<ReplyLine, Memor
 }
 
 /// A line with one name as its field.
-pub fn named(alloc: Global, number: u64, name: &[u8], field: &Name) -> Result<ReplyLine, Memory>
+pub fn with_name(alloc: Global, number: u64, name: &[u8], field: &Name) -> Result<ReplyLine, Memory>
     ensures { IfOk result (λ line. line ≡ reply_line (headed number name.now (field.now ∷ []))) }
 {
     let mut line = heading(alloc, number, name)?;
@@ -37,7 +37,7 @@ pub fn named(alloc: Global, number: u64, name: &[u8], field: &Name) -> Result<Re
 }
 
 /// A line with one number as its field.
-pub fn placed(alloc: Global, number: u64, name: &[u8], at: u64) -> Result<ReplyLine, Memory>
+pub fn with_number(alloc: Global, number: u64, name: &[u8], at: u64) -> Result<ReplyLine, Memory>
     ensures { IfOk result (λ line. line ≡ reply_line (headed number name.now (decimal at ∷ []))) }
 {
     let mut line = heading(alloc, number, name)?;
@@ -47,7 +47,13 @@ pub fn placed(alloc: Global, number: u64, name: &[u8], at: u64) -> Result<ReplyL
 }
 
 /// A line with two numbers as its fields.
-pub fn counted(alloc: Global, number: u64, name: &[u8], a: u64, b: u64) -> Result<ReplyLine, Memory>
+pub fn with_numbers(
+    alloc: Global,
+    number: u64,
+    name: &[u8],
+    a: u64,
+    b: u64,
+) -> Result<ReplyLine, Memory>
     ensures { IfOk result (λ line. line ≡ reply_line (headed number name.now (decimal a ∷ decimal b ∷ []))) }
 {
     let mut line = heading(alloc, number, name)?;
@@ -58,7 +64,7 @@ pub fn counted(alloc: Global, number: u64, name: &[u8], a: u64, b: u64) -> Resul
 }
 
 /// A line with a point's coordinates as its fields.
-pub fn pointed(alloc: Global, number: u64, name: &[u8], p: Point) -> Result<ReplyLine, Memory>
+pub fn with_point(alloc: Global, number: u64, name: &[u8], p: Point) -> Result<ReplyLine, Memory>
     ensures { IfOk result (λ line. line ≡ reply_line
         (headed number name.now (signed_decimal p.x ∷ signed_decimal p.y ∷ []))) }
 {
@@ -70,7 +76,7 @@ pub fn pointed(alloc: Global, number: u64, name: &[u8], p: Point) -> Result<Repl
 }
 
 /// A line with two names as its fields.
-pub fn named_twice(
+pub fn with_names(
     alloc: Global,
     number: u64,
     name: &[u8],
@@ -90,5 +96,5 @@ pub fn named_twice(
 pub fn unwritten_line(alloc: Global, name: &Name) -> Result<ReplyLine, Memory>
     ensures { IfOk result (λ line. line ≡ reply_line (unwritten_words name.now)) }
 {
-    named(alloc, 92, b"WriteFailed", name)
+    with_name(alloc, 92, b"WriteFailed", name)
 }

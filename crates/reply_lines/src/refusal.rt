@@ -6,7 +6,7 @@ ghost use Rattle.reply_lines.specs.Statuses.{is_memory, is_read_failure, refusal
 
 use crate::build_refusal::{broken_line, config_line, differs_line, kit_line, part_line};
 use crate::device_refusal::bad_device_line;
-use crate::heading::{counted, named, placed, plain, pointed};
+use crate::heading::{with_name, with_number, with_numbers, with_point, without_fields};
 use crate::line::ReplyLine;
 use crate::rom_refusal::rom_line;
 use cell_hierarchy::FlattenFault;
@@ -90,13 +90,13 @@ pub fn tech_line(alloc: Global, fault: &TechFault) -> Result<ReplyLine, Memory>
     ensures { IfOk result (λ line. line ≡ reply_line (tech_words fault.now)) }
 {
     match fault {
-        TechFault::NotToml => plain(alloc, 21, b"NotToml"),
-        TechFault::Missing { key } => named(alloc, 22, b"Missing", key),
-        TechFault::WrongKind { key } => named(alloc, 23, b"WrongKind", key),
-        TechFault::OutOfRange { key } => named(alloc, 24, b"OutOfRange", key),
-        TechFault::UnknownLayer { key } => named(alloc, 25, b"UnknownLayer", key),
-        TechFault::BadWire { layer } => named(alloc, 26, b"BadWire", layer),
-        TechFault::Memory => plain(alloc, 94, b"Memory"),
+        TechFault::NotToml => without_fields(alloc, 21, b"NotToml"),
+        TechFault::Missing { key } => with_name(alloc, 22, b"Missing", key),
+        TechFault::WrongKind { key } => with_name(alloc, 23, b"WrongKind", key),
+        TechFault::OutOfRange { key } => with_name(alloc, 24, b"OutOfRange", key),
+        TechFault::UnknownLayer { key } => with_name(alloc, 25, b"UnknownLayer", key),
+        TechFault::BadWire { layer } => with_name(alloc, 26, b"BadWire", layer),
+        TechFault::Memory => without_fields(alloc, 94, b"Memory"),
     }
 }
 
@@ -104,14 +104,14 @@ pub fn flatten_line(alloc: Global, fault: &FlattenFault) -> Result<ReplyLine, Me
     ensures { IfOk result (λ line. line ≡ reply_line (flatten_words fault.now)) }
 {
     match fault {
-        FlattenFault::UnknownStruct { name } => named(alloc, 31, b"UnknownStruct", name),
-        FlattenFault::Cycle { name } => named(alloc, 32, b"Cycle", name),
-        FlattenFault::TooDeep { depth } => placed(alloc, 33, b"TooDeep", u64::from(*depth)),
+        FlattenFault::UnknownStruct { name } => with_name(alloc, 31, b"UnknownStruct", name),
+        FlattenFault::Cycle { name } => with_name(alloc, 32, b"Cycle", name),
+        FlattenFault::TooDeep { depth } => with_number(alloc, 33, b"TooDeep", u64::from(*depth)),
         FlattenFault::TooMany { shapes, labels } => {
-            counted(alloc, 34, b"TooMany", *shapes, *labels)
+            with_numbers(alloc, 34, b"TooMany", *shapes, *labels)
         }
-        FlattenFault::Far { x, y } => pointed(alloc, 35, b"Far", Point { x: *x, y: *y }),
-        FlattenFault::Memory => plain(alloc, 94, b"Memory"),
+        FlattenFault::Far { x, y } => with_point(alloc, 35, b"Far", Point { x: *x, y: *y }),
+        FlattenFault::Memory => without_fields(alloc, 94, b"Memory"),
     }
 }
 
@@ -119,13 +119,13 @@ pub fn spice_line(alloc: Global, fault: SpiceFault) -> Result<ReplyLine, Memory>
     ensures { IfOk result (λ line. line ≡ reply_line (spice_words fault)) }
 {
     match fault {
-        SpiceFault::NotAscii { at } => placed(alloc, 11, b"NotAscii", at),
-        SpiceFault::OutsideSubckt { line } => placed(alloc, 12, b"OutsideSubckt", line),
-        SpiceFault::Unclosed { line } => placed(alloc, 13, b"Unclosed", line),
-        SpiceFault::Duplicate { line } => placed(alloc, 14, b"Duplicate", line),
-        SpiceFault::Refused { line } => placed(alloc, 15, b"Refused", line),
-        SpiceFault::BadLine { line } => placed(alloc, 19, b"BadLine", line),
-        SpiceFault::Memory => plain(alloc, 94, b"Memory"),
+        SpiceFault::NotAscii { at } => with_number(alloc, 11, b"NotAscii", at),
+        SpiceFault::OutsideSubckt { line } => with_number(alloc, 12, b"OutsideSubckt", line),
+        SpiceFault::Unclosed { line } => with_number(alloc, 13, b"Unclosed", line),
+        SpiceFault::Duplicate { line } => with_number(alloc, 14, b"Duplicate", line),
+        SpiceFault::Refused { line } => with_number(alloc, 15, b"Refused", line),
+        SpiceFault::BadLine { line } => with_number(alloc, 19, b"BadLine", line),
+        SpiceFault::Memory => without_fields(alloc, 94, b"Memory"),
     }
 }
 
@@ -133,11 +133,11 @@ fn rows_line(alloc: Global, fault: &FlatFault) -> Result<ReplyLine, Memory>
     ensures { IfOk result (λ line. line ≡ reply_line (rows_words fault.now)) }
 {
     match fault {
-        FlatFault::UnknownSubckt { name } => named(alloc, 16, b"UnknownSubckt", name),
-        FlatFault::Cycle { name } => named(alloc, 18, b"Cycle", name),
-        FlatFault::PortCount { path } => named(alloc, 17, b"PortCount", path),
-        FlatFault::TooMany { count } => placed(alloc, 20, b"TooMany", *count),
-        FlatFault::Memory => plain(alloc, 94, b"Memory"),
+        FlatFault::UnknownSubckt { name } => with_name(alloc, 16, b"UnknownSubckt", name),
+        FlatFault::Cycle { name } => with_name(alloc, 18, b"Cycle", name),
+        FlatFault::PortCount { path } => with_name(alloc, 17, b"PortCount", path),
+        FlatFault::TooMany { count } => with_number(alloc, 20, b"TooMany", *count),
+        FlatFault::Memory => without_fields(alloc, 94, b"Memory"),
     }
 }
 
@@ -145,16 +145,28 @@ pub fn gds_line(alloc: Global, fault: GdsFault) -> Result<ReplyLine, Memory>
     ensures { IfOk result (λ line. line ≡ reply_line (gds_words fault)) }
 {
     match fault {
-        GdsFault::Truncated { at } => placed(alloc, 1, b"Truncated", at),
-        GdsFault::BadRecord { at, code } => counted(alloc, 2, b"BadRecord", at, u64::from(code)),
-        GdsFault::NotInPlace { at, code } => counted(alloc, 3, b"NotInPlace", at, u64::from(code)),
-        GdsFault::BadUnits { at } => placed(alloc, 4, b"BadUnits", at),
-        GdsFault::NotManhattan { at } => placed(alloc, 5, b"NotManhattan", at),
-        GdsFault::BadTransform { at } => placed(alloc, 6, b"BadTransform", at),
-        GdsFault::BadPath { at } => placed(alloc, 7, b"BadPath", at),
-        GdsFault::TrailingBytes { at } => placed(alloc, 8, b"TrailingBytes", at),
-        GdsFault::Twice { at } => placed(alloc, 10, b"Twice", at),
-        GdsFault::Memory => plain(alloc, 94, b"Memory"),
+        GdsFault::Truncated { at } => with_number(alloc, 1, b"Truncated", at),
+        GdsFault::BadRecord { at, code } => with_numbers(
+            alloc,
+            2,
+            b"BadRecord",
+            at,
+            u64::from(code),
+        ),
+        GdsFault::NotInPlace { at, code } => with_numbers(
+            alloc,
+            3,
+            b"NotInPlace",
+            at,
+            u64::from(code),
+        ),
+        GdsFault::BadUnits { at } => with_number(alloc, 4, b"BadUnits", at),
+        GdsFault::NotManhattan { at } => with_number(alloc, 5, b"NotManhattan", at),
+        GdsFault::BadTransform { at } => with_number(alloc, 6, b"BadTransform", at),
+        GdsFault::BadPath { at } => with_number(alloc, 7, b"BadPath", at),
+        GdsFault::TrailingBytes { at } => with_number(alloc, 8, b"TrailingBytes", at),
+        GdsFault::Twice { at } => with_number(alloc, 10, b"Twice", at),
+        GdsFault::Memory => without_fields(alloc, 94, b"Memory"),
     }
 }
 
@@ -309,29 +321,29 @@ impl Refusal {
         ensures { IfOk result (λ line. line ≡ reply_line (refusal_words self.now)) }
     {
         match self {
-            Refusal::Usage => plain(alloc, 90, b"Usage"),
-            Refusal::NoFile { name } => named(alloc, 67, b"NoFile", name),
-            Refusal::TooLong { name } => named(alloc, 68, b"TooLong", name),
-            Refusal::ReadFailed { name } => named(alloc, 91, b"ReadFailed", name),
+            Refusal::Usage => without_fields(alloc, 90, b"Usage"),
+            Refusal::NoFile { name } => with_name(alloc, 67, b"NoFile", name),
+            Refusal::TooLong { name } => with_name(alloc, 68, b"TooLong", name),
+            Refusal::ReadFailed { name } => with_name(alloc, 91, b"ReadFailed", name),
             Refusal::Tech(fault) => tech_line(alloc, fault),
             Refusal::Gds(fault) => gds_line(alloc, *fault),
             Refusal::Spice(fault) => spice_line(alloc, *fault),
             Refusal::Flatten(fault) => flatten_line(alloc, fault),
             Refusal::Rows(fault) => rows_line(alloc, fault),
             Refusal::Config(fault) => config_line(alloc, fault),
-            Refusal::Plan(PlanFault::Shape) => plain(alloc, 66, b"Shape"),
+            Refusal::Plan(PlanFault::Shape) => without_fields(alloc, 66, b"Shape"),
             Refusal::Kit(fault) => kit_line(alloc, fault),
             Refusal::Part(fault) => part_line(alloc, fault),
             Refusal::RuleBroken { layers, violation } => {
                 broken_line(alloc, layers.as_slice(), *violation)
             }
             Refusal::NetsDiffer(difference) => differs_line(alloc, difference),
-            Refusal::NotRom { key } => named(alloc, 113, b"NotRom", key),
+            Refusal::NotRom { key } => with_name(alloc, 113, b"NotRom", key),
             Refusal::Rom(fault) => rom_line(alloc, *fault),
-            Refusal::NoDevices => plain(alloc, 103, b"NoDevices"),
-            Refusal::Nested { role } => named(alloc, 102, b"Nested", role),
+            Refusal::NoDevices => without_fields(alloc, 103, b"NoDevices"),
+            Refusal::Nested { role } => with_name(alloc, 102, b"Nested", role),
             Refusal::BadDevice { role, line } => bad_device_line(alloc, role, *line),
-            Refusal::Memory => plain(alloc, 94, b"Memory"),
+            Refusal::Memory => without_fields(alloc, 94, b"Memory"),
         }
     }
 }

@@ -1,7 +1,7 @@
 use Rattle.std.proofs.Common.{arith}
 use Rattle.std.proofs.lemmas.Int.{ints}
 use Rattle.reply_lines.proofs.WordLaws.{pointed_line}
-use Rattle.reply_lines.proofs.heading.pointed.Goals as goal
+use Rattle.reply_lines.proofs.heading.with_point.Goals as goal
 
 pub returns : goal.returns
 returns c =
