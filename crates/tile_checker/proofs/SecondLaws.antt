@@ -17,7 +17,7 @@ use Rattle.shape_bins.specs.Hits.{IsNearShape}
 use Rattle.shape_bins.specs.Meets.{Meet}
 use Rattle.tile_checker.specs.declared.seconds.Second.{Second}
 use Rattle.tile_checker.specs.Firsts.{ArePlaces}
-use Rattle.tile_checker.specs.Seconds.{IsSecondAt, IsSecond, AreSeconds, AreSecondsOver, IsPlaceOf}
+use Rattle.tile_checker.specs.Seconds.{IsSecondAt, IsSecond, AreSeconds, AreSecondsOver, MeetsAt}
 use Rattle.tile_checker.proofs.PlaceLaws.{adds_all}
 
 -- what was added to a list that had been emptied, as it is read
@@ -82,11 +82,11 @@ meets_more r asked area h m = record {
 }
 
 -- of those, the ones that meet an area which the other holds
-pub seconds_answer : (shapes : List Shape) (layer : ℕ) (area : Rect) (seconds : List Second) (old new : List ℕ) → AreSecondsOver shapes layer area seconds → Adds old new (SomeGives (IsPlaceOf area) seconds) → Adds old new (IsNearShape shapes layer area)
+pub seconds_answer : (shapes : List Shape) (layer : ℕ) (area : Rect) (seconds : List Second) (old new : List ℕ) → AreSecondsOver shapes layer area seconds → Adds old new (SomeGives (MeetsAt area) seconds) → Adds old new (IsNearShape shapes layer area)
 seconds_answer shapes layer area seconds old new over adds =
-    adds_as old new (SomeGives (IsPlaceOf area) seconds) (IsNearShape shapes layer area)
+    adds_as old new (SomeGives (MeetsAt area) seconds) (IsNearShape shapes layer area)
     (λ place g.
-    let r = giver (IsPlaceOf area) seconds place g in
+    let r = giver (MeetsAt area) seconds place g in
     let s = (over.are r.0).0 r.1 in
     record {
       shape = s.shape;
@@ -94,7 +94,7 @@ seconds_answer shapes layer area seconds old new over adds =
       on = s.on;
       fits = subst (λ (b : Rect). Meet b area) s.is r.2.meets;
     })
-    (λ place hit. gives_some (IsPlaceOf area) seconds place (record { place = place; rect = hit.shape.rect })
+    (λ place hit. gives_some (MeetsAt area) seconds place (record { place = place; rect = hit.shape.rect })
     ((over.are (record { place = place; rect = hit.shape.rect })).1
     (record { shape = hit.shape; there = hit.there; on = hit.on; is = refl; meets = meets_more hit.shape.rect over.asked area over.holds hit.fits }))
     (record { is = refl; meets = hit.fits }))

@@ -36,6 +36,6 @@ pub record AreTrueSeconds (shapes : List Shape) (kept : Seconds) : Type 0 where
   pub listed : IfSome kept.list (λ seconds. AreSeconds shapes kept.layer kept.asked seconds.items)
 
 -- the place of one that meets the area
-pub record IsPlaceOf (area : Rect) (second : Second) (place : ℕ) : Type 0 where
+pub record MeetsAt (area : Rect) (second : Second) (place : ℕ) : Type 0 where
   pub is : place ≡ second.place
   pub meets : Meet second.rect area

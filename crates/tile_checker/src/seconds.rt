@@ -4,7 +4,7 @@ ghost use Rattle.or_geom.specs.Gathering.{SomeGives};
 ghost use Rattle.shape_bins.specs.Hits.{IsNearShape};
 ghost use Rattle.shape_bins.specs.Meets.{Meet};
 ghost use Rattle.tile_checker.specs.Firsts.{ArePlaces};
-ghost use Rattle.tile_checker.specs.Seconds.{IsSecondAt, AreSeconds, AreSecondsOver, AreTrueSeconds, IsPlaceOf};
+ghost use Rattle.tile_checker.specs.Seconds.{IsSecondAt, AreSeconds, AreSecondsOver, AreTrueSeconds, MeetsAt};
 ghost use Rattle.tile_checker.specs.Seen.{AreTrueNotes};
 
 use crate::first::shape_at;
@@ -142,7 +142,7 @@ fn kept_over<'n>(
 
 /// Adds the places of those that meet the area.
 fn add_places(seconds: &[Second], area: Rect, near: &mut Vec<usize>) -> Result<(), Memory>
-    ensures { OnOk result (Adds near.old.items near.new.items (SomeGives (IsPlaceOf area) seconds.now)) }
+    ensures { OnOk result (Adds near.old.items near.new.items (SomeGives (MeetsAt area) seconds.now)) }
 {
     for second in seconds {
         if !meet(second.rect, area) {
