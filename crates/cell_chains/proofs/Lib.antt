@@ -7,3 +7,4 @@ pub mod ChainLaws
 pub mod FaultLaws
 pub mod CellLaws
 pub mod DepthLaws
+pub mod OrderedLaws

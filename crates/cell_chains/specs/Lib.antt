@@ -3,3 +3,4 @@ pub mod Chains
 pub mod Hierarchy
 pub mod Numbering
 pub mod Listing
+pub mod Ordered

@@ -1,5 +1,9 @@
 -- What is gathered grows step by step.
-use Rattle.std.proofs.Common.{◌⊎◌, inl, inr, ℕ, ◌+◌, ◌≤◌, arith}
+use Rattle.std.proofs.Common.{◌≡◌, ◌⊎◌, inl, inr, ℕ, ◌+◌, ◌<◌, ◌≤◌, List, length, get_or, Some, refl, sym, subst, ◌∙◌, arith}
+use Rattle.std.specs.Prelude.{slice_get}
+use Rattle.std.proofs.lemmas.Option.{same_Some, slice_get_read}
+use Rattle.or_geom.proofs.ListLaws.{contained_at}
+use Rattle.cell_chains.specs.Ordered.{AreAllBelow}
 use Rattle.cell_hierarchy.specs.Below.{SomeBelow}
 use Rattle.cell_hierarchy.specs.Things.{Thing, GatheredGrows}
 use Rattle.cell_hierarchy.specs.declared.gathered.Gathered.{Gathered}
@@ -31,6 +35,27 @@ grows_begin gathered P = grows_none gathered (SomeBelow P 0) (λ x b. let lt = b
 pub grows_on : (P : ℕ → Thing → Type 0) (n : ℕ) (old now next : Gathered) → GatheredGrows old now (SomeBelow P n) → GatheredGrows now next (P n) → GatheredGrows old next (SomeBelow P (n + 1))
 grows_on P n old now next f g = grows_as old next (λ x. SomeBelow P n x ⊎ P n x) (SomeBelow P (n + 1)) (step_to P n) (step_from P n) (grows_both old now next (SomeBelow P n) (P n) f g)
 
-pub grows_end : (P : ℕ → Thing → Type 0) (n m : ℕ) (old new : Gathered) → n ≤ m → m ≤ n → GatheredGrows old new (SomeBelow P n) → GatheredGrows old new (SomeBelow P m)
-grows_end P n m old new le ge f =
-    grows_as old new (SomeBelow P n) (SomeBelow P m) (λ x b. record { index = b.index; below = omega (arith, b.below); has = b.has }) (λ x b. record { index = b.index; below = omega (arith, b.below); has = b.has }) f
+-- P of the number to which the index i of the list leads
+pub record AtListed (P : ℕ → Thing → Type 0) (list : List ℕ) (i : ℕ) (x : Thing) : Type 0 where
+  pub n : ℕ
+  pub is : slice_get list i ≡ Some n
+  pub has : P n x
+
+pub listed_below : (count : ℕ) (list : List ℕ) (i n : ℕ) → i < length list → n ≡ get_or list i n → AreAllBelow count list → n < count
+listed_below count list i n lt read all = (all n).0 (i, lt, sym read)
+
+pub grows_listed : (P : ℕ → Thing → Type 0) (list : List ℕ) (i n : ℕ) (old now next : Gathered) → i < length list → n ≡ get_or list i n → GatheredGrows old now (SomeBelow (AtListed P list) i) → GatheredGrows now next (P n)
+    → GatheredGrows old next (SomeBelow (AtListed P list) (i + 1))
+grows_listed P list i n old now next lt read f g =
+    let at = slice_get_read list _ i n refl lt read in
+    grows_on (AtListed P list) i old now next f
+    (grows_as now next (P n) (AtListed P list i) (λ x h. record { n = n; is = at; has = h }) (λ x h. subst (λ (m : ℕ). P m x) (same_Some h.n n (sym h.is ∙ at)) h.has) g)
+
+pub grows_all : (P : ℕ → Thing → Type 0) (list : List ℕ) (count i : ℕ) (old new : Gathered) → length list ≤ i → AreAllBelow count list → GatheredGrows old new (SomeBelow (AtListed P list) i) → GatheredGrows old new (SomeBelow P count)
+grows_all P list count i old new over all f =
+    grows_as old new (SomeBelow (AtListed P list) i) (SomeBelow P count)
+    (λ x b. record { index = b.has.n; below = (all b.has.n).0 (contained_at list b.index b.has.n b.has.is); has = b.has.has })
+    (λ x b.
+    let h = (all b.index).1 b.below in
+    let lt = h.1 in
+    record { index = h.0; below = omega (arith, lt, over); has = record { n = b.index; is = slice_get_read list _ h.0 b.index refl lt (sym h.2); has = b.has } }) f

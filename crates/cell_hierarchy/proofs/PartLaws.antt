@@ -3,6 +3,8 @@ use Rattle.std.proofs.Common.{◌≡◌, inl, inr, ℕ, ◌+◌, ◌^◌, ◌<�
 use Rattle.std.specs.Prelude.{Contains, slice_get, slice_index, IsTrue, not}
 use Rattle.std.specs.Str.{IsAscii}
 use Rattle.std.specs.List.{AllByRecursion}
+use Rattle.std.specs.List.Sorted.{IsPermutation}
+use Rattle.std.proofs.lemmas.List.Sorted.{All-permutation, Contains-permutation, IsPermutation-sym}
 use Rattle.std.proofs.lemmas.Option.{same_Some, slice_get_within, slice_get_read}
 use Rattle.std.proofs.lemmas.Bool.{ltb-true, ltb-false}
 use Rattle.or_geom.specs.declared.shape.Point.{Point}
@@ -10,7 +12,7 @@ use Rattle.or_geom.specs.declared.shape.Shape.{Shape}
 use Rattle.or_geom.specs.Place.{IsNearPoint, low_corner, high_corner}
 use Rattle.or_geom.specs.Reachable.{AreReachable}
 use Rattle.or_geom.proofs.ListLaws.{contains_none, contains_cases, contains_here, contains_map, below_or}
-use Rattle.std.proofs.lemmas.List.Elements.{Contains-append_left, Contains-append_right, Contains-append_cases}
+use Rattle.std.proofs.lemmas.List.Elements.{All-from_recursion, recursion_from_All, Contains-append_left, Contains-append_right, Contains-append_cases}
 use Rattle.gds_library.specs.declared.library.Element.{Element}
 use Rattle.gds_library.specs.declared.library.Element.TheVariants.{Boundary, Path, Sref, Aref, Text}
 use Rattle.gds_library.specs.declared.library.Structure.{Structure}
@@ -92,12 +94,16 @@ kept_all : (P : PlainLabel → Type 0) (kept : Bool) (ls : List PlainLabel) → 
 kept_all P true ls all = all
 kept_all P false ls all = tt
 
+-- what holds of each holds of each in another order
+all_moved : {X : Type 0} (P : X → Type 0) (xs ys : List X) → IsPermutation xs ys → AllByRecursion P xs → AllByRecursion P ys
+all_moved P xs ys moved all = recursion_from_All P ys (All-permutation P xs ys moved (All-from_recursion P xs all))
+
 -- a drawing that was made of the elements' shapes and labels
 pub made_drawing : (layers : List Layer) (kept : Bool) (es : List Element) (drawing : OwnDrawing) (texts : List ElementLabel) → AreOwnShapes layers es drawing.shapes.items → AllByRecursion (IsShapeWithin (2 ^ 32)) drawing.shapes.items
-    → map pathless texts ≡ own_labels layers es → AllByRecursion (IsLabelWithin (2 ^ 32)) (map pathless texts) → map plain_label drawing.labels.items ≡ kept_labels kept (map pathless texts)
+    → map pathless texts ≡ own_labels layers es → AllByRecursion (IsLabelWithin (2 ^ 32)) (map pathless texts) → IsPermutation (kept_labels kept (map pathless texts)) (map plain_label drawing.labels.items)
     → drawing.points.items ≡ map (λ (text : ElementLabel). text.at) texts → IsDrawingOf layers kept es drawing
 made_drawing layers kept es drawing texts shapes shapes_near are near labels points =
-    let whole : map plain_label drawing.labels.items ≡ kept_labels kept (own_labels layers es) = labels ∙ ap (kept_labels kept) are in
+    let whole = subst (λ (ls : List PlainLabel). IsPermutation (kept_labels kept ls) (map plain_label drawing.labels.items)) are labels in
     let near_all = near_labels (map pathless texts) near in
     record {
       shapes = shapes;
@@ -106,9 +112,9 @@ made_drawing layers kept es drawing texts shapes shapes_near are near labels poi
       near = record {
         shapes = near_shapes drawing.shapes.items shapes_near;
         labels = all_map (λ (l : PlainLabel). IsNearPoint l.at) plain_label drawing.labels.items
-            (subst (AllByRecursion (λ (l : PlainLabel). IsNearPoint l.at)) (sym labels) (kept_all (λ (l : PlainLabel). IsNearPoint l.at) kept (map pathless texts) near_all));
+            (all_moved (λ (l : PlainLabel). IsNearPoint l.at) _ _ labels (kept_all (λ (l : PlainLabel). IsNearPoint l.at) kept (map pathless texts) near_all));
         bare = all_map (λ (l : PlainLabel). l.path ≡ []) plain_label drawing.labels.items
-            (subst (AllByRecursion (λ (l : PlainLabel). l.path ≡ [])) (sym whole) (kept_all (λ (l : PlainLabel). l.path ≡ []) kept (own_labels layers es) (own_bare layers es)));
+            (all_moved (λ (l : PlainLabel). l.path ≡ []) _ _ whole (kept_all (λ (l : PlainLabel). l.path ≡ []) kept (own_labels layers es) (own_bare layers es)));
         points = subst (AllByRecursion IsNearPoint) (sym points) (map_all IsNearPoint (λ (text : ElementLabel). text.at) texts (all_map (λ (l : PlainLabel). IsNearPoint l.at) pathless texts near_all));
       };
     }
@@ -120,14 +126,14 @@ kept_contains false labels l = (λ h. absurd (contains_none l h), λ h. absurd (
 
 own_there : (layers : List Layer) (kept : Bool) (es : List Element) (drawing : OwnDrawing) (x : Thing) → IsDrawingOf layers kept es drawing → DrawsThing drawing x → IsOwnThing layers kept es x
 own_there layers kept es drawing (AShape s) d h = record { shapes = drawing.shapes.items; drawn = d.shapes; among = h }
-own_there layers kept es drawing (ALabel l) d h = (kept_contains kept (own_labels layers es) l).0 (subst (λ (ls : List PlainLabel). Contains ls l) d.labels h)
+own_there layers kept es drawing (ALabel l) d h = (kept_contains kept (own_labels layers es) l).0 (Contains-permutation _ _ l (IsPermutation-sym _ _ d.labels) h)
 own_there layers kept es drawing (APoint p) d h =
     let i = image_from (λ (label : PlainLabel). label.at) (own_labels layers es) p (subst (λ (ps : List Point). Contains ps p) d.points h) in
     record { text = i.item; among = i.stands; is = i.is }
 
 own_back : (layers : List Layer) (kept : Bool) (es : List Element) (drawing : OwnDrawing) (x : Thing) → AllByRecursion IsWritableElement es → IsDrawingOf layers kept es drawing → IsOwnThing layers kept es x → DrawsThing drawing x
 own_back layers kept es drawing (AShape s) w d h = one_set layers es h.shapes drawing.shapes.items w h.drawn d.shapes s h.among
-own_back layers kept es drawing (ALabel l) w d h = subst (λ (ls : List PlainLabel). Contains ls l) (sym d.labels) ((kept_contains kept (own_labels layers es) l).1 h)
+own_back layers kept es drawing (ALabel l) w d h = Contains-permutation _ _ l d.labels ((kept_contains kept (own_labels layers es) l).1 h)
 own_back layers kept es drawing (APoint p) w d h =
     subst (λ (ps : List Point). Contains ps p) (sym d.points)
     (subst (λ (q : Point). Contains (map (λ (label : PlainLabel). label.at) (own_labels layers es)) q) h.is (contains_map (λ (label : PlainLabel). label.at) (own_labels layers es) h.text h.among))
@@ -266,4 +272,11 @@ live_skip elements targets parts n live d b lt read off both l = record {
         let yes : b ≡ true = both.1 there in
         absurd (let none : false ≡ true = sym off ∙ yes in cc)
   ];
+}
+
+-- and so do those that stand in another order
+pub live_moved : (elements : List Element) (targets : List ℕ) (parts : List CellPart) (live moved : List ℕ) → IsPermutation live moved → IsLiveOf elements targets parts live → IsLiveOf elements targets parts moved
+live_moved elements targets parts live moved p l = record {
+  inside = λ n h. l.inside n (Contains-permutation moved live n (IsPermutation-sym live moved p) h);
+  all = λ n e at leads. Contains-permutation live moved n p (l.all n e at leads);
 }

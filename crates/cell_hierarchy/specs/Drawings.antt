@@ -1,6 +1,7 @@
 -- What cells draw themselves, and which of their references lead to something that is drawn.
 use Rattle.std.specs.Prelude.{◌≡◌, ℕ, ◌<◌, Bool, true, false, List, [], Contains, Some, slice_get, slice_index, length, map}
 use Rattle.std.specs.List.{AllByRecursion}
+use Rattle.std.specs.List.Sorted.{IsPermutation}
 use Rattle.or_geom.specs.Place.{IsNearPoint}
 use Rattle.or_geom.specs.Reachable.{AreReachable}
 use Rattle.gds_library.specs.declared.library.Element.{Element}
@@ -34,7 +35,7 @@ kept_labels false labels = []
 -- what the elements draw themselves
 pub record IsDrawingOf (layers : List Layer) (kept : Bool) (elements : List Element) (drawing : OwnDrawing) : Type 0 where
   pub shapes : AreOwnShapes layers elements drawing.shapes.items
-  pub labels : map plain_label drawing.labels.items ≡ kept_labels kept (own_labels layers elements)
+  pub labels : IsPermutation (kept_labels kept (own_labels layers elements)) (map plain_label drawing.labels.items)
   pub points : drawing.points.items ≡ map (λ (label : PlainLabel). label.at) (own_labels layers elements)
   pub near : IsOwnDrawing drawing
 

@@ -1,6 +1,7 @@
 ghost use Rattle.std.specs.Prelude.{◌≡◌, ◌<◌, ◌≤◌, ◌^◌, ◌↔◌, IsTrue, map, length, slice_get, Some, IfOk};
 ghost use Rattle.std.specs.Str.{IsAscii};
 ghost use Rattle.std.specs.List.{AllByRecursion};
+ghost use Rattle.std.specs.List.Sorted.{IsPermutation};
 ghost use Rattle.gds_library.specs.declared.library.Structure.{Structure};
 ghost use Rattle.gds_library.specs.Writable.{IsWritableElement, IsWritableCell};
 ghost use Rattle.element_drawing.specs.ElementLabels.{pathless};
@@ -12,7 +13,7 @@ use crate::arena::text_in;
 use crate::drawing::OwnDrawing;
 use crate::flat::Label;
 use bumpalo::Bump;
-use cell_chains::Cell;
+use cell_chains::{Cell, by_name};
 use element_drawing::{ElementLabel, own_labels, own_shapes};
 use gds_library::{Element, Structure};
 use or_geom::{Memory, Point};
@@ -48,6 +49,20 @@ fn labels_in<'b>(
     Ok(labels)
 }
 
+/// The labels in their order: then those that are gathered of all cells are mostly in order before they are sorted.
+fn sorted_labels_in<'b>(
+    alloc: Global,
+    bump: &'b Bump,
+    texts: &[ElementLabel],
+) -> Result<Vec<Label<'b>>, Memory>
+    requires { AllByRecursion (λ text. IsAscii text.name.now) texts.now }
+    ensures { IfOk result (λ labels. IsPermutation (map pathless texts.now) (map plain_label labels.items)) }
+{
+    let mut labels = labels_in(alloc, bump, texts)?;
+    labels.sort_unstable();
+    Ok(labels)
+}
+
 /// The points of the labels.
 fn points_of(alloc: Global, texts: &[ElementLabel]) -> Result<Vec<Point>, Memory>
     ensures { IfOk result (λ points. points.items ≡ map (λ text. text.at) texts.now) }
@@ -74,7 +89,7 @@ fn drawing_of<'b>(
     let shapes = own_shapes(alloc, layers, elements)?;
     let texts = own_labels(alloc, layers, elements)?;
     let labels = if keeps_labels {
-        labels_in(alloc, bump, &texts)?
+        sorted_labels_in(alloc, bump, &texts)?
     } else {
         Vec::new(alloc)
     };
@@ -137,6 +152,25 @@ fn live_references(
     Ok(live)
 }
 
+/// The same elements, where labels are kept in the order of the instances' names: see `sorted_labels_in`.
+fn ordered_references(
+    alloc: Global,
+    elements: &[Element],
+    _targets: &[usize],
+    _parts: &[CellPart],
+    live: Vec<usize>,
+    keeps_labels: bool,
+) -> Result<Vec<usize>, Memory>
+    requires { IsLiveOf elements.now _targets.now _parts.now live.items }
+    ensures { IfOk result (λ ordered. IsLiveOf elements.now _targets.now _parts.now ordered.items) }
+{
+    if !keeps_labels {
+        return Ok(live);
+    }
+    let ordered = by_name(alloc, elements, &live)?;
+    Ok(ordered)
+}
+
 /// The part of a cell, over those of the cells below it.
 fn part_of<'b>(
     alloc: Global,
@@ -156,7 +190,9 @@ fn part_of<'b>(
 {
     let elements = structs[cell.structure].elements.as_slice();
     let own = drawing_of(alloc, bump, layers, elements, keeps_labels)?;
-    let live = live_references(alloc, elements, cell.targets.as_slice(), below)?;
+    let targets = cell.targets.as_slice();
+    let live = live_references(alloc, elements, targets, below)?;
+    let live = ordered_references(alloc, elements, targets, below, live, keeps_labels)?;
     Ok(CellPart { own, live })
 }
 

@@ -1,5 +1,6 @@
 ghost use Rattle.std.specs.Prelude.{◌≡◌, length};
 ghost use Rattle.std.specs.List.Sorted.{IsPermutation, IsSorted};
+ghost use Rattle.std.specs.Ordering.{nat_cmp};
 ghost use Rattle.or_geom.specs.ShapeOrder.{shape_order};
 ghost use Rattle.cell_hierarchy.specs.LabelLaws.{flat_label_order};
 
@@ -30,7 +31,8 @@ pub trait Sorter {
     fn sort_numbers(&self, numbers: &mut [u64])
         requires { ready self.now }
         ensures permutation { IsPermutation numbers.old numbers.new }
-        ensures len { length numbers.new ≡ length numbers.old };
+        ensures len { length numbers.new ≡ length numbers.old }
+        ensures sorted { IsSorted nat_cmp numbers.new };
 }
 
 /// The thread that calls sorts.

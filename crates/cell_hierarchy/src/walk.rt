@@ -12,6 +12,7 @@ use crate::own::add_own;
 use crate::placement::{Placement, item_below, reference_below};
 use crate::tree::Tree;
 use bumpalo::Bump;
+use cell_chains::numbers_below;
 use gds_library::Element;
 use or_geom::Memory;
 use std::alloc::Global;
@@ -110,7 +111,8 @@ fn add_element<'b>(
     }
 }
 
-/// Adds what the items of an array take over, where its cell stands there.
+/// Adds what the items of an array take over, where its cell stands there. Where labels are kept the columns come in the
+/// order of the items' names, and so do the rows of each: labels are then mostly in order before they are sorted.
 #[cycle(walk)]
 fn add_array<'b>(
     alloc: Global,
@@ -127,8 +129,9 @@ fn add_array<'b>(
         → GatheredGrows out.old out.new (SomeBelow
         (λ column. SomeBelow (IsOfArrayItem tree.now at.now array name column) array.grid.rows) array.grid.columns)) }
 {
-    for column in 0..array.grid.columns {
-        add_column(alloc, bump, tree, array, column, at, out)?;
+    let columns = numbers_below(alloc, array.grid.columns, tree.keeps_labels)?;
+    for i in 0..columns.len() {
+        add_column(alloc, bump, tree, array, columns[i], at, out)?;
     }
     Ok(())
 }
@@ -151,8 +154,13 @@ fn add_column<'b>(
     ensures { OnOk result ((name : List ℕ) → IsCellOf tree.now.structs.now tree.now.cells.now array.target name
         → GatheredGrows out.old out.new (SomeBelow (IsOfArrayItem tree.now at.now array name column) array.grid.rows)) }
 {
-    for row in 0..array.grid.rows {
-        add_item(alloc, bump, tree, array, Spot { column, row }, at, out)?;
+    let rows = numbers_below(alloc, array.grid.rows, tree.keeps_labels)?;
+    for i in 0..rows.len() {
+        let spot = Spot {
+            column,
+            row: rows[i],
+        };
+        add_item(alloc, bump, tree, array, spot, at, out)?;
     }
     Ok(())
 }

@@ -10,7 +10,7 @@ use Rattle.cell_hierarchy.specs.Below.{SomeBelow}
 use Rattle.cell_hierarchy.specs.Parts.{IsOfArrayItem}
 use Rattle.cell_hierarchy.specs.Placed.{IsPlacedBelow}
 use Rattle.cell_hierarchy.proofs.BelowLaws.{whole_abs}
-use Rattle.cell_hierarchy.proofs.GrowsLaws.{grows_on, grows_end}
+use Rattle.cell_hierarchy.proofs.GrowsLaws.{listed_below, grows_listed, grows_all}
 use Rattle.cell_hierarchy.proofs.NearLaws.{short_within, short_near}
 use Rattle.cell_hierarchy.proofs.StepLaws.{near_in}
 use Rattle.cell_hierarchy.proofs.WalkLaws.{walked_read, live_at, so_far_begin, so_far_on, cell_done, item_placed}
@@ -112,17 +112,60 @@ add_element-returns-in-Boundary t c =
       ]
     ]
 
-pub add_array-loop-column-preserved : goal.add_array-loop-column-preserved
-add_array-loop-column-preserved t c = λ name named. grows_on (λ column. SomeBelow (IsOfArrayItem c.args.tree.now c.args.at.now c.args.array name column) c.args.array.grid.rows) _ _ _ _ (c.loop-column.invariant name named) (c.in_ok-add_column.ensures name named)
+pub add_array-add_column-requires : goal.add_array-add_column-requires
+add_array-add_column-requires t c =
+    let len = c.len-i-end.ensures in
+    let below = c.loop-i-test.true in
+    let lt : c.loop-i.i < length c.in_ok-columns.columns.items = omega (arith, len, below) in (
+      omega (arith, c.decreases),
+      (c.requires.tree, (c.requires.at, (c.requires.writable, listed_below c.args.array.grid.columns c.in_ok-columns.columns.items c.loop-i.i c.index.result.now lt c.index.ensures c.in_ok-columns.ensures))),
+    )
+
+pub add_array-loop-i-preserved : goal.add_array-loop-i-preserved
+add_array-loop-i-preserved t c =
+    let len = c.len-i-end.ensures in
+    let below = c.loop-i-test.true in
+    let lt : c.loop-i.i < length c.in_ok-columns.columns.items = omega (arith, len, below) in
+    λ name named. grows_listed (λ column. SomeBelow (IsOfArrayItem c.args.tree.now c.args.at.now c.args.array name column) c.args.array.grid.rows) c.in_ok-columns.columns.items c.loop-i.i c.index.result.now _ _ _ lt c.index.ensures
+    (c.loop-i.invariant name named) (c.in_ok-add_column.ensures name named)
 
 pub add_array-returns : goal.add_array-returns
-add_array-returns t c = λ name named. grows_end (λ column. SomeBelow (IsOfArrayItem c.args.tree.now c.args.at.now c.args.array name column) c.args.array.grid.rows) _ _ _ _ c.loop-column.auto.column-end c.loop-column-test.false (c.loop-column.invariant name named)
+add_array-returns t c =
+    let len = c.len-i-end.ensures in
+    let over = c.loop-i-test.false in
+    let le : length c.in_ok-columns.columns.items ≤ c.loop-i.i = omega (arith, len, over) in
+    λ name named. grows_all (λ column. SomeBelow (IsOfArrayItem c.args.tree.now c.args.at.now c.args.array name column) c.args.array.grid.rows) c.in_ok-columns.columns.items c.args.array.grid.columns c.loop-i.i _ _ le c.in_ok-columns.ensures
+    (c.loop-i.invariant name named)
 
-pub add_column-loop-row-preserved : goal.add_column-loop-row-preserved
-add_column-loop-row-preserved t c = λ name named. grows_on (IsOfArrayItem c.args.tree.now c.args.at.now c.args.array name c.args.column) _ _ _ _ (c.loop-row.invariant name named) (c.in_ok-add_item.ensures name named)
+pub add_column-add_item-requires : goal.add_column-add_item-requires
+add_column-add_item-requires t c =
+    let len = c.len-i-end.ensures in
+    let below = c.loop-i-test.true in
+    let lt : c.loop-i.i < length c.in_ok-rows.rows.items = omega (arith, len, below) in (
+      omega (arith, c.decreases),
+      (
+        c.requires.tree,
+        (
+          c.requires.at,
+          (c.requires.writable, record { in_columns = c.requires.in_grid; in_rows = listed_below c.args.array.grid.rows c.in_ok-rows.rows.items c.loop-i.i c.index.result.now lt c.index.ensures c.in_ok-rows.ensures }),
+        ),
+      ),
+    )
+
+pub add_column-loop-i-preserved : goal.add_column-loop-i-preserved
+add_column-loop-i-preserved t c =
+    let len = c.len-i-end.ensures in
+    let below = c.loop-i-test.true in
+    let lt : c.loop-i.i < length c.in_ok-rows.rows.items = omega (arith, len, below) in
+    λ name named. grows_listed (IsOfArrayItem c.args.tree.now c.args.at.now c.args.array name c.args.column) c.in_ok-rows.rows.items c.loop-i.i c.index.result.now _ _ _ lt c.index.ensures (c.loop-i.invariant name named)
+    (c.in_ok-add_item.ensures name named)
 
 pub add_column-returns : goal.add_column-returns
-add_column-returns t c = λ name named. grows_end (IsOfArrayItem c.args.tree.now c.args.at.now c.args.array name c.args.column) _ _ _ _ c.loop-row.auto.row-end c.loop-row-test.false (c.loop-row.invariant name named)
+add_column-returns t c =
+    let len = c.len-i-end.ensures in
+    let over = c.loop-i-test.false in
+    let le : length c.in_ok-rows.rows.items ≤ c.loop-i.i = omega (arith, len, over) in
+    λ name named. grows_all (IsOfArrayItem c.args.tree.now c.args.at.now c.args.array name c.args.column) c.in_ok-rows.rows.items c.args.array.grid.rows c.loop-i.i _ _ le c.in_ok-rows.ensures (c.loop-i.invariant name named)
 
 pub add_item-add_cell-requires : goal.add_item-add_cell-requires
 add_item-add_cell-requires t c = (

@@ -3,6 +3,7 @@ use Rattle.cell_chains.specs.Hierarchy.{IsCellOf}
 use Rattle.cell_hierarchy.specs.Below.{SomeBelow}
 use Rattle.cell_hierarchy.specs.Parts.{IsOfArrayItem}
 use Rattle.cell_hierarchy.specs.Things.{GatheredGrows}
+use Rattle.cell_hierarchy.proofs.GrowsLaws.{AtListed}
 use Rattle.cell_hierarchy.proofs.WalkLaws.{CellSoFar}
 use Rattle.cell_hierarchy.proofs.walk.+walk.Given as goal
 
@@ -24,10 +25,10 @@ decreases-add_item l = 5 * l.array.target + 2
 abbrev pub invariant-add_cell-loop-i : goal.invariant-add_cell-loop-i
 invariant-add_cell-loop-i l = GatheredGrows l.fn.out l.out (CellSoFar l.tree l.fn.index l.at l.part l.i)
 
-abbrev pub invariant-add_array-loop-column : goal.invariant-add_array-loop-column
-invariant-add_array-loop-column l =
-    (name : List ℕ) → IsCellOf l.tree.structs.now l.tree.cells.now l.fn.array.target name → GatheredGrows l.fn.out l.out (SomeBelow (λ column. SomeBelow (IsOfArrayItem l.tree l.at l.fn.array name column) l.fn.array.grid.rows) l.column)
+abbrev pub invariant-add_array-loop-i : goal.invariant-add_array-loop-i
+invariant-add_array-loop-i l =
+    (name : List ℕ) → IsCellOf l.tree.structs.now l.tree.cells.now l.fn.array.target name → GatheredGrows l.fn.out l.out (SomeBelow (AtListed (λ column. SomeBelow (IsOfArrayItem l.tree l.at l.fn.array name column) l.fn.array.grid.rows) l.columns.items) l.i)
 
-abbrev pub invariant-add_column-loop-row : goal.invariant-add_column-loop-row
-invariant-add_column-loop-row l =
-    (name : List ℕ) → IsCellOf l.tree.structs.now l.tree.cells.now l.fn.array.target name → GatheredGrows l.fn.out l.out (SomeBelow (IsOfArrayItem l.tree l.at l.fn.array name l.fn.column) l.row)
+abbrev pub invariant-add_column-loop-i : goal.invariant-add_column-loop-i
+invariant-add_column-loop-i l =
+    (name : List ℕ) → IsCellOf l.tree.structs.now l.tree.cells.now l.fn.array.target name → GatheredGrows l.fn.out l.out (SomeBelow (AtListed (IsOfArrayItem l.tree l.at l.fn.array name l.fn.column) l.rows.items) l.i)
