@@ -19,6 +19,7 @@ use Rattle.tech_rules.proofs.LinkedLaws.{linked_end, linked_itself, linked_map}
 use Rattle.element_drawing.specs.PlainLabel.{PlainLabel}
 use Rattle.cell_hierarchy.specs.FlatLists.{point_order}
 use Rattle.label_binding.specs.Binding.{Binds}
+use Rattle.label_binding.specs.BoundPlaces.{label_anchor}
 use Rattle.label_binding.specs.LowerCase.{in_lower_case}
 use Rattle.drawn_devices.specs.declared.drawn.DeviceChannel.{DeviceChannel}
 use Rattle.drawn_devices.specs.declared.drawn.Flow.{Flow}
@@ -29,7 +30,6 @@ use Rattle.drawn_devices.specs.Cells.{ShareSide}
 use Rattle.drawn_devices.specs.Channels.{IsChannelCell, ChannelOf, IsLeastCell}
 use Rattle.drawn_devices.specs.Diffusion.{IsActive, IsDiffusion}
 use Rattle.drawn_devices.specs.Drawn.{AreNetNumbers, IsNumberAlong, TerminalsAre, IsListedChannel, IsNetName}
-use Rattle.drawn_devices.specs.Names.{label_anchor}
 use Rattle.drawn_devices.specs.Nets.{Member, Drawn, Diffused, IsMember, MembersTouch}
 use Rattle.drawn_devices.specs.Sides.{IsOpen, first_side, second_side}
 use Rattle.drawn_devices.specs.Sound.{IsGateOf, IsSoundChannel}

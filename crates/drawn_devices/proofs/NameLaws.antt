@@ -28,7 +28,7 @@ use Rattle.drawn_devices.specs.CutCell.{IsCutCell}
 use Rattle.drawn_devices.specs.CutShapes.{AreCutShapes}
 use Rattle.drawn_devices.specs.Diffusion.{IsActive}
 use Rattle.drawn_devices.specs.Drawn.{GivesName, IsNetName}
-use Rattle.drawn_devices.specs.Names.{label_anchor}
+use Rattle.label_binding.specs.BoundPlaces.{label_anchor}
 use Rattle.drawn_devices.specs.Nets.{Member, Drawn, IsMember}
 use Rattle.drawn_devices.specs.Numbers.{AreNumbersIn}
 

@@ -3,14 +3,10 @@ use Rattle.std.specs.Prelude.{◌≡◌, ℕ, List, [], Contains}
 use Rattle.or_geom.specs.declared.shape.Shape.{Shape}
 use Rattle.element_drawing.specs.PlainLabel.{PlainLabel}
 use Rattle.tech_rules.specs.declared.tech.Tech.{Tech}
-use Rattle.label_binding.specs.declared.anchor.Anchor.{Anchor}
 use Rattle.label_binding.specs.Binding.{Binds}
+use Rattle.label_binding.specs.BoundPlaces.{label_anchor}
 use Rattle.label_binding.specs.LowerCase.{in_lower_case}
 use Rattle.drawn_devices.specs.Diffusion.{IsActive}
-
--- where a label stands
-abbrev pub label_anchor : PlainLabel → Anchor
-label_anchor label = record { layer = label.layer; at = label.at }
 
 -- A label of the cell itself, on other than an active layer, binds this shape: in lower case, its name is one of the shape's
 -- net.

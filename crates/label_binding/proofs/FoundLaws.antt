@@ -1,14 +1,19 @@
 -- Labels that are looked up one after another, in any order.
-use Rattle.std.proofs.Common.{◌≡◌, inl, inr, ℕ, ◌+◌, ◌<◌, ◌≤◌, List, [], length, get_or, set, sym, ap, subst, ◌∙◌, arith, get_or-set_same, get_or-set_other}
-use Rattle.std.specs.Prelude.{Option, Some, Contains, slice_get}
+use Rattle.std.proofs.Common.{◌≡◌, inl, inr, ℕ, ◌+◌, ◌<◌, ◌≤◌, List, [], ◌∷◌, ◌++◌, length, get_or, set, sym, ap, subst, ◌∙◌, arith, get_or-set_same, get_or-set_other}
+use Rattle.std.specs.Prelude.{Option, Some, Contains, slice_get, MatchOption}
 use Rattle.std.proofs.lemmas.Bool.{cases_eq, cases_lt}
 use Rattle.std.proofs.lemmas.List.{length-set}
 use Rattle.std.proofs.lemmas.Option.{slice_get_within, slice_get-get_or, get_or_from_slice_get}
 use Rattle.or_geom.specs.declared.shape.Shape.{Shape}
 use Rattle.or_geom.proofs.ListLaws.{contained_at, one_at}
 use Rattle.cell_hierarchy.specs.declared.flat.Label.{Label}
+use Rattle.cell_hierarchy.specs.Plain.{plain_label}
+use Rattle.cell_hierarchy.proofs.CellLaws.{after_push, length_pushed}
 use Rattle.shape_bins.specs.Order.{IsOrderAdded}
-use Rattle.label_binding.specs.BoundPlaces.{IsFoundUnder, AreBoundPlaces}
+use Rattle.label_binding.specs.declared.anchor.Anchor.{Anchor}
+use Rattle.label_binding.specs.Binding.{BindsNone}
+use Rattle.label_binding.specs.Bound.{IsBoundAt}
+use Rattle.label_binding.specs.BoundPlaces.{label_anchor, IsFoundUnder, AreBoundPlaces}
 use Rattle.label_binding.proofs.PlaceLaws.{at_contained}
 
 -- what the list has at a place after a change there
@@ -24,6 +29,10 @@ kept_elsewhere xs place other x y differ there =
     let lt = slice_get_within (set xs place x) other y there in
     let sized = length-set xs place x in
     slice_get-get_or xs other y (omega (arith, lt, sized)) ∙ ap (λ z. Some z) (sym (get_or-set_other xs place other x y differ) ∙ get_or_from_slice_get (set xs place x) other y y there)
+
+-- what was found for the anchor where the label stands
+pub found_by : (shapes : List Shape) (label : Label) (anchor : Anchor) (found : Option ℕ) → anchor ≡ label_anchor (plain_label label) → MatchOption found (BindsNone shapes anchor) (IsBoundAt shapes anchor) → IsFoundUnder shapes label found
+found_by shapes label anchor found at right = subst (λ (a : Anchor). MatchOption found (BindsNone shapes a) (IsBoundAt shapes a)) at right
 
 -- what stands at the index is what the label there binds
 abbrev pub IsFoundAt : List Shape → List Label → List (Option ℕ) → ℕ → Type 0
@@ -87,4 +96,37 @@ found_all shapes labels order count places o le a = record {
       let h = listed (length labels) order index o (slice_get_within labels index label here) in
       let lt = h.1 in
       a.each h.0 index (omega (arith, lt, le)) (at_contained order index h) label found here there;
+}
+
+-- So it is at the first indices of the labels, for whose places the list has been pushed.
+pub record AreFoundUpTo (shapes : List Shape) (labels : List Label) (count : ℕ) (places : List (Option ℕ)) : Type 0 where
+  pub sized : length places ≡ count
+  pub each : (index : ℕ) → IsFoundAt shapes labels places index
+
+pub none_found : (shapes : List Shape) (labels : List Label) (places : List (Option ℕ)) → places ≡ [] → AreFoundUpTo shapes labels 0 places
+none_found shapes labels places is = record {
+  sized = ap (λ (l : List (Option ℕ)). length l) is;
+  each = λ index label found here there. let at : slice_get [] index ≡ Some found = subst (λ (l : List (Option ℕ)). slice_get l index ≡ Some found) is there in absurd (omega (arith, slice_get_within [] index found at));
+}
+
+-- and after the next push
+pub found_pushed : (shapes : List Shape) (labels : List Label) (places next : List (Option ℕ)) (count : ℕ) (d : Label) (found : Option ℕ) → count < length labels → IsFoundUnder shapes (get_or labels count d) found
+    → next ≡ places ++ found ∷ [] → AreFoundUpTo shapes labels count places → AreFoundUpTo shapes labels (count + 1) next
+found_pushed shapes labels places next count d found lt right pushed a = record {
+  sized = length_pushed places found next pushed ∙ ap (λ n. n + 1) a.sized;
+  each = λ index other now here there. elim (after_push places found index now (subst (λ (l : List (Option ℕ)). slice_get l index ≡ Some now) pushed there)) [
+    | inl before ↦ a.each index other now here before
+    | inr last ↦
+        let label = get_or labels count d in
+        let is = slice_get-get_or labels count d lt in
+        let same : label ≡ other = one_at labels index label other (subst (λ (k : ℕ). slice_get labels k ≡ Some label) (sym a.sized ∙ sym last.place) is) here in
+        subst (λ (o : Option ℕ). IsFoundUnder shapes other o) (sym last.is) (subst (λ (l : Label). IsFoundUnder shapes l found) same right)
+  ];
+}
+
+-- and in the end each label has what it binds
+pub found_each : (shapes : List Shape) (labels : List Label) (count : ℕ) (places : List (Option ℕ)) → count ≤ length labels → length labels ≤ count → AreFoundUpTo shapes labels count places → AreBoundPlaces shapes labels places
+found_each shapes labels count places le ge a = record {
+  sized = omega (arith, le, ge, a.sized);
+  each = λ index label found here there. a.each index label found here there;
 }

@@ -1,5 +1,6 @@
-ghost use Rattle.std.specs.Prelude.{◌≤◌, length, IfOk};
-ghost use Rattle.label_binding.specs.BoundPlaces.{AreBoundPlaces};
+ghost use Rattle.std.specs.Prelude.{◌≡◌, ◌≤◌, length, IfOk};
+ghost use Rattle.cell_hierarchy.specs.Plain.{plain_label};
+ghost use Rattle.label_binding.specs.BoundPlaces.{label_anchor, AreBoundPlaces};
 
 use crate::anchor::Anchor;
 use crate::bind::bound_shape;
@@ -8,9 +9,37 @@ use or_geom::Memory;
 use shape_bins::{Bins, near_order};
 use std::alloc::Global;
 
-/// For each label the index of the shape that it binds. Near labels are looked up one after another: a layout has
-/// millions, and what one needs of the bins is mostly in the caches from the one before.
-pub fn bound_places(
+/// So many labels are looked up as they are listed: to sort them first would take longer than it saves.
+const FEW_LABELS: usize = 1_048_576;
+
+/// Where the label stands.
+fn anchor_of(label: &Label) -> Anchor
+    ensures { result ≡ label_anchor (plain_label label.now) }
+{
+    Anchor {
+        layer: label.layer,
+        at: label.at,
+    }
+}
+
+/// The places for a few labels, looked up as they are listed.
+fn places_as_listed(
+    alloc: Global,
+    bins: &Bins,
+    labels: &[Label],
+) -> Result<Vec<Option<usize>>, Memory>
+    ensures { IfOk result (λ places. AreBoundPlaces bins.now labels.now places.items) }
+{
+    let mut places = Vec::with_capacity(alloc, labels.len())?;
+    for label in labels {
+        places.push(bound_shape(bins, anchor_of(label)))?;
+    }
+    Ok(places)
+}
+
+/// The places for many labels. Near labels are looked up one after another: what one needs of the bins is mostly in the
+/// caches from the one before.
+fn places_as_they_lie(
     alloc: Global,
     bins: &Bins,
     labels: &[Label],
@@ -22,12 +51,22 @@ pub fn bound_places(
     let mut places = vec![in alloc; None; labels.len()]?;
     for index in &order {
         let index = *index as usize;
-        let label = &labels[index];
-        let anchor = Anchor {
-            layer: label.layer,
-            at: label.at,
-        };
-        places[index] = bound_shape(bins, anchor);
+        places[index] = bound_shape(bins, anchor_of(&labels[index]));
     }
     Ok(places)
+}
+
+/// For each label the index of the shape that it binds, or None. `Memory` comes where memory runs out.
+pub fn bound_places(
+    alloc: Global,
+    bins: &Bins,
+    labels: &[Label],
+) -> Result<Vec<Option<usize>>, Memory>
+    requires { length labels.now ≤ 4294967295 }
+    ensures { IfOk result (λ places. AreBoundPlaces bins.now labels.now places.items) }
+{
+    if labels.len() <= FEW_LABELS {
+        return places_as_listed(alloc, bins, labels);
+    }
+    places_as_they_lie(alloc, bins, labels)
 }

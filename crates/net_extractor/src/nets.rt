@@ -2,7 +2,7 @@ ghost use Rattle.std.specs.Prelude.{◌≡◌, ◌+◌, ◌^◌, ◌<◌, ◌≤
 ghost use Rattle.std.specs.List.Sorted.{IsStrictlySortedBy};
 ghost use Rattle.or_geom.specs.ShapeOrder.{shape_order};
 ghost use Rattle.cell_hierarchy.specs.Plain.{plain_label};
-ghost use Rattle.label_binding.specs.BoundPlaces.{anchor_of, IsFoundUnder};
+ghost use Rattle.label_binding.specs.BoundPlaces.{label_anchor, IsFoundUnder};
 ghost use Rattle.net_extractor.specs.Entries.{IsNetOf};
 ghost use Rattle.net_extractor.specs.Extraction.{AreNets, AreNetsUnder};
 ghost use Rattle.net_extractor.specs.Numbering.{AreRootsWithin};
@@ -29,7 +29,7 @@ fn net_of(
     requires sized { length numbering.old.roots.items ≡ length _bins.now }
     requires within { AreRootsWithin numbering.old }
     requires few { numbering.old.next + 1 < 2 ^ 32 }
-    ensures { IsNetOf _bins.now (anchor_of _label.now) numbering.old result numbering.new }
+    ensures { IsNetOf _bins.now (label_anchor (plain_label _label.now)) numbering.old result numbering.new }
 {
     Some(number_at(place?, numbering))
 }

@@ -6,29 +6,14 @@ use Rattle.std.specs.List.Sorted.{IsPermutation}
 use Rattle.std.proofs.lemmas.List.{map-append}
 use Rattle.std.proofs.lemmas.List.FromFn.{length-range_with_len, get_or-range_with_len}
 use Rattle.std.proofs.lemmas.List.Sorted.{Contains-permutation, IsPermutation-map, IsPermutation-sym, length_permutation}
+use Rattle.cell_chains.proofs.OrderedLaws.{range_more, in_range, range_has}
 use Rattle.shape_bins.specs.Order.{place_of_key, IsOrderAdded}
-
-pub range_more : (a n : ℕ) → range_with_len a (suc n) ≡ range_with_len a n ++ (a + n) ∷ []
-range_more a zero = ap (λ (k : ℕ). k ∷ []) (omega arith)
-range_more a (suc n) = ap (λ (l : List ℕ). a ∷ l) (range_more (a + 1) n ∙ ap (λ (k : ℕ). range_with_len (a + 1) n ++ k ∷ []) (omega arith))
 
 pub keys_more : (keys : List ℕ) (key begin place : ℕ) → begin ≤ place → map place_of_key keys ≡ range_with_len begin (place - begin) → place_of_key key ≡ place → map place_of_key (keys ++ key ∷ []) ≡ range_with_len begin (place + 1 - begin)
 keys_more keys key begin place above is at =
     let step : place + 1 - begin ≡ suc (place - begin) = omega (arith, above) in
     let here : begin + (place - begin) ≡ place_of_key key = omega (arith, above, at) in
     map-append place_of_key keys (key ∷ []) ∙ (ap (λ (l : List ℕ). l ++ place_of_key key ∷ []) is ∙ (ap (λ (k : ℕ). range_with_len begin (place - begin) ++ k ∷ []) (sym here) ∙ (sym (range_more begin (place - begin)) ∙ ap (range_with_len begin) (sym step))))
-
-in_range : (begin n place : ℕ) → Contains (range_with_len begin n) place → (begin ≤ place) × (place < begin + n)
-in_range begin n place h =
-    let lt : h.0 < n = subst (λ (k : ℕ). h.0 < k) (length-range_with_len begin n) h.1 in
-    let at : begin + h.0 ≡ place = sym (get_or-range_with_len begin n h.0 place lt) ∙ h.2 in
-    (omega arith, omega arith)
-
-range_has : (begin n place : ℕ) → begin ≤ place → place < begin + n → Contains (range_with_len begin n) place
-range_has begin n place above below =
-    let lt : (place - begin) < n = omega (arith, above, below) in
-    let at : begin + (place - begin) ≡ place = omega (arith, above) in
-    (place - begin, subst (λ (k : ℕ). (place - begin) < k) (sym (length-range_with_len begin n)) lt, get_or-range_with_len begin n (place - begin) place lt ∙ at)
 
 pub order_added : (keys sorted old new : List ℕ) (begin end : ℕ) → begin ≤ end → IsPermutation keys sorted → map place_of_key keys ≡ range_with_len begin (end - begin) → new ≡ old ++ map place_of_key sorted
     → IsOrderAdded begin end old new

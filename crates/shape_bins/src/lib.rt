@@ -21,6 +21,6 @@ pub use clear::ClearBox;
 pub use forest::{Forest, NodeRange, nodes_of};
 pub use node::Node;
 pub use order::near_order;
-pub use placed::Placed;
-pub use query::{Query, overlap};
+pub use placed::{Extent, Placed};
+pub use query::{Query, meet, overlap};
 pub use walk::{add_of_leaf, is_wanted};

@@ -25,7 +25,7 @@ pub enum Query {
 
 /// Whether the closed rectangles have a point in common.
 #[inline(always)]
-fn meet(a: Rect, b: Rect) -> bool
+pub fn meet(a: Rect, b: Rect) -> bool
     ensures { IsTrue result ↔ Meet a b }
 {
     if a.x2 < b.x1 {

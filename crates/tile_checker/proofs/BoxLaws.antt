@@ -12,8 +12,8 @@ use Rattle.shape_bins.specs.Layers.{rects_on}
 use Rattle.or_geom.specs.Containing.{HoldsRect}
 use Rattle.tile_checker.specs.ClearArea.{IsClearArea}
 use Rattle.tile_checker.specs.Seen.{AreTrueNotes}
-use Rattle.tile_checker.specs.Seconds.{AreTrueSeconds}
-use Rattle.tile_checker.specs.declared.seconds.Seconds.{Seconds}
+use Rattle.tile_checker.specs.Candidates.{AreTrueCandidates}
+use Rattle.tile_checker.specs.declared.candidates.Candidates.{Candidates}
 use Rattle.tile_checker.specs.WideArea.{IsWideArea, IsSeen}
 use Rattle.tile_checker.specs.declared.clear.ClearArea.{ClearArea}
 use Rattle.tile_checker.specs.declared.notes.Notes.{Notes}
@@ -56,11 +56,11 @@ seen_width shapes layer min r a is on wide holds = record {
 }
 
 -- nothing is seen at first
-pub nothing_seen : (shapes : List Shape) (notes : Notes) → notes.wide ≡ None → notes.clear ≡ None → notes.seconds ≡ None → AreTrueNotes shapes notes
-nothing_seen shapes notes wide clear seconds = record {
+pub nothing_seen : (shapes : List Shape) (notes : Notes) → notes.wide ≡ None → notes.clear ≡ None → notes.candidates ≡ None → AreTrueNotes shapes notes
+nothing_seen shapes notes wide clear candidates = record {
   wide = subst (λ (a : Option WideArea). IsSeen shapes a) (sym wide) tt;
   clear = subst (λ (a : Option ClearArea). IfSome a (IsClearArea shapes)) (sym clear) tt;
-  seconds = subst (λ (k : Option Seconds). IfSome k (AreTrueSeconds shapes)) (sym seconds) tt;
+  candidates = subst (λ (k : Option Candidates). IfSome k (AreTrueCandidates shapes)) (sym candidates) tt;
 }
 
 -- a covered box of the frame is such an area

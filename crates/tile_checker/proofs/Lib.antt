@@ -12,7 +12,7 @@ mod NearLaws
 mod PlaceLaws
 mod FirstLaws
 mod FilledLaws
-mod SecondLaws
+mod CandidateLaws
 mod PairLaws
 mod BoxLaws
 mod StripLaws

@@ -11,6 +11,6 @@ pub mod Strips
 pub mod Share
 pub mod WideArea
 pub mod ClearArea
-pub mod Seconds
+pub mod Candidates
 pub mod Seen
 pub mod Earliest

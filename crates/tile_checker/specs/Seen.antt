@@ -2,7 +2,7 @@
 use Rattle.std.specs.Prelude.{List, IfSome}
 use Rattle.or_geom.specs.declared.shape.Shape.{Shape}
 use Rattle.tile_checker.specs.ClearArea.{IsClearArea}
-use Rattle.tile_checker.specs.Seconds.{AreTrueSeconds}
+use Rattle.tile_checker.specs.Candidates.{AreTrueCandidates}
 use Rattle.tile_checker.specs.WideArea.{IsSeen}
 use Rattle.tile_checker.specs.declared.notes.Notes.{Notes}
 
@@ -10,4 +10,4 @@ use Rattle.tile_checker.specs.declared.notes.Notes.{Notes}
 pub record AreTrueNotes (shapes : List Shape) (notes : Notes) : Type 0 where
   pub wide : IsSeen shapes notes.wide
   pub clear : IfSome notes.clear (IsClearArea shapes)
-  pub seconds : IfSome notes.seconds (AreTrueSeconds shapes)
+  pub candidates : IfSome notes.candidates (AreTrueCandidates shapes)

@@ -1,6 +1,7 @@
 //! The report of the design rules over the shapes of a layout.
 #![tactic(auto)]
 
+mod candidates;
 mod check;
 mod clear;
 mod earliest;
@@ -17,7 +18,6 @@ mod laws;
 mod minimum;
 mod notes;
 mod owner;
-mod seconds;
 mod share;
 mod sides;
 mod space;

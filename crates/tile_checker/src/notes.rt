@@ -1,7 +1,7 @@
 ghost use Rattle.std.specs.Prelude.{◌≡◌, [], None};
 
+use crate::candidates::Candidates;
 use crate::clear::ClearArea;
-use crate::seconds::Seconds;
 use crate::violation::Violation;
 use crate::width::WideArea;
 use std::alloc::Global;
@@ -21,7 +21,7 @@ pub struct Notes {
     /// The clear box found last, for the same reason.
     pub clear: Option<ClearArea>,
     /// The shapes of one layer that meet the tile, from which the partners of its first shapes are listed.
-    pub seconds: Option<Seconds>,
+    pub candidates: Option<Candidates>,
 }
 
 impl Notes {
@@ -30,7 +30,7 @@ impl Notes {
         ensures found { result.found.items ≡ [] }
         ensures wide { result.wide ≡ None }
         ensures clear { result.clear ≡ None }
-        ensures seconds { result.seconds ≡ None }
+        ensures candidates { result.candidates ≡ None }
     {
         Notes {
             alloc,
@@ -38,7 +38,7 @@ impl Notes {
             found: Vec::new(alloc),
             wide: None,
             clear: None,
-            seconds: None,
+            candidates: None,
         }
     }
 }

@@ -14,13 +14,13 @@ ghost use Rattle.tile_checker.specs.Firsts.{IsAt, IsPartner, HasNoPartner, ArePa
 ghost use Rattle.tile_checker.specs.Seen.{AreTrueNotes};
 ghost use Rattle.tile_checker.specs.Tiles.{IsFromIn, IsPairAt, IsPartIn};
 
+use crate::candidates::list_candidates;
 use crate::clear::{ClearArea, filled_around, lies_clear};
 use crate::enclose::grown;
 use crate::first::{First, shape_at};
 use crate::minimum::Minimum;
 use crate::notes::Notes;
 use crate::owner::owns_pair;
-use crate::seconds::list_seconds;
 use crate::violation::Violation;
 use or_geom::{Memory, Rect, Shape, dist2, gap_box, joined};
 use shape_bins::Bins;
@@ -171,7 +171,7 @@ fn list_partners(
             return bins.add_outside(partner, area, filled.rect, &mut notes.near);
         }
     }
-    list_seconds(bins, partner, tile, area, notes)
+    list_candidates(bins, partner, tile, area, notes)
 }
 
 /// Adds the pairs of shapes that break the rule, whose first is this one and which the tile owns.

@@ -6,7 +6,7 @@ use Rattle.tile_checker.proofs.FirstFoundLaws.{all_tiles, next_tile, no_tiles, t
 use Rattle.tile_checker.proofs.first_share.first_of_share.Goals as goal
 
 pub loop-index-init : goal.loop-index-init
-loop-index-init c = record { first = no_tiles c.args.tech.now.rules c.args.bins.now c.args.tiles.now c.args.workers c.args.worker; seen = nothing_seen c.args.bins.now _ c.new-notes.ensures.wide c.new-notes.ensures.clear c.new-notes.ensures.seconds }
+loop-index-init c = record { first = no_tiles c.args.tech.now.rules c.args.bins.now c.args.tiles.now c.args.workers c.args.worker; seen = nothing_seen c.args.bins.now _ c.new-notes.ensures.wide c.new-notes.ensures.clear c.new-notes.ensures.candidates }
 
 pub first_of_tile-requires-clause-minimums : goal.first_of_tile-requires-clause-minimums
 first_of_tile-requires-clause-minimums c = minimums c.args.tech.now.layers c.args.tech.now.rules _ c.as_slice-rules.ensures c.requires.tech.rules

@@ -10,7 +10,7 @@ pub loop-index-init : goal.loop-index-init
 loop-index-init c = record {
   adds = subst (λ (l : List Violation). Adds [] l (IsOwnBelow c.args.tech.now.rules c.args.bins.now c.args.tiles.now c.args.workers c.args.worker 0)) (sym c.new-notes.ensures.found)
       (own_begins c.args.tech.now.rules c.args.bins.now c.args.tiles.now c.args.workers c.args.worker);
-  seen = nothing_seen c.args.bins.now _ c.new-notes.ensures.wide c.new-notes.ensures.clear c.new-notes.ensures.seconds;
+  seen = nothing_seen c.args.bins.now _ c.new-notes.ensures.wide c.new-notes.ensures.clear c.new-notes.ensures.candidates;
 }
 
 pub add_of_tile-requires-clause-minimums : goal.add_of_tile-requires-clause-minimums

@@ -13,7 +13,7 @@ pub returns-then-min-filled-clause-seen : goal.returns-then-min-filled-clause-se
 returns-then-min-filled-clause-seen c = record {
   wide = c.requires.seen.wide;
   clear = record { covered = c.in-Some.ensures.around.covered; clear = c.in-Some.ensures.clear };
-  seconds = c.requires.seen.seconds;
+  candidates = c.requires.seen.candidates;
 }
 
 pub returns-then-min-filled-clause-partners : goal.returns-then-min-filled-clause-partners
@@ -26,4 +26,4 @@ returns-in-Some-clause-partners c =
     on_ok_weaker _ (λ a. partners_outside c.args.min.value c.args.bins.now c.args.partner c.args.first c.args.area c.in-Some.filled.rect _ _ c.if-partner-first.true c.clear.ensures.items c.in-Some.ensures.around a) c.add_outside.ensures
 
 pub returns-clause-partners : goal.returns-clause-partners
-returns-clause-partners c = on_ok_weaker _ (λ a. partners_near c.args.min.value c.args.bins.now c.args.partner c.args.first c.args.area _ _ refl a) c.list_seconds.ensures.adds
+returns-clause-partners c = on_ok_weaker _ (λ a. partners_near c.args.min.value c.args.bins.now c.args.partner c.args.first c.args.area _ _ refl a) c.list_candidates.ensures.adds

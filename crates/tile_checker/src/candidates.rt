@@ -1,71 +1,50 @@
-ghost use Rattle.std.specs.Prelude.{◌↔◌, ◌≡◌, [], IsTrue, IfOk, IfSome, OnOk};
+ghost use Rattle.std.specs.Prelude.{◌≡◌, [], IfOk, IfSome, OnOk};
 ghost use Rattle.or_geom.specs.Adds.{Adds};
 ghost use Rattle.or_geom.specs.Gathering.{SomeGives};
 ghost use Rattle.shape_bins.specs.Hits.{IsNearShape};
-ghost use Rattle.shape_bins.specs.Meets.{Meet};
 ghost use Rattle.tile_checker.specs.Firsts.{ArePlaces};
-ghost use Rattle.tile_checker.specs.Seconds.{IsSecondAt, AreSeconds, AreSecondsOver, AreTrueSeconds, MeetsAt};
+ghost use Rattle.tile_checker.specs.Candidates.{IsCandidateAt, AreCandidates, AreCandidatesOver, AreTrueCandidates, MeetsAt};
 ghost use Rattle.tile_checker.specs.Seen.{AreTrueNotes};
 
 use crate::first::shape_at;
 use crate::notes::Notes;
 use or_geom::{Memory, Rect, holds};
-use shape_bins::Bins;
+use shape_bins::{Bins, meet};
 use std::alloc::Global;
 
 /// No longer list is kept: to look through it for each first shape would take longer than to ask the bins.
-const MOST_SECONDS: usize = 2048;
+const MOST_CANDIDATES: usize = 2048;
 
 /// A shape that may come second in a pair: its place among the shapes, and its rectangle.
 #[derive(Clone, Copy)]
-pub struct Second {
+pub struct Candidate {
     pub place: usize,
     pub rect: Rect,
 }
 
 /// The shapes of a layer that meet an area.
 #[derive(Drop)]
-pub struct Seconds {
+pub struct Candidates {
     pub layer: u16,
     pub asked: Rect,
     /// None where they are too many to be kept.
-    pub list: Option<Vec<Second>>,
-}
-
-/// Whether the closed rectangles have a point in common.
-#[inline(always)]
-fn meet(a: Rect, b: Rect) -> bool
-    ensures { IsTrue result ↔ Meet a b }
-{
-    if b.x2 < a.x1 {
-        return false;
-    }
-    if a.x2 < b.x1 {
-        return false;
-    }
-    if a.y2 < b.y1 {
-        return false;
-    }
-    if b.y2 < a.y1 {
-        return false;
-    }
-    true
+    pub list: Option<Vec<Candidate>>,
 }
 
 /// The shapes at the places, each with its place.
-fn seconds_at(alloc: Global, bins: &Bins, places: &[usize]) -> Result<Vec<Second>, Memory>
+fn candidates_at(alloc: Global, bins: &Bins, places: &[usize]) -> Result<Vec<Candidate>, Memory>
     requires { ArePlaces bins.now places.now }
-    ensures { IfOk result (λ seconds. Adds [] seconds.items (SomeGives (IsSecondAt bins.now) places.now)) }
+    ensures { IfOk result (λ candidates. Adds [] candidates.items (SomeGives (IsCandidateAt bins.now) places.now)) }
 {
     let shapes = bins.shapes();
-    let mut seconds = Vec::with_capacity(alloc, places.len())?;
+    let mut candidates = Vec::with_capacity(alloc, places.len())?;
     for place in places {
-        seconds.push(Second {
+        candidates.push(Candidate {
             place: *place,
             rect: shape_at(shapes, *place).rect,
         })?;
     }
-    Ok(seconds)
+    Ok(candidates)
 }
 
 /// The shapes of the layer that meet the area, from their places. None where they are too many to be kept. They come in
@@ -76,20 +55,20 @@ fn list_of(
     _layer: u16,
     _area: Rect,
     places: &mut Vec<usize>,
-) -> Result<Option<Vec<Second>>, Memory>
+) -> Result<Option<Vec<Candidate>>, Memory>
     requires { Adds [] places.old.items (IsNearShape bins.now _layer _area) }
-    ensures { IfOk result (λ list. IfSome list (λ seconds. AreSeconds bins.now _layer _area seconds.items)) }
+    ensures { IfOk result (λ list. IfSome list (λ candidates. AreCandidates bins.now _layer _area candidates.items)) }
 {
-    if MOST_SECONDS < places.len() {
+    if MOST_CANDIDATES < places.len() {
         return Ok(None);
     }
     places.sort_unstable();
-    Ok(Some(seconds_at(alloc, bins, places)?))
+    Ok(Some(candidates_at(alloc, bins, places)?))
 }
 
 /// Whether what is kept is of this layer and this tile.
-fn is_about(seconds: &Option<Seconds>, layer: u16, tile: Rect) -> bool {
-    match seconds {
+fn is_about(candidates: &Option<Candidates>, layer: u16, tile: Rect) -> bool {
+    match candidates {
         Some(kept) => kept.layer == layer && kept.asked == tile,
         None => false,
     }
@@ -101,13 +80,13 @@ fn renew(bins: &Bins, layer: u16, tile: Rect, notes: &mut Notes) -> Result<(), M
     ensures seen { AreTrueNotes bins.now notes.new }
     ensures found { notes.new.found ≡ notes.old.found }
 {
-    if is_about(&notes.seconds, layer, tile) {
+    if is_about(&notes.candidates, layer, tile) {
         return Ok(());
     }
     notes.near.clear();
     bins.add_near(layer, tile, &mut notes.near)?;
     let list = list_of(notes.alloc, bins, layer, tile, &mut notes.near)?;
-    notes.seconds = Some(Seconds {
+    notes.candidates = Some(Candidates {
         layer,
         asked: tile,
         list,
@@ -118,37 +97,37 @@ fn renew(bins: &Bins, layer: u16, tile: Rect, notes: &mut Notes) -> Result<(), M
 /// The list that is kept, if it has all shapes of the layer that meet the area.
 fn kept_over<'n>(
     _bins: &Bins,
-    kept: &'n Option<Seconds>,
+    kept: &'n Option<Candidates>,
     layer: u16,
     area: Rect,
-) -> Option<&'n [Second]>
-    requires { IfSome kept.now (AreTrueSeconds _bins.now) }
-    ensures { IfSome result (λ seconds. AreSecondsOver _bins.now layer area seconds.now) }
+) -> Option<&'n [Candidate]>
+    requires { IfSome kept.now (AreTrueCandidates _bins.now) }
+    ensures { IfSome result (λ candidates. AreCandidatesOver _bins.now layer area candidates.now) }
 {
-    let Some(seconds) = kept else {
+    let Some(candidates) = kept else {
         return None;
     };
-    if seconds.layer != layer {
+    if candidates.layer != layer {
         return None;
     }
-    if !holds(seconds.asked, area) {
+    if !holds(candidates.asked, area) {
         return None;
     }
-    match &seconds.list {
+    match &candidates.list {
         Some(list) => Some(list),
         None => None,
     }
 }
 
 /// Adds the places of those that meet the area.
-fn add_places(seconds: &[Second], area: Rect, near: &mut Vec<usize>) -> Result<(), Memory>
-    ensures { OnOk result (Adds near.old.items near.new.items (SomeGives (MeetsAt area) seconds.now)) }
+fn add_places(candidates: &[Candidate], area: Rect, near: &mut Vec<usize>) -> Result<(), Memory>
+    ensures { OnOk result (Adds near.old.items near.new.items (SomeGives (MeetsAt area) candidates.now)) }
 {
-    for second in seconds {
-        if !meet(second.rect, area) {
+    for candidate in candidates {
+        if !meet(candidate.rect, area) {
             continue;
         }
-        near.push(second.place)?;
+        near.push(candidate.place)?;
     }
     Ok(())
 }
@@ -156,7 +135,7 @@ fn add_places(seconds: &[Second], area: Rect, near: &mut Vec<usize>) -> Result<(
 /// Lists the places of the layer's shapes that meet the area. The tile's shapes of the layer are asked for once and
 /// kept, and each area that lies in the tile is answered from them; the bins are asked where it doesn't, or where the
 /// tile has too many.
-pub fn list_seconds(
+pub fn list_candidates(
     bins: &Bins,
     layer: u16,
     tile: Rect,
@@ -170,8 +149,8 @@ pub fn list_seconds(
 {
     renew(bins, layer, tile, notes)?;
     notes.near.clear();
-    if let Some(seconds) = kept_over(bins, &notes.seconds, layer, area) {
-        return add_places(seconds, area, &mut notes.near);
+    if let Some(candidates) = kept_over(bins, &notes.candidates, layer, area) {
+        return add_places(candidates, area, &mut notes.near);
     }
     bins.add_near(layer, area, &mut notes.near)
 }

@@ -1,4 +1,4 @@
--- The second shapes that are kept of a tile answer for each area in it.
+-- The candidates that are kept of a tile answer for each area in it.
 use Rattle.std.proofs.Common.{◌≡◌, ℕ, List, [], Some, refl, sym, subst, ◌∙◌, arith}
 use Rattle.std.specs.Prelude.{slice_get}
 use Rattle.std.proofs.lemmas.Int.{ints}
@@ -15,9 +15,9 @@ use Rattle.or_geom.proofs.GatheringLaws.{giver, gives_some}
 use Rattle.or_geom.proofs.ListLaws.{one_at}
 use Rattle.shape_bins.specs.Hits.{IsNearShape}
 use Rattle.shape_bins.specs.Meets.{Meet}
-use Rattle.tile_checker.specs.declared.seconds.Second.{Second}
+use Rattle.tile_checker.specs.declared.candidates.Candidate.{Candidate}
 use Rattle.tile_checker.specs.Firsts.{ArePlaces}
-use Rattle.tile_checker.specs.Seconds.{IsSecondAt, IsSecond, AreSeconds, AreSecondsOver, MeetsAt}
+use Rattle.tile_checker.specs.Candidates.{IsCandidateAt, IsCandidate, AreCandidates, AreCandidatesOver, MeetsAt}
 use Rattle.tile_checker.proofs.PlaceLaws.{adds_all}
 
 -- what was added to a list that had been emptied, as it is read
@@ -43,15 +43,15 @@ near_places shapes layer area places adds = λ place h.
     slice_get_within shapes place hit.shape hit.there
 
 -- a place has one shape
-pub same_at : (shapes : List Shape) (place : ℕ) (s : Shape) (second : Second) → slice_get shapes place ≡ Some s → IsSecondAt shapes place second → second ≡ record { place = place; rect = s.rect }
-same_at shapes place s second at p =
+pub same_at : (shapes : List Shape) (place : ℕ) (s : Shape) (candidate : Candidate) → slice_get shapes place ≡ Some s → IsCandidateAt shapes place candidate → candidate ≡ record { place = place; rect = s.rect }
+same_at shapes place s candidate at p =
     let e : p.shape ≡ s = one_at shapes place p.shape s p.there at in
     p.is ∙ (λ i. record { place = place; rect = (e i).rect })
 
-second_is : (shapes : List Shape) (layer : ℕ) (area : Rect) (place : ℕ) (second : Second) → IsNearShape shapes layer area place → IsSecondAt shapes place second → IsSecond shapes layer area second
-second_is shapes layer area place second hit p =
+candidate_is : (shapes : List Shape) (layer : ℕ) (area : Rect) (place : ℕ) (candidate : Candidate) → IsNearShape shapes layer area place → IsCandidateAt shapes place candidate → IsCandidate shapes layer area candidate
+candidate_is shapes layer area place candidate hit p =
     let e : p.shape ≡ hit.shape = one_at shapes place p.shape hit.shape p.there hit.there in
-    let at : second.place ≡ place = λ i. (p.is i).place in
+    let at : candidate.place ≡ place = λ i. (p.is i).place in
     record {
       shape = hit.shape;
       there = subst (λ (k : ℕ). slice_get shapes k ≡ Some hit.shape) (sym at) hit.there;
@@ -61,15 +61,15 @@ second_is shapes layer area place second hit p =
     }
 
 -- the shapes at the places of all that meet an area
-pub seconds_are : (shapes : List Shape) (layer : ℕ) (area : Rect) (places : List ℕ) (seconds : List Second) → Adds [] places (IsNearShape shapes layer area) → Adds [] seconds (SomeGives (IsSecondAt shapes) places) → AreSeconds shapes layer area seconds
-seconds_are shapes layer area places seconds near adds =
+pub candidates_are : (shapes : List Shape) (layer : ℕ) (area : Rect) (places : List ℕ) (candidates : List Candidate) → Adds [] places (IsNearShape shapes layer area) → Adds [] candidates (SomeGives (IsCandidateAt shapes) places) → AreCandidates shapes layer area candidates
+candidates_are shapes layer area places candidates near adds =
     let all = adds_all places (IsNearShape shapes layer area) near in
-    adds_all seconds (IsSecond shapes layer area)
-    (adds_as [] seconds (SomeGives (IsSecondAt shapes) places) (IsSecond shapes layer area)
-    (λ second g. let r = giver (IsSecondAt shapes) places second g in second_is shapes layer area r.0 second ((all r.0).0 r.1) r.2)
-    (λ second s. gives_some (IsSecondAt shapes) places second second.place
-    ((all second.place).1 (record { shape = s.shape; there = s.there; on = s.on; fits = s.meets }))
-    (record { shape = s.shape; there = s.there; is = λ i. record { place = second.place; rect = s.is i } }))
+    adds_all candidates (IsCandidate shapes layer area)
+    (adds_as [] candidates (SomeGives (IsCandidateAt shapes) places) (IsCandidate shapes layer area)
+    (λ candidate g. let r = giver (IsCandidateAt shapes) places candidate g in candidate_is shapes layer area r.0 candidate ((all r.0).0 r.1) r.2)
+    (λ candidate s. gives_some (IsCandidateAt shapes) places candidate candidate.place
+    ((all candidate.place).1 (record { shape = s.shape; there = s.there; on = s.on; fits = s.meets }))
+    (record { shape = s.shape; there = s.there; is = λ i. record { place = candidate.place; rect = s.is i } }))
     adds)
 
 -- what meets an area meets each that holds it
@@ -82,11 +82,11 @@ meets_more r asked area h m = record {
 }
 
 -- of those, the ones that meet an area which the other holds
-pub seconds_answer : (shapes : List Shape) (layer : ℕ) (area : Rect) (seconds : List Second) (old new : List ℕ) → AreSecondsOver shapes layer area seconds → Adds old new (SomeGives (MeetsAt area) seconds) → Adds old new (IsNearShape shapes layer area)
-seconds_answer shapes layer area seconds old new over adds =
-    adds_as old new (SomeGives (MeetsAt area) seconds) (IsNearShape shapes layer area)
+pub candidates_answer : (shapes : List Shape) (layer : ℕ) (area : Rect) (candidates : List Candidate) (old new : List ℕ) → AreCandidatesOver shapes layer area candidates → Adds old new (SomeGives (MeetsAt area) candidates) → Adds old new (IsNearShape shapes layer area)
+candidates_answer shapes layer area candidates old new over adds =
+    adds_as old new (SomeGives (MeetsAt area) candidates) (IsNearShape shapes layer area)
     (λ place g.
-    let r = giver (MeetsAt area) seconds place g in
+    let r = giver (MeetsAt area) candidates place g in
     let s = (over.are r.0).0 r.1 in
     record {
       shape = s.shape;
@@ -94,16 +94,16 @@ seconds_answer shapes layer area seconds old new over adds =
       on = s.on;
       fits = subst (λ (b : Rect). Meet b area) s.is r.2.meets;
     })
-    (λ place hit. gives_some (MeetsAt area) seconds place (record { place = place; rect = hit.shape.rect })
+    (λ place hit. gives_some (MeetsAt area) candidates place (record { place = place; rect = hit.shape.rect })
     ((over.are (record { place = place; rect = hit.shape.rect })).1
     (record { shape = hit.shape; there = hit.there; on = hit.on; is = refl; meets = meets_more hit.shape.rect over.asked area over.holds hit.fits }))
     (record { is = refl; meets = hit.fits }))
     adds
 
 -- those that are kept of a layer and an area, as they are read
-pub kept_are : (shapes : List Shape) (own layer : ℕ) (asked area : Rect) (seconds read : List Second) → own ≡ layer → read ≡ seconds → HoldsRect asked area → AreSeconds shapes own asked seconds → AreSecondsOver shapes layer area read
-kept_are shapes own layer asked area seconds read on same holds are = record {
+pub kept_are : (shapes : List Shape) (own layer : ℕ) (asked area : Rect) (candidates read : List Candidate) → own ≡ layer → read ≡ candidates → HoldsRect asked area → AreCandidates shapes own asked candidates → AreCandidatesOver shapes layer area read
+kept_are shapes own layer asked area candidates read on same holds are = record {
   asked = asked;
   holds = holds;
-  are = subst (λ (l : List Second). AreSeconds shapes layer asked l) (sym same) (subst (λ (k : ℕ). AreSeconds shapes k asked seconds) on are);
+  are = subst (λ (l : List Candidate). AreCandidates shapes layer asked l) (sym same) (subst (λ (k : ℕ). AreCandidates shapes k asked candidates) on are);
 }

@@ -1,6 +1,6 @@
-use Rattle.std.proofs.Common.{length, arith}
-use Rattle.label_binding.proofs.FoundLaws.{found_next, found_all, next_within}
-use Rattle.label_binding.proofs.places.bound_places.Goals as goal
+use Rattle.std.proofs.Common.{length, get_or, arith}
+use Rattle.label_binding.proofs.FoundLaws.{found_by, found_next, found_all, next_within}
+use Rattle.label_binding.proofs.places.places_as_they_lie.Goals as goal
 
 pub bounds-labels-index : goal.bounds-labels-index
 bounds-labels-index c = next_within (length c.args.labels.now) c.deref-index-items.result.now c.loop-index.index-index c.loop-index.invariant.order c.loop-index-test.true
@@ -13,7 +13,7 @@ index_mut-requires c =
 pub loop-index-preserved : goal.loop-index-preserved
 loop-index-preserved c = record {
   order = c.loop-index.invariant.order;
-  found = found_next c.args.bins.now c.args.labels.now c.loop-index.places.items c.deref-index-items.result.now c.loop-index.index-index _ c.bound_shape.result c.loop-index.invariant.order c.loop-index-test.true c.bound_shape.ensures c.loop-index.invariant.found;
+  found = found_next c.args.bins.now c.args.labels.now c.loop-index.places.items c.deref-index-items.result.now c.loop-index.index-index _ c.bound_shape.result c.loop-index.invariant.order c.loop-index-test.true (found_by c.args.bins.now (get_or c.args.labels.now (get_or c.deref-index-items.result.now c.loop-index.index-index 0) _) c.anchor_of.result c.bound_shape.result c.anchor_of.ensures c.bound_shape.ensures) c.loop-index.invariant.found;
 }
 
 pub returns : goal.returns
