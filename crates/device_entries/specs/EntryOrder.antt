@@ -1,7 +1,7 @@
 -- The order of entries.
-use Rattle.std.specs.Prelude.{◌≡◌, Some, IsTrue}
+use Rattle.std.specs.Prelude.{◌≡◌, IsTrue}
 use Rattle.std.specs.Ordering.{ordering_then, eq_by_cmp}
-use Rattle.std.specs.Cmp.{IsTotalOrder, IsEquivalence, IsPartialEquivalence, IsPartialOrder, on_total, then_total, partial_order_from_total, partial_equiv_from_equiv, eq_by_cmp_equiv}
+use Rattle.std.specs.Cmp.{IsTotalOrder, on_total, then_total}
 use Rattle.std.specs.Cmp.Lexicographic.{nat_list_cmp_total}
 use Rattle.std.specs.declared.cmp.Ordering.{Ordering}
 use Rattle.or_geom.specs.Least.{name_order}
@@ -23,12 +23,3 @@ entry_total =
     then_total (on_total (λ (e : DeviceEntry). e.model) nat_list_cmp_total)
     (then_total (on_total (λ (e : DeviceEntry). e.gate) nat_list_cmp_total)
     (then_total (on_total (λ (e : DeviceEntry). e.low) nat_list_cmp_total) (on_total (λ (e : DeviceEntry). e.high) nat_list_cmp_total)))
-
-pub entry_partial : IsPartialOrder (eq_by_cmp entry_order) (λ a b. Some (entry_order a b))
-entry_partial = partial_order_from_total entry_total
-
-pub entry_equivalence : IsEquivalence (eq_by_cmp entry_order)
-entry_equivalence = eq_by_cmp_equiv entry_total
-
-pub entry_partial_equivalence : IsPartialEquivalence (eq_by_cmp entry_order)
-entry_partial_equivalence = partial_equiv_from_equiv entry_equivalence

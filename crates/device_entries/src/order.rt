@@ -1,58 +1,27 @@
-ghost use Rattle.std.specs.Prelude.{refl, Some};
-ghost use Rattle.std.specs.Ordering.{eq_by_cmp};
-ghost use Rattle.device_entries.specs.EntryOrder.{entry_order, entry_total, entry_partial, entry_equivalence};
-ghost use Rattle.device_entries.specs.EntryOrder.{entry_partial_equivalence};
+ghost use Rattle.std.specs.Prelude.{◌≡◌};
+ghost use Rattle.device_entries.specs.EntryOrder.{entry_order};
 
 use crate::entry::DeviceEntry;
 use std::cmp::Ordering;
 
-impl PartialEq for DeviceEntry {
-    ghost eq = { eq_by_cmp entry_order };
-
-    ghost laws = { entry_partial_equivalence };
-
-    fn eq(&self, other: &DeviceEntry) -> bool {
-        self.cmp(other).is_eq()
-    }
+/// The order of entries: by model, gate, lower and higher node, and names by their bytes.
+pub fn compare(one: &DeviceEntry, other: &DeviceEntry) -> Ordering
+    ensures { result ≡ entry_order one.now other.now }
+{
+    key_of(one).cmp(&key_of(other))
 }
 
-impl Eq for DeviceEntry {
-    ghost laws = { entry_equivalence };
-}
-
-impl PartialOrd for DeviceEntry {
-    ghost partial_cmp = { λ a b. Some (entry_order a b) };
-
-    ghost laws = { entry_partial };
-
-    fn partial_cmp(&self, other: &DeviceEntry) -> Option<Ordering> {
-        Some(self.cmp(other))
-    }
-}
-
-/// Entries are ordered by model, gate, lower and higher node, and names by their bytes.
-impl Ord for DeviceEntry {
-    ghost cmp = { entry_order };
-
-    ghost total = { entry_total };
-
-    ghost matches_partial_cmp = { λ a b. refl };
-
-    ghost matches_eq = { λ a b. refl };
-
-    fn cmp(&self, other: &DeviceEntry) -> Ordering {
-        let by_model = self.model.as_bytes().cmp(other.model.as_bytes());
-        if by_model.is_ne() {
-            return by_model;
-        }
-        let by_gate = self.gate.as_bytes().cmp(other.gate.as_bytes());
-        if by_gate.is_ne() {
-            return by_gate;
-        }
-        let by_low = self.low.as_bytes().cmp(other.low.as_bytes());
-        if by_low.is_ne() {
-            return by_low;
-        }
-        self.high.as_bytes().cmp(other.high.as_bytes())
-    }
+/// What an entry is compared by, the first first.
+fn key_of(entry: &DeviceEntry) -> (&[u8], &[u8], &[u8], &[u8])
+    ensures model { result.0.now ≡ entry.now.model }
+    ensures gate { result.1.now ≡ entry.now.gate }
+    ensures low { result.2.now ≡ entry.now.low }
+    ensures high { result.3.now ≡ entry.now.high }
+{
+    (
+        entry.model.as_bytes(),
+        entry.gate.as_bytes(),
+        entry.low.as_bytes(),
+        entry.high.as_bytes(),
+    )
 }

@@ -3,6 +3,7 @@ ghost use Rattle.device_entries.specs.Counts.{AreEven, IsLeastUneven};
 ghost use Rattle.device_entries.specs.Parting.{ComesFirst, ArePartedAt, HaveSameAt};
 
 use crate::entry::DeviceEntry;
+use crate::order::compare;
 
 /// An entry that the transistors of a layout and those of a subcircuit don't have equally often.
 #[derive(Debug, Drop)]
@@ -20,7 +21,7 @@ fn are_same_at(entries: &[DeviceEntry], others: &[DeviceEntry], place: usize) ->
 {
     match entries.get(place) {
         Some(entry) => match others.get(place) {
-            Some(other) => entry == other,
+            Some(other) => compare(entry, other).is_eq(),
             None => false,
         },
         None => false,
@@ -46,7 +47,7 @@ fn comes_first(entries: &[DeviceEntry], others: &[DeviceEntry], place: usize) ->
 {
     match entries.get(place) {
         Some(entry) => match others.get(place) {
-            Some(other) => entry.cmp(other).is_lt(),
+            Some(other) => compare(entry, other).is_lt(),
             None => true,
         },
         None => false,
@@ -62,8 +63,8 @@ pub fn least_uneven(drawn: Vec<DeviceEntry>, listed: Vec<DeviceEntry>) -> Option
 {
     let mut drawn = drawn;
     let mut listed = listed;
-    drawn.sort_unstable();
-    listed.sort_unstable();
+    drawn.sort_unstable_by(compare);
+    listed.sort_unstable_by(compare);
     let place = common_length(&drawn, &listed);
     if comes_first(&drawn, &listed, place) {
         return Some(Uneven::Extra(drawn.swap_remove(place)));
