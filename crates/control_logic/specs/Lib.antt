@@ -1,2 +1,3 @@
 pub mod LogicPart
 pub mod BankGates
+pub mod ControlGates
