@@ -38,7 +38,7 @@ pub fn read_configuration<S: Store>(
     ensures words { is_usage_outcome result ≡ false }
 {
     let bytes = read_file(alloc, name, store)?;
-    Ok(read_config(alloc, bytes.as_slice())?)
+    read_config(alloc, bytes.as_slice()).map_err(Refusal::Config)
 }
 
 /// The bytes of the file of this name and ending.
@@ -64,7 +64,7 @@ fn read_leaf_layout<S: Store>(alloc: Global, name: &str, store: &mut S) -> Resul
     ensures words { is_usage_outcome result ≡ false }
 {
     let bytes = read_under(alloc, name, ".gds", store)?;
-    Ok(read_gds(alloc, bytes.as_slice())?)
+    read_gds(alloc, bytes.as_slice()).map_err(Refusal::Gds)
 }
 
 /// The kit of a technology, the leaf cells' library and the SPICE file of this name.
@@ -83,7 +83,7 @@ fn read_kit_over<S: Store>(
     ensures words { is_usage_outcome result ≡ false }
 {
     let text = read_under(alloc, name, ".sp", store)?;
-    Ok(kit_of(alloc, tech, lib, text)?)
+    kit_of(alloc, tech, lib, text).map_err(Refusal::Kit)
 }
 
 /// The kit of a technology and of the files of this name. The layout is decoded before the subcircuits are read.
@@ -138,7 +138,7 @@ pub fn design_of<S: Store>(alloc: Global, config: Config, store: &mut S) -> Resu
     ensures good { IfOk result IsGoodDesign }
     ensures words { is_usage_outcome result ≡ false }
 {
-    let plan = plan(&config)?;
+    let plan = plan(&config).map_err(Refusal::Plan)?;
     design_with(alloc, config, plan, store)
 }
 

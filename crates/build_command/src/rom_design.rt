@@ -66,8 +66,11 @@ fn rom_with<S: Store>(
     ensures words { is_usage_outcome result ≡ false }
 {
     let bytes = read_file(alloc, content, store)?;
-    let words = Items::from_vec(rom_words(alloc, &design.plan, bytes.as_slice())?);
-    Ok(RomDesign { design, words })
+    let words = rom_words(alloc, &design.plan, bytes.as_slice()).map_err(Refusal::Rom)?;
+    Ok(RomDesign {
+        design,
+        words: Items::from_vec(words),
+    })
 }
 
 /// The same, after the cells that hold fixed bits.
@@ -84,7 +87,7 @@ fn rom_over<S: Store>(
     ensures good { IfOk result IsGoodRom }
     ensures words { is_usage_outcome result ≡ false }
 {
-    rom_leaves(alloc, &design.kit)?;
+    rom_leaves(alloc, &design.kit).map_err(Refusal::Kit)?;
     rom_with(alloc, design, content, store)
 }
 

@@ -1,11 +1,12 @@
 -- One step of the work after another.
-use Rattle.std.proofs.Common.{◌≡◌, ℕ, List, Bool, false, Option, Some, None, Result, Ok, Err, refl, sym, inr, inl, subst, ◌∙◌}
+use Rattle.std.proofs.Common.{◌≡◌, ℕ, List, Bool, false, Option, Some, None, Result, Ok, Err, refl, sym, ap, inr, inl, subst, ◌∙◌}
+use Rattle.std.specs.Prelude.{IfOk, IfErr, IsErrAnd, MatchResult}
 use Rattle.or_host.specs.Fault.{HasCause, NamesLast}
 use Rattle.or_host.specs.Files.{Files}
 use Rattle.reply_lines.specs.declared.refusal.Refusal.{Refusal}
 use Rattle.reply_lines.specs.declared.refusal.Refusal.TheVariants.{ReadFailed}
 use Rattle.reply_lines.specs.Statuses.{is_read_failure}
-use Rattle.command_steps.specs.Outcome.{Then, UnlessMemory, is_read_failed, unread_name, unread_in}
+use Rattle.command_steps.specs.Outcome.{ValueOrFault, Then, UnlessMemory, is_read_failed, unread_name, unread_in}
 use Rattle.or_host.specs.State.{StoreState}
 use Rattle.command_steps.specs.Outside.{IfTold}
 use Rattle.command_steps.specs.Reading.{HasRead}
@@ -75,3 +76,32 @@ read_ends {X} {Y} P Q refusal before now p = record {
   cause = p.cause;
   named = p.named;
 }
+
+-- what `map_err` makes of a value or a fault
+abbrev pub Said : {X F : Type 0} → (F → Refusal) → Result X F → Result X Refusal → Type 0
+Said say value result = MatchResult value (λ x. result ≡ Ok x) (λ fault. IsErrAnd result (λ refusal. refusal ≡ say fault))
+
+pub said_value : {X F : Type 0} (Q : X → Type 0) (say : F → Refusal) (value : Result X F) (result : Result X Refusal) → IfOk value Q → Said say value result → IfOk result Q
+said_value {X} {F} Q say (Ok x) result good said = subst (λ (r : Result X Refusal). IfOk r Q) (sym said) good
+said_value Q say (Err fault) (Ok x) good said = absurd said
+said_value Q say (Err fault) (Err refusal) good said = tt
+
+pub said_fault : {X F : Type 0} (P : F → Type 0) (say : F → Refusal) (value : Result X F) (refusal : Refusal) → IfErr value P → Said say value (Err refusal) → (fault : F) × P fault × (refusal ≡ say fault)
+said_fault P say (Ok x) refusal bad said = absurd cc
+said_fault P say (Err fault) refusal bad said = (fault, bad, said)
+
+pub said_outcome : {X F : Type 0} (Q : X → Type 0) (P : F → Type 0) (say : F → Refusal) (value : Result X F) (result : Result X Refusal)
+    → IfOk value Q → IfErr value P → Said say value result → UnlessMemory (ValueOrFault Q P say) result
+said_outcome Q P say value (Ok x) good bad said = said_value Q say value (Ok x) good said
+said_outcome Q P say value (Err refusal) good bad said = λ lasts. said_fault P say value refusal bad said
+
+-- a read, and then a step that reads nothing, whose fault is refused
+pub read_said : {X Y F : Type 0} (P : Files → Result X Refusal → Type 0) (Q : X → Y → Type 0) (R : X → F → Type 0) (say : F → Refusal) (x : X) (value : Result Y F) (result : Result Y Refusal)
+    (before now : StoreState)
+    → ((fault : F) → is_read_failure (say fault) ≡ false) → HasRead P (Ok x) before now → IfOk value (Q x) → IfErr value (R x) → Said say value result
+    → HasRead (λ files. Then (P files) (λ y. ValueOrFault (Q y) (R y) say)) result before now
+read_said P Q R say x value (Ok y) before now pure read good bad said =
+    read_then P (λ y. ValueOrFault (Q y) (R y) say) x (Ok y) before now read (said_value (Q x) say value (Ok y) good said) refl
+read_said P Q R say x value (Err refusal) before now pure read good bad said =
+    let told = said_fault (R x) say value refusal bad said in
+    read_then P (λ y. ValueOrFault (Q y) (R y) say) x (Err refusal) before now read (λ lasts. told) (ap is_read_failure told.2 ∙ pure told.0)

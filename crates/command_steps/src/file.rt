@@ -36,7 +36,7 @@ pub fn read_technology<S: Store>(alloc: Global, name: &str, store: &mut S) -> Re
     ensures words { is_usage_outcome result ≡ false }
 {
     let bytes = read_file(alloc, name, store)?;
-    Ok(read_tech(alloc, bytes.as_slice())?)
+    read_tech(alloc, bytes.as_slice()).map_err(Refusal::Tech)
 }
 
 /// The name of a file: a name with an ending.

@@ -38,7 +38,7 @@ fn flat_of<'b>(alloc: Global, bump: &'b Bump, layout: &LayoutInput) -> Result<Fl
     ensures read { is_read_failed result ≡ false }
     ensures words { is_usage_outcome result ≡ false }
 {
-    Ok(flatten(alloc, bump, &layout.lib, &layout.tech, &layout.top)?)
+    flatten(alloc, bump, &layout.lib, &layout.tech, &layout.top).map_err(Refusal::Flatten)
 }
 
 /// The flat shapes of the structure alone, in the arena.
@@ -57,7 +57,8 @@ fn shapes_of<'b, S: Sorter>(
     ensures read { is_read_failed result ≡ false }
     ensures words { is_usage_outcome result ≡ false }
 {
-    Ok(flatten_shapes_by(sorter, alloc, bump, &layout.lib, &layout.tech, &layout.top)?)
+    let flat = flatten_shapes_by(sorter, alloc, bump, &layout.lib, &layout.tech, &layout.top);
+    flat.map_err(Refusal::Flatten)
 }
 
 /// The labels of a flat layout with their nets.
@@ -117,7 +118,7 @@ fn rows_of(alloc: Global, layout: &LayoutInput, deck: &Deck) -> Result<Rows, Ref
     ensures words { is_usage_outcome result ≡ false }
 {
     let leaves = cells_of(alloc, layout.tech.roles.as_slice())?;
-    Ok(flat_rows(alloc, deck, &layout.top, &leaves)?)
+    flat_rows(alloc, deck, &layout.top, &leaves).map_err(Refusal::Rows)
 }
 
 /// The report of the rules over the structure. Its labels play no part in it.

@@ -52,7 +52,7 @@ fn read_library<S: Store>(alloc: Global, name: &str, store: &mut S) -> Result<Li
     ensures words { is_usage_outcome result ≡ false }
 {
     let bytes = read_file(alloc, name, store)?;
-    Ok(read_gds(alloc, bytes.as_slice())?)
+    read_gds(alloc, bytes.as_slice()).map_err(Refusal::Gds)
 }
 
 fn read_deck<S: Store>(alloc: Global, name: &str, store: &mut S) -> Result<Deck, Refusal>
@@ -60,7 +60,7 @@ fn read_deck<S: Store>(alloc: Global, name: &str, store: &mut S) -> Result<Deck,
     ensures words { is_usage_outcome result ≡ false }
 {
     let bytes = read_file(alloc, name, store)?;
-    Ok(read_spice(alloc, bytes.as_slice())?)
+    read_spice(alloc, bytes.as_slice()).map_err(Refusal::Spice)
 }
 
 fn read_layout<S: Store>(

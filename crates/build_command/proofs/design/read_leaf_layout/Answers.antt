@@ -1,8 +1,10 @@
-use Rattle.std.proofs.Common.{Ok, Err, refl}
+use Rattle.std.proofs.Common.{refl}
 use Rattle.std.specs.Prelude.{codes, ◌++◌}
 use Rattle.std.proofs.lemmas.Result.{err_from_is_err_and}
+use Rattle.gds_library.specs.FirstFault.{IsFaultOf}
+use Rattle.gds_library.specs.Grammar.{Spells}
 use Rattle.reply_lines.specs.declared.refusal.Refusal.TheVariants.{Gds}
-use Rattle.command_steps.proofs.OutcomeLaws.{read_then, read_ends}
+use Rattle.command_steps.proofs.OutcomeLaws.{read_said, read_ends}
 use Rattle.command_steps.specs.File.{IsFile}
 use Rattle.build_command.specs.Design.{IsLeafLibrary}
 use Rattle.build_command.proofs.design.read_leaf_layout.Goals as goal
@@ -14,18 +16,11 @@ returns-in_err-bytes-clause-read g c =
     let now = g.S.Store.state c.read_under.new.store in
     rw (p.1, p.2) (read_ends (λ files. IsFile files (c.args.name.now ++ codes ".gds")) (λ files. IsLeafLibrary) c.in_err-bytes.field-0.0 before now c.in_err-bytes.ensures.read)
 
-pub returns-in_err-read_gds-clause-read : goal.returns-in_err-read_gds-clause-read
-returns-in_err-read_gds-clause-read g c =
-    let p = err_from_is_err_and c.from_residual-in_err-read_gds.result c.from_residual-in_err-read_gds.ensures.1 in
-    let fault = c.in_err-read_gds.field-0.0 in
-    let before = g.S.Store.state c.args.store.now in
-    let now = g.S.Store.state c.read_under.new.store in
-    let first = rw c.as_slice.ensures at c.in_err-read_gds.ensures.first in
-    rw (p.1, p.2) (read_then (λ files. IsFile files (c.args.name.now ++ codes ".gds")) IsLeafLibrary c.in_ok-bytes.bytes (Err (Gds fault)) before now c.in_ok-bytes.ensures.read (λ lasts. (fault, first, refl)) refl)
-
 pub returns-clause-read : goal.returns-clause-read
 returns-clause-read g c =
     let before = g.S.Store.state c.args.store.now in
     let now = g.S.Store.state c.read_under.new.store in
-    let spelled = rw c.as_slice.ensures at c.in_ok-read_gds.ensures.read in
-    read_then (λ files. IsFile files (c.args.name.now ++ codes ".gds")) IsLeafLibrary c.in_ok-bytes.bytes (Ok c.in_ok-read_gds.field-0) before now c.in_ok-bytes.ensures.read spelled refl
+    let spelled = rw c.as_slice.ensures at c.read_gds.ensures.read in
+    let first = rw c.as_slice.ensures at c.read_gds.ensures.first in
+    read_said (λ files. IsFile files (c.args.name.now ++ codes ".gds")) Spells (λ bytes fault. IsFaultOf fault bytes) Gds c.in_ok-bytes.bytes c.read_gds.result c.map_err.result before now (λ fault. refl)
+    c.in_ok-bytes.ensures.read spelled first c.map_err.ensures.cases
