@@ -1,6 +1,6 @@
-mod NearLaws
 pub mod NetlistLaws
 pub mod LayoutLaws
 pub mod AnswerLaws
 pub mod CountLaws
 mod CheckLaws
+mod FaultLaws

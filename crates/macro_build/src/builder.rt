@@ -42,7 +42,8 @@ pub fn build<R: Threads + Sync, G: Gate + Sync>(
     ensures fault { IfErr result (IsBuildFault order.now.kit.now order.now.plan.now (held_of order.now.contents)
         order.now.name.now) }
 {
-    let made = assemble_with(alloc, order.kit, order.plan, order.name, order.contents)?;
+    let assembled = assemble_with(alloc, order.kit, order.plan, order.name, order.contents);
+    let made = assembled.map_err(BuildFault::of_part)?;
     check_sound(rt, alloc, gate, order, &made, workers)?;
     Ok(views(alloc, order, &made)?)
 }

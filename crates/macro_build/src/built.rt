@@ -1,3 +1,6 @@
+ghost use Rattle.std.specs.Prelude.{◌≡◌};
+ghost use Rattle.macro_build.specs.Causes.{of_part, of_flatten};
+
 use cell_hierarchy::FlattenFault;
 use leaf_tables::PartFault;
 use net_extractor::NetDiff;
@@ -44,27 +47,21 @@ impl From<Memory> for BuildFault {
     }
 }
 
-impl From<PartFault> for BuildFault {
-    ghost use Rattle.std.specs.Prelude.{◌≡◌};
-    ghost use Rattle.macro_build.specs.Causes.{of_part};
-
-    ghost from_gives = { λ part fault. fault ≡ of_part part };
-
-    fn from(fault: PartFault) -> Self {
+impl BuildFault {
+    /// The fault of a build whose part can't be built. Want of memory stays what it is.
+    pub(crate) fn of_part(fault: PartFault) -> BuildFault
+        ensures { result ≡ of_part fault }
+    {
         match fault {
             PartFault::Memory => BuildFault::Memory,
             other => BuildFault::Part(other),
         }
     }
-}
 
-impl From<FlattenFault> for BuildFault {
-    ghost use Rattle.std.specs.Prelude.{◌≡◌};
-    ghost use Rattle.macro_build.specs.Causes.{of_flatten};
-
-    ghost from_gives = { λ flatten fault. fault ≡ of_flatten flatten };
-
-    fn from(fault: FlattenFault) -> Self {
+    /// The fault of a build whose macro has no flat layout. Want of memory stays what it is.
+    pub(crate) fn of_flatten(fault: FlattenFault) -> BuildFault
+        ensures { result ≡ of_flatten fault }
+    {
         match fault {
             FlattenFault::Memory => BuildFault::Memory,
             other => BuildFault::Flatten(other),

@@ -47,7 +47,8 @@ fn flat_of<'b, S: Sorter>(
     ensures fault { IfErr result (IsBuildFault order.now.kit.now order.now.plan.now (held_of order.now.contents)
         order.now.name.now) }
 {
-    Ok(flatten_by(sorter, alloc, bump, &made.lib, &order.kit.tech, order.name)?)
+    let flattened = flatten_by(sorter, alloc, bump, &made.lib, &order.kit.tech, order.name);
+    flattened.map_err(BuildFault::of_flatten)
 }
 
 /// The first difference of the nets of a flat layout from the macro's netlist.
