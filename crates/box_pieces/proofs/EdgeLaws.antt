@@ -6,9 +6,9 @@ use Rattle.std.proofs.lemmas.List.Elements.{Contains-append_right, Contains-appe
 use Rattle.std.proofs.lemmas.List.Sorted.{IsPermutation-sym, Contains-permutation}
 use Rattle.std.specs.List.Sorted.{IsPermutation}
 use Rattle.or_geom.specs.declared.shape.Rect.{Rect}
+use Rattle.or_geom.specs.declared.span.Span.{Span}
 use Rattle.or_geom.proofs.ListLaws.{contains_none, contains_cases, contains_first}
 use Rattle.box_pieces.specs.declared.edges.Axis.{Axis}
-use Rattle.box_pieces.specs.declared.edges.Span.{Span}
 use Rattle.box_pieces.specs.Edges.{low_of, high_of, IsPlaceBetween, IsPlaceWithin, HasNoEdge, HaveNoEdge, AreEdges, AddsBetween}
 
 pub one_between : (low high place : ℤ) (old new : List ℤ) → new ≡ old ++ place ∷ [] → IsPlaceBetween low high place → AddsBetween low high place old new

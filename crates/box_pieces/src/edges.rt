@@ -1,7 +1,7 @@
 ghost use Rattle.std.specs.Prelude.{◌≡◌, length, Contains, IfOk, OnOk, MatchOption};
 ghost use Rattle.box_pieces.specs.Edges.{AddsBetween, AreEdges, HaveNoEdge, IsPlaceWithin, low_of, high_of};
 
-use or_geom::{Memory, Rect};
+use or_geom::{Memory, Rect, Span};
 use std::alloc::Global;
 
 /// The direction in which something is measured.
@@ -13,27 +13,14 @@ pub enum Axis {
     Upward,
 }
 
-/// What a rectangle takes of an axis.
-#[derive(Clone, Copy)]
-pub struct Span {
-    pub low: i64,
-    pub high: i64,
-}
-
 /// What the rectangle takes of the axis.
 pub fn span_of(axis: Axis, rect: Rect) -> Span
     ensures low { result.low ≡ low_of axis rect }
     ensures high { result.high ≡ high_of axis rect }
 {
     match axis {
-        Axis::Across => Span {
-            low: rect.x1,
-            high: rect.x2,
-        },
-        Axis::Upward => Span {
-            low: rect.y1,
-            high: rect.y2,
-        },
+        Axis::Across => Span::across(rect),
+        Axis::Upward => Span::upward(rect),
     }
 }
 

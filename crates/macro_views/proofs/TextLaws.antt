@@ -6,6 +6,7 @@ use Rattle.std.specs.List.{range_with_len}
 use Rattle.std.proofs.lemmas.List.{append-nil}
 use Rattle.std.proofs.lemmas.List.Concat.{flat_map-append}
 use Rattle.or_geom.proofs.ListLaws.{rest_at}
+use Rattle.or_geom.proofs.RangeLaws.{range_more}
 use Rattle.macro_views.specs.Lines.{text_of_lines}
 
 -- one text more
@@ -37,10 +38,6 @@ text_append (x ∷ xs) ys = ap (λ (l : List ℕ). x ++ 10 ∷ l) (text_append x
 pub text_flat_map : {X : Type 0} (f : X → List (List ℕ)) (xs : List X) → text_of_lines (flat_map f xs) ≡ flat_map (λ x. text_of_lines (f x)) xs
 text_flat_map f [] = refl
 text_flat_map f (x ∷ xs) = text_append (f x) (flat_map f xs) ∙ ap (λ (l : List ℕ). text_of_lines (f x) ++ l) (text_flat_map f xs)
-
-range_more : (a n j : ℕ) → a + n ≡ j → range_with_len a (suc n) ≡ range_with_len a n ++ j ∷ []
-range_more a zero j e = let same : a ≡ j = omega arith in ap (λ (k : ℕ). k ∷ []) same
-range_more a (suc n) j e = ap (λ (l : List ℕ). a ∷ l) (range_more (a + 1) n j (omega arith))
 
 -- the text of one number more
 pub numbers_more : (f : ℕ → List ℕ) (n : ℕ) → flat_map f (range_with_len 0 (n + 1)) ≡ flat_map f (range_with_len 0 n) ++ f n

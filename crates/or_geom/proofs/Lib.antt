@@ -1,5 +1,6 @@
 pub mod ListLaws
 pub mod NumberingLaws
+pub mod RangeLaws
 pub mod CountLaws
 pub mod NameLaws
 pub mod LeastLaws

@@ -3,7 +3,7 @@ use Rattle.std.proofs.Common.{◌≡◌, ◌⊎◌, inl, inr, ℕ, zero, suc, �
 use Rattle.std.specs.Prelude.{Contains, slice_get, slice_index_or, is_some, reverse}
 use Rattle.std.specs.List.{AllByRecursion, cons_option}
 use Rattle.std.proofs.lemmas.Bool.{cases_lt}
-use Rattle.std.proofs.lemmas.Option.{same_Some, slice_get_within, get_or_from_slice_get}
+use Rattle.std.proofs.lemmas.Option.{same_Some, slice_get_within, slice_get-get_or, get_or_from_slice_get}
 use Rattle.std.proofs.lemmas.List.{get_or-map, length-map, at_drop_more, reverse-append}
 use Rattle.std.proofs.lemmas.List.Elements.{All-from_recursion, All-contains}
 
@@ -56,6 +56,10 @@ never_empty (x ∷ xs) y ys e = cc
 -- the list from a place on
 pub rest_at : {X : Type 0} (xs : List X) (k : ℕ) (x : X) → k < length xs → x ≡ get_or xs k x → drop k xs ≡ x ∷ drop (k + 1) xs
 rest_at {X} xs k x lt is = at_drop_more (λ (l : List X). l) xs k x lt ∙ ap (λ (z : X). z ∷ drop (k + 1) xs) (sym is)
+
+-- the same, whatever is read where there is none
+pub rest_item : {X : Type 0} (xs : List X) (k : ℕ) (d : X) → k < length xs → drop k xs ≡ get_or xs k d ∷ drop (k + 1) xs
+rest_item xs k d lt = rest_at xs k (get_or xs k d) lt (sym (get_or_from_slice_get xs k (get_or xs k d) (get_or xs k d) (slice_get-get_or xs k d lt)))
 
 pub reverse_push : {X : Type 0} (xs : List X) (x : X) → reverse (xs ++ x ∷ []) ≡ x ∷ reverse xs
 reverse_push xs x = reverse-append xs (x ∷ [])

@@ -27,3 +27,4 @@ pub use name::Name;
 pub use one_list::sets_are_one_list;
 pub use place::{Orient, Place};
 pub use shape::{Point, Rect, Shape};
+pub use span::Span;

@@ -9,7 +9,8 @@ use Rattle.std.proofs.lemmas.List.Folds.{list_all-append}
 use Rattle.sram_plan.specs.declared.numbers.Plan.{Plan}
 use Rattle.rom_data.specs.Hex.{hex_digit_count, hex_digits}
 use Rattle.rom_data.specs.RomVerilog.{content_line, content_lines, initial_lines, rom_header_lines, rom_size_lines, rom_declaration_lines, rom_clock_lines, rom_text}
-use Rattle.verilog_modules.specs.Tokens.{is_word_byte, tokens_of, with_head}
+use Rattle.or_geom.specs.Texts.{is_word_byte}
+use Rattle.verilog_modules.specs.Tokens.{tokens_of, with_head}
 use Rattle.verilog_modules.specs.Grammar.{joined, one_token, hex_token, setting_tokens, initial_tokens, parameter_tokens, declaration_tokens, always_tokens, module_tokens}
 use Rattle.verilog_modules.specs.Names.{is_hex_digit}
 use Rattle.verilog_modules.proofs.TokenLaws.{IsWord, word_ends, flat_append}

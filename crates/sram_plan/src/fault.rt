@@ -1,6 +1,6 @@
 use or_geom::{Memory, Name};
 use thiserror::Error;
-use toml_keys::KeyFault;
+use toml_keys::{KeyFault, KeyProblem};
 
 /// Why a file is no configuration.
 #[derive(Debug, Drop, Error)]
@@ -25,28 +25,6 @@ pub enum ConfigFault {
     Memory,
 }
 
-impl KeyFault for ConfigFault {
-    ghost use Rattle.sram_plan.specs.Fault.{config_faults};
-
-    ghost faults = { config_faults };
-
-    fn missing(key: Name) -> Self {
-        ConfigFault::Missing { key }
-    }
-
-    fn wrong_kind(key: Name) -> Self {
-        ConfigFault::WrongKind { key }
-    }
-
-    fn out_of_range(key: Name) -> Self {
-        ConfigFault::OutOfRange { key }
-    }
-
-    fn out_of_memory() -> Self {
-        ConfigFault::Memory
-    }
-}
-
 impl From<Memory> for ConfigFault {
     ghost use Rattle.std.specs.Prelude.{◌≡◌};
     ghost use Rattle.sram_plan.specs.declared.fault.ConfigFault.TheVariants as config_fault;
@@ -54,6 +32,24 @@ impl From<Memory> for ConfigFault {
     ghost from_gives = { λ _ e. e ≡ config_fault.Memory };
 
     fn from(_: Memory) -> Self {
+        ConfigFault::Memory
+    }
+}
+
+impl KeyFault for ConfigFault {
+    ghost use Rattle.sram_plan.specs.Fault.{config_faults};
+
+    ghost faults = { config_faults };
+
+    fn of_key(problem: KeyProblem, key: Name) -> Self {
+        match problem {
+            KeyProblem::Missing => ConfigFault::Missing { key },
+            KeyProblem::WrongKind => ConfigFault::WrongKind { key },
+            KeyProblem::OutOfRange => ConfigFault::OutOfRange { key },
+        }
+    }
+
+    fn out_of_memory() -> Self {
         ConfigFault::Memory
     }
 }

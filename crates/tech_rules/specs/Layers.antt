@@ -1,8 +1,9 @@
 -- The layers of a technology, and layers by name.
-use Rattle.std.specs.Prelude.{ℕ, ℤ, pos, ◌==◌, ◌&&◌, ◌||◌, not, nat_le, Bool, List, [], ◌∷◌, length, position, Option, Some, None, option_and_then, Result, Ok, Err, if◌then◌else◌, codes}
+use Rattle.std.specs.Prelude.{ℕ, ℤ, pos, ◌&&◌, not, nat_le, Bool, List, [], ◌∷◌, length, position, Option, Some, None, option_and_then, Result, Ok, Err, if◌then◌else◌, codes}
 use Rattle.std.specs.List.{list_all, list_any}
 use Rattle.std.specs.Option.{ok_or}
 use Rattle.std.specs.Str.{bytes_eq}
+use Rattle.or_geom.specs.Texts.{is_word_byte}
 use Rattle.toml.specs.Data.{Data, as_integer}
 use Rattle.tech_rules.specs.declared.fault.TechFault.{TechFault}
 use Rattle.tech_rules.specs.declared.fault.TechFault.TheVariants.{UnknownLayer}
@@ -10,10 +11,6 @@ use Rattle.tech_rules.specs.declared.layers.GdsNumbers.{GdsNumbers}
 use Rattle.tech_rules.specs.declared.tech.Layer.{Layer}
 use Rattle.toml_keys.specs.Fault.{◌>>=◌, in_turn}
 use Rattle.toml_keys.specs.Keys.{Section, key_in, item_section, text_under, array_of, tables_under, is_integer, in_range, has_key, out_of_range}
-
--- a letter, a digit or an underscore
-abbrev pub is_word_byte : ℕ → Bool
-is_word_byte b = ((nat_le 48 b && nat_le b 57) || (nat_le 65 b && nat_le b 90)) || ((nat_le 97 b && nat_le b 122) || b == 95)
 
 -- 1 to 32 of them
 abbrev pub is_word : List ℕ → Bool

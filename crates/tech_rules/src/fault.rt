@@ -1,6 +1,6 @@
 use or_geom::{Memory, Name};
 use thiserror::Error;
-use toml_keys::KeyFault;
+use toml_keys::{KeyFault, KeyProblem};
 
 /// Why a file is no technology. A `key` is written with dots, and with the indices, from 0, of the tables of an array:
 /// `layer.2.gds`.
@@ -34,16 +34,12 @@ impl KeyFault for TechFault {
 
     ghost faults = { tech_faults };
 
-    fn missing(key: Name) -> Self {
-        TechFault::Missing { key }
-    }
-
-    fn wrong_kind(key: Name) -> Self {
-        TechFault::WrongKind { key }
-    }
-
-    fn out_of_range(key: Name) -> Self {
-        TechFault::OutOfRange { key }
+    fn of_key(problem: KeyProblem, key: Name) -> Self {
+        match problem {
+            KeyProblem::Missing => TechFault::Missing { key },
+            KeyProblem::WrongKind => TechFault::WrongKind { key },
+            KeyProblem::OutOfRange => TechFault::OutOfRange { key },
+        }
     }
 
     fn out_of_memory() -> Self {

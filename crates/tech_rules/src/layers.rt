@@ -4,7 +4,8 @@ ghost use Rattle.std.specs.Prelude.{◌≡◌, ◌≤◌, ◌<◌, [], map, leng
 ghost use Rattle.std.specs.List.{list_all, list_any};
 ghost use Rattle.toml.specs.View.{view};
 ghost use Rattle.toml_keys.specs.Fault.{MatchesUnless, in_turn};
-ghost use Rattle.tech_rules.specs.Layers.{is_word_byte, is_word, is_named, name_under, short_in, pair_of};
+ghost use Rattle.or_geom.specs.Texts.{is_word_byte};
+ghost use Rattle.tech_rules.specs.Layers.{is_word, is_named, name_under, short_in, pair_of};
 ghost use Rattle.tech_rules.specs.Layers.{numbers_under, text_numbers, layer_of, layers_under, layer_index_of};
 ghost use Rattle.tech_rules.specs.Layers.{layer_under, layer_indices_of};
 ghost use Rattle.toml_keys.specs.Section.{section_of};

@@ -1,5 +1,7 @@
 -- The faults of a file of keys, and steps that may end in one.
 use Rattle.std.specs.Prelude.{◌≡◌, ◌≢◌, ℕ, List, [], ◌∷◌, ◌++◌, Result, Ok, Err, MatchResult}
+use Rattle.toml_keys.specs.declared.fault.KeyProblem.{KeyProblem}
+use Rattle.toml_keys.specs.declared.fault.KeyProblem.TheVariants.{Missing, WrongKind, OutOfRange}
 
 -- the fault of each kind, of the key that it names, and that of memory that ran out
 pub record KeyFaults (F : Type 0) : Type 0 where
@@ -7,6 +9,12 @@ pub record KeyFaults (F : Type 0) : Type 0 where
   pub wrong_kind : List ℕ → F
   pub out_of_range : List ℕ → F
   pub memory : F
+
+-- the fault that a key has this problem
+abbrev pub key_fault : {F : Type 0} → KeyFaults F → KeyProblem → List ℕ → F
+key_fault faults Missing key = faults.missing key
+key_fault faults WrongKind key = faults.wrong_kind key
+key_fault faults OutOfRange key = faults.out_of_range key
 
 -- one step and then another, unless the first ends in a fault
 infixl 10 ◌>>=◌

@@ -7,5 +7,5 @@ mod table;
 mod unknown;
 
 pub use document::document_from;
-pub use fault::KeyFault;
+pub use fault::{KeyFault, KeyProblem};
 pub use table::{KeyTable, in_range};

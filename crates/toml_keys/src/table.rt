@@ -10,7 +10,7 @@ ghost use Rattle.toml_keys.specs.Keys.{text_under, number_under, array_under, ar
 ghost use Rattle.toml_keys.specs.Keys.{tables_under, optional_tables, is_table, is_integer, as_list, in_range};
 ghost use Rattle.toml_keys.specs.Keys.{IsInRange, item_section, section_under, section_at};
 
-use crate::fault::KeyFault;
+use crate::fault::{KeyFault, KeyProblem};
 use crate::unknown::first_unknown;
 use or_geom::{Items, Memory, Name};
 use std::alloc::Global;
@@ -59,7 +59,7 @@ impl<'a, F: KeyFault> KeyTable<'a, F> {
         ensures { result ≢ F.faults.memory → result ≡ missing (section_of F.faults self.now) key.now }
     {
         match self.key(key) {
-            Ok(key) => F::missing(key),
+            Ok(key) => F::of_key(KeyProblem::Missing, key),
             Err(Memory) => F::out_of_memory(),
         }
     }
@@ -69,7 +69,7 @@ impl<'a, F: KeyFault> KeyTable<'a, F> {
         ensures { result ≢ F.faults.memory → result ≡ wrong_kind (section_of F.faults self.now) key.now }
     {
         match self.key(key) {
-            Ok(key) => F::wrong_kind(key),
+            Ok(key) => F::of_key(KeyProblem::WrongKind, key),
             Err(Memory) => F::out_of_memory(),
         }
     }
@@ -79,7 +79,7 @@ impl<'a, F: KeyFault> KeyTable<'a, F> {
         ensures { result ≢ F.faults.memory → result ≡ out_of_range (section_of F.faults self.now) key.now }
     {
         match self.key(key) {
-            Ok(key) => F::out_of_range(key),
+            Ok(key) => F::of_key(KeyProblem::OutOfRange, key),
             Err(Memory) => F::out_of_memory(),
         }
     }

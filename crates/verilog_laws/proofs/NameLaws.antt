@@ -4,7 +4,7 @@ use Rattle.std.specs.List.{list_all}
 use Rattle.std.specs.Prelude.{IsTrue}
 use Rattle.sram_plan.specs.Config.{is_identifier, is_name_char, is_letter_byte, is_output_name, starts_with_letter}
 use Rattle.sram_plan.specs.Keywords.{is_keyword}
-use Rattle.verilog_modules.specs.Tokens.{is_word_byte}
+use Rattle.or_geom.specs.Texts.{is_word_byte}
 use Rattle.verilog_modules.specs.Names.{is_name, starts_word, IsName}
 use Rattle.verilog_modules.proofs.TokenLaws.{IsWord}
 

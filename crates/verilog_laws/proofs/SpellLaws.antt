@@ -7,7 +7,8 @@ use Rattle.sram_plan.specs.declared.numbers.Plan.{Plan}
 use Rattle.macro_views.specs.Lines.{text_of_lines}
 use Rattle.macro_views.specs.Verilog.{verilog_text, header_lines, parameter_line, parameter_lines, declaration_lines, latch_lines, mask_lines, guard_line, choice_line, masked_lines, whole_lines, falling_edge_lines, size_lines}
 use Rattle.verilog_modules.specs.Tree.{Number}
-use Rattle.verilog_modules.specs.Tokens.{tokens_of, is_word_byte}
+use Rattle.or_geom.specs.Texts.{is_word_byte}
+use Rattle.verilog_modules.specs.Tokens.{tokens_of}
 use Rattle.verilog_modules.specs.Grammar.{module_tokens, parameter_tokens, declaration_tokens, always_tokens, body_tokens, joined, one_token}
 use Rattle.verilog_laws.specs.Memory.{memory_module, module_of, parameters, declarations, rising, falling, memory_ports, part_writes}
 use Rattle.verilog_modules.proofs.TokenLaws.{IsWord, word_ends, line_ends, flat_append, decimal_word}

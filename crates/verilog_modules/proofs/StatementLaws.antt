@@ -6,7 +6,7 @@ use Rattle.std.specs.Fmt.{decimal, digits, digits_onto, digit_glyph}
 use Rattle.std.specs.Str.Parse.{digits_value}
 use Rattle.std.proofs.lemmas.Fmt.{decimal_is_IsNumeral_wide}
 use Rattle.verilog_modules.specs.Tree.{Expression, Whole, Element, BitOf, PartOf, Target, ToRegister, ToWord, ToPart, Term, Statement, Assign, If, Block, Statements, Done, Then}
-use Rattle.verilog_modules.specs.Tokens.{is_word_byte}
+use Rattle.or_geom.specs.Texts.{is_word_byte}
 use Rattle.verilog_modules.specs.Grammar.{expression_tokens, target_tokens, term_tokens, joined, statement_tokens, body_tokens}
 use Rattle.verilog_modules.specs.Names.{is_name, starts_word, IsName, IsNumber, IsNamedExpression, IsNamedTarget, IsNamedTerm, IsNamedStatement, IsNamedBody}
 use Rattle.sram_plan.specs.Keywords.{is_keyword}

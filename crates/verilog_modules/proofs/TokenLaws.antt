@@ -3,7 +3,8 @@ use Rattle.std.proofs.Common.{◌≡◌, ℕ, zero, suc, ◌+◌, ◌/◌, ◌%�
 use Rattle.std.specs.Prelude.{◌==◌}
 use Rattle.std.specs.List.{list_all}
 use Rattle.std.specs.Fmt.{decimal, digits, digits_onto, digit_glyph}
-use Rattle.verilog_modules.specs.Tokens.{is_blank, is_word_byte, are_joined, joins_next, with_head, put, tokens_of}
+use Rattle.or_geom.specs.Texts.{is_word_byte}
+use Rattle.verilog_modules.specs.Tokens.{is_blank, are_joined, joins_next, with_head, put, tokens_of}
 
 -- a word of a text
 pub record IsWord (name : List ℕ) : Type 0 where

@@ -3,7 +3,8 @@ use Rattle.std.specs.Prelude.{◌≡◌, ℕ, ◌<◌, ◌^◌, List, [], ◌∷
 use Rattle.std.specs.List.{list_all, AllByRecursion}
 use Rattle.sram_plan.specs.Keywords.{is_keyword}
 use Rattle.verilog_modules.specs.Tree.{Range, Single, Wide, Amount, Number, PowerOf, Parameter, Declaration, Input, Output, Register, Memory, Setting, Expression, Whole, Element, BitOf, PartOf, Target, ToRegister, ToWord, ToPart, Term, Statement, Assign, If, Block, Statements, Done, Then, Always, Module}
-use Rattle.verilog_modules.specs.Tokens.{is_word_byte, tokens_of}
+use Rattle.or_geom.specs.Texts.{is_word_byte}
+use Rattle.verilog_modules.specs.Tokens.{tokens_of}
 use Rattle.verilog_modules.specs.Grammar.{module_tokens}
 
 -- it begins with no digit (2.7)

@@ -1,14 +1,11 @@
 -- The tokens of a text, by clause 2 of IEEE 1364-2001. A text with a comment, a string, a directive, an escaped name, a name with $ or a
 -- carriage return has tokens that no module of this language has.
 use Rattle.std.specs.Prelude.{ℕ, List, [], ◌∷◌, Bool, false, ◌||◌, ◌&&◌, nat_le, nat_eq, if◌then◌else◌}
+use Rattle.or_geom.specs.Texts.{is_word_byte}
 
 -- space, tab, line feed, form feed (2.2)
 abbrev pub is_blank : ℕ → Bool
 is_blank b = nat_eq b 32 || (nat_eq b 10 || (nat_eq b 9 || nat_eq b 12))
-
--- a letter, a digit or _, of a name, a keyword or a number (2.5, 2.7)
-abbrev pub is_word_byte : ℕ → Bool
-is_word_byte b = (nat_le 97 b && nat_le b 122) || ((nat_le 65 b && nat_le b 90) || ((nat_le 48 b && nat_le b 57) || nat_eq b 95))
 
 -- Two bytes beside each other are of one token: in words and numbers, in the operators <=, << and && (2.4), and an apostrophe with the base and
 -- the digits behind it (2.5.1).
