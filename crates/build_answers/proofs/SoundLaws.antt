@@ -7,6 +7,7 @@ use Rattle.tech_rules.specs.declared.tech.Rule.{Rule}
 use Rattle.tech_rules.specs.declared.tech.Rule.TheVariants.{Enclose, Space, Width}
 use Rattle.cell_hierarchy.specs.FlatLists.{AreFlatLists}
 use Rattle.cell_hierarchy.specs.Plain.{FlatLists}
+use Rattle.cell_hierarchy.proofs.FlatNearLaws.{flat_near}
 use Rattle.tile_checker.specs.Minimum.{HasMinimum}
 use Rattle.tile_checker.specs.RuleReport.{IsReport}
 use Rattle.tile_checker.specs.declared.violation.Violation.{Violation}
@@ -18,7 +19,6 @@ use Rattle.sram_rows.specs.Rows.{RowsEqualNetlist}
 use Rattle.port_lists.specs.Held.{Held}
 use Rattle.leaf_tables.specs.declared.kit.Kit.{Kit}
 use Rattle.leaf_tables.specs.Kits.{IsKit}
-use Rattle.kit_rules.proofs.NearLaws.{flat_near}
 use Rattle.sram_macro.specs.declared.assembly.Macro.{Macro}
 use Rattle.sram_macro.specs.Macro.{IsMacro}
 use Rattle.sram_macro.proofs.MemoryLaws.{netlist_of}

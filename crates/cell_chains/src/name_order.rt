@@ -1,7 +1,7 @@
-ghost use Rattle.std.specs.Prelude.{◌≡◌, ◌<◌, ◌↔◌, ℕ, Contains, length, map, IfOk};
+ghost use Rattle.std.specs.Prelude.{◌≡◌, ◌<◌, length, map, IfOk};
 ghost use Rattle.std.specs.List.{range_with_len};
 ghost use Rattle.std.specs.List.Sorted.{IsPermutation};
-ghost use Rattle.cell_chains.specs.Ordered.{element_index, AreIndices, AreAllBelow};
+ghost use Rattle.cell_chains.specs.Ordered.{element_index, AreIndices};
 
 use crate::instance::reference_name;
 use gds_library::Element;
@@ -16,7 +16,8 @@ pub struct NamedElement {
     pub index: usize,
 }
 
-/// The name of the element at an index, with that.
+/// The element at this index, with the name by which it is sorted: a reference's own, else `#` and the index, with
+/// which the names of an array's items begin.
 fn named_element(alloc: Global, elements: &[Element], index: usize) -> Result<NamedElement, Memory>
     requires { index < length elements.now }
     ensures { IfOk result (λ element. element_index element ≡ index) }
@@ -47,7 +48,7 @@ fn named_elements(
     Ok(named)
 }
 
-/// Sorts elements by their names.
+/// Sorts elements by their names. That they come in this order is not promised, only that they are the same elements.
 fn sort_by_name(named: &mut Vec<NamedElement>)
     ensures { IsPermutation named.old.items named.new.items }
 {
@@ -65,8 +66,8 @@ fn indices_of(alloc: Global, named: &[NamedElement]) -> Result<Vec<usize>, Memor
     Ok(indices)
 }
 
-/// The indices of elements that refer to structures, in the order of the instances' names: who walks a structure in this
-/// order comes upon paths in their order. Nothing is claimed of the order.
+/// The indices of references and arrays, sorted by the names of their instances: a walk in this order gathers labels
+/// mostly in the order of their paths, which then take less time to sort. Nothing is claimed of the order.
 pub fn by_name(alloc: Global, elements: &[Element], indices: &[usize]) -> Result<Vec<usize>, Memory>
     requires { AreIndices elements.now indices.now }
     ensures { IfOk result (λ ordered. IsPermutation indices.now ordered.items) }
@@ -101,13 +102,13 @@ fn counted(alloc: Global, count: u16) -> Result<Vec<u16>, Memory>
     Ok(numbers)
 }
 
-/// The numbers below `count`, for the columns or rows of an array; where that is asked for in the order of their decimal
-/// texts, which is that of the items' names. Nothing is claimed of the order.
-pub fn numbers_below(alloc: Global, count: u16, as_texts: bool) -> Result<Vec<u16>, Memory>
-    ensures { IfOk result (λ numbers. AreAllBelow count numbers.items) }
+/// Each number below `count` once, for the columns or rows of an array. With `in_text_order` they are sorted by their
+/// decimal texts, since the names of an array's items sort by these. Nothing is claimed of the order.
+pub fn numbers_below(alloc: Global, count: u16, in_text_order: bool) -> Result<Vec<u16>, Memory>
+    ensures { IfOk result (λ numbers. IsPermutation (range_with_len 0 count) numbers.items) }
 {
     let mut numbers = counted(alloc, count)?;
-    if as_texts {
+    if in_text_order {
         numbers.sort_unstable_by_key(|n| text_rank(*n));
     }
     Ok(numbers)

@@ -41,13 +41,15 @@ pub record AtListed (P : ℕ → Thing → Type 0) (list : List ℕ) (i : ℕ) (
   pub is : slice_get list i ≡ Some n
   pub has : P n x
 
-pub listed_below : (count : ℕ) (list : List ℕ) (i n : ℕ) → i < length list → n ≡ get_or list i n → AreAllBelow count list → n < count
-listed_below count list i n lt read all = (all n).0 (i, lt, sym read)
+pub listed_at : (list : List ℕ) (i n : ℕ) → i < length list → n ≡ get_or list i n → slice_get list i ≡ Some n
+listed_at list i n lt read = slice_get_read list _ i n refl lt read
 
-pub grows_listed : (P : ℕ → Thing → Type 0) (list : List ℕ) (i n : ℕ) (old now next : Gathered) → i < length list → n ≡ get_or list i n → GatheredGrows old now (SomeBelow (AtListed P list) i) → GatheredGrows now next (P n)
+pub listed_below : (count : ℕ) (list : List ℕ) (i n : ℕ) → slice_get list i ≡ Some n → AreAllBelow count list → n < count
+listed_below count list i n at all = (all n).0 (contained_at list i n at)
+
+pub grows_listed : (P : ℕ → Thing → Type 0) (list : List ℕ) (i n : ℕ) (old now next : Gathered) → slice_get list i ≡ Some n → GatheredGrows old now (SomeBelow (AtListed P list) i) → GatheredGrows now next (P n)
     → GatheredGrows old next (SomeBelow (AtListed P list) (i + 1))
-grows_listed P list i n old now next lt read f g =
-    let at = slice_get_read list _ i n refl lt read in
+grows_listed P list i n old now next at f g =
     grows_on (AtListed P list) i old now next f
     (grows_as now next (P n) (AtListed P list i) (λ x h. record { n = n; is = at; has = h }) (λ x h. subst (λ (m : ℕ). P m x) (same_Some h.n n (sym h.is ∙ at)) h.has) g)
 

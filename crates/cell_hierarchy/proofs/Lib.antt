@@ -32,3 +32,4 @@ pub mod ListedLaws
 pub mod BoundedBelowLaws
 pub mod FlatLaws
 pub mod FlatShapeLaws
+pub mod FlatNearLaws

@@ -16,7 +16,7 @@ use Rattle.gds_library.specs.Writable.{IsWritableElement, IsWritableArray}
 use Rattle.element_drawing.specs.OwnShapes.{IsRectWithin, IsShapeWithin}
 use Rattle.cell_chains.specs.Instances.{Item, HasItem, item_place}
 use Rattle.cell_hierarchy.specs.FlatSet.{IsMoved}
-use Rattle.cell_hierarchy.specs.declared.grid.ArrayGrid.{ArrayGrid}
+use Rattle.cell_hierarchy.specs.declared.grid.ItemGrid.{ItemGrid}
 use Rattle.cell_hierarchy.proofs.StepLaws.{near_in}
 
 pub placed_within : (m n : ℕ) (place : Place) (p : Point) → IsWithin m p → IsWithin n place.at → IsWithin (m + n) (placed place p)
@@ -60,7 +60,7 @@ by_size (pos m) up = refl
 by_size (negsuc m) up = absurd (omega (arith, ints))
 
 -- where an item of an array stands
-grid_near : (grid : ArrayGrid) (columns rows : ℤ) → columns ≡ pos grid.columns → rows ≡ pos grid.rows → IsWritableArray grid.place columns rows grid.across grid.down → (column row : ℕ) → pos column <ℤ columns → pos row <ℤ rows
+grid_near : (grid : ItemGrid) (columns rows : ℤ) → columns ≡ pos grid.columns → rows ≡ pos grid.rows → IsWritableArray grid.place columns rows grid.across grid.down → (column row : ℕ) → pos column <ℤ columns → pos row <ℤ rows
     → IsWithin (2 ^ 33) (item_place grid.place column row grid.across grid.down).at
 grid_near grid columns rows ec er w column row in_columns in_rows =
     let v = subst (λ (m : ℤ). IsWritableArray grid.place (pos grid.columns) m grid.across grid.down) er (subst (λ (m : ℤ). IsWritableArray grid.place m rows grid.across grid.down) ec w) in

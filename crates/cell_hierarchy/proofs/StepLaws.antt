@@ -1,4 +1,4 @@
--- AxisSteps of one length that lead from a short coordinate to another, and some of them.
+-- Steps of one length that lead from a short coordinate to another, and some of them.
 use Rattle.std.proofs.Common.{◌≡◌, ℕ, zero, suc, ◌+◌, ◌-◌, ◌<◌, ◌≤◌, ◌^◌, ℤ, pos, negsuc, ◌+ℤ◌, ◌*ℤ◌, ◌≤ℤ◌, w32, w64, FitsSigned, to_z, of_z, sym, ap, subst, ◌∙◌, arith}
 use Rattle.std.proofs.lemmas.Int.{ints, to_z-of_z}
 use Rattle.or_geom.specs.declared.shape.Point.{Point}
@@ -6,7 +6,7 @@ use Rattle.or_geom.specs.declared.place.Place.{Place}
 use Rattle.or_geom.specs.Place.{IsWithin, IsNearPoint}
 use Rattle.or_geom.proofs.PlaceLaws.{same_point}
 use Rattle.cell_hierarchy.specs.Grid.{IsShortWay, IsWritableGrid, IsSpotOf, place_in}
-use Rattle.cell_hierarchy.specs.declared.grid.ArrayGrid.{ArrayGrid}
+use Rattle.cell_hierarchy.specs.declared.grid.ItemGrid.{ItemGrid}
 use Rattle.cell_hierarchy.specs.declared.grid.Spot.{Spot}
 
 more : (c : ℕ) (z : ℤ) → pos (suc c) *ℤ z ≡ z +ℤ (pos c *ℤ z)
@@ -39,18 +39,18 @@ up_part at way rest whole e a b f g = record { above = omega (arith, ints); belo
 down_part : (at way rest whole : ℤ) → whole ≡ way +ℤ rest → way ≤ℤ pos 0 → rest ≤ℤ pos 0 → FitsSigned w32 at → FitsSigned w32 (at +ℤ whole) → IsPart at way whole
 down_part at way rest whole e a b f g = record { above = omega (arith, ints); below = omega (arith, ints); short = omega (arith, ints) }
 
-part_of : (at z : ℤ) (c d : ℕ) → FitsSigned w32 at → FitsSigned w32 (at +ℤ (pos (c + d) *ℤ z)) → IsPart at (pos c *ℤ z) (pos (c + d) *ℤ z)
-part_of at (pos m) c d f g =
+is_part : (at z : ℤ) (c d : ℕ) → FitsSigned w32 at → FitsSigned w32 (at +ℤ (pos (c + d) *ℤ z)) → IsPart at (pos c *ℤ z) (pos (c + d) *ℤ z)
+is_part at (pos m) c d f g =
     let up : pos 0 ≤ℤ pos m = omega (arith, ints) in
     up_part at (pos c *ℤ pos m) (pos d *ℤ pos m) (pos (c + d) *ℤ pos m) (both c d (pos m)) (rises c (pos m) up) (rises d (pos m) up) f g
-part_of at (negsuc m) c d f g =
+is_part at (negsuc m) c d f g =
     let down : negsuc m ≤ℤ pos 0 = omega (arith, ints) in
     down_part at (pos c *ℤ negsuc m) (pos d *ℤ negsuc m) (pos (c + d) *ℤ negsuc m) (both c d (negsuc m)) (falls c (negsuc m) down) (falls d (negsuc m) down) f g
 
 part : (at z : ℤ) (c n : ℕ) → c ≤ n → FitsSigned w32 at → FitsSigned w32 (at +ℤ (pos n *ℤ z)) → IsPart at (pos c *ℤ z) (pos n *ℤ z)
 part at z c n le f g =
     let e : c + (n - c) ≡ n = omega arith in
-    subst (λ (m : ℕ). IsPart at (pos c *ℤ z) (pos m *ℤ z)) e (part_of at z c (n - c) f (subst (λ (m : ℕ). FitsSigned w32 (at +ℤ (pos m *ℤ z))) (sym e) g))
+    subst (λ (m : ℕ). IsPart at (pos c *ℤ z) (pos m *ℤ z)) e (is_part at z c (n - c) f (subst (λ (m : ℕ). FitsSigned w32 (at +ℤ (pos m *ℤ z))) (sym e) g))
 
 one : (z : ℤ) → pos 1 *ℤ z ≡ z
 one z = omega (arith, ints)
@@ -91,30 +91,30 @@ near_end x y c d u v f g a b =
     record { x_above = omega (arith, ints); x_below = omega (arith, ints); y_above = omega (arith, ints); y_below = omega (arith, ints) }
 
 -- the ways of an array's items
-pub across_x : (grid : ArrayGrid) (spot : Spot) → IsWritableGrid grid → IsSpotOf grid spot → IsShortWay spot.column grid.across.x
+pub across_x : (grid : ItemGrid) (spot : Spot) → IsWritableGrid grid → IsSpotOf grid spot → IsShortWay spot.column grid.across.x
 across_x grid spot w s = short_way grid.place.at.x grid.across.x spot.column grid.columns s.in_columns w.at.x w.by_columns.x
 
-pub across_y : (grid : ArrayGrid) (spot : Spot) → IsWritableGrid grid → IsSpotOf grid spot → IsShortWay spot.column grid.across.y
+pub across_y : (grid : ItemGrid) (spot : Spot) → IsWritableGrid grid → IsSpotOf grid spot → IsShortWay spot.column grid.across.y
 across_y grid spot w s = short_way grid.place.at.y grid.across.y spot.column grid.columns s.in_columns w.at.y w.by_columns.y
 
-pub down_x : (grid : ArrayGrid) (spot : Spot) → IsWritableGrid grid → IsSpotOf grid spot → IsShortWay spot.row grid.down.x
+pub down_x : (grid : ItemGrid) (spot : Spot) → IsWritableGrid grid → IsSpotOf grid spot → IsShortWay spot.row grid.down.x
 down_x grid spot w s = short_way grid.place.at.x grid.down.x spot.row grid.rows s.in_rows w.at.x w.by_rows.x
 
-pub down_y : (grid : ArrayGrid) (spot : Spot) → IsWritableGrid grid → IsSpotOf grid spot → IsShortWay spot.row grid.down.y
+pub down_y : (grid : ItemGrid) (spot : Spot) → IsWritableGrid grid → IsSpotOf grid spot → IsShortWay spot.row grid.down.y
 down_y grid spot w s = short_way grid.place.at.y grid.down.y spot.row grid.rows s.in_rows w.at.y w.by_rows.y
 
-pub end_x : (grid : ArrayGrid) (spot : Spot) → IsWritableGrid grid → IsSpotOf grid spot → FitsSigned w32 (grid.place.at.x +ℤ (pos spot.column *ℤ grid.across.x))
+pub end_x : (grid : ItemGrid) (spot : Spot) → IsWritableGrid grid → IsSpotOf grid spot → FitsSigned w32 (grid.place.at.x +ℤ (pos spot.column *ℤ grid.across.x))
 end_x grid spot w s = short_end grid.place.at.x grid.across.x spot.column grid.columns s.in_columns w.at.x w.by_columns.x
 
-pub end_y : (grid : ArrayGrid) (spot : Spot) → IsWritableGrid grid → IsSpotOf grid spot → FitsSigned w32 (grid.place.at.y +ℤ (pos spot.column *ℤ grid.across.y))
+pub end_y : (grid : ItemGrid) (spot : Spot) → IsWritableGrid grid → IsSpotOf grid spot → FitsSigned w32 (grid.place.at.y +ℤ (pos spot.column *ℤ grid.across.y))
 end_y grid spot w s = short_end grid.place.at.y grid.across.y spot.column grid.columns s.in_columns w.at.y w.by_columns.y
 
-pub near_in : (grid : ArrayGrid) (spot : Spot) → IsWritableGrid grid → IsSpotOf grid spot → IsWithin (2 ^ 33) (place_in grid spot.column spot.row).at
+pub near_in : (grid : ItemGrid) (spot : Spot) → IsWritableGrid grid → IsSpotOf grid spot → IsWithin (2 ^ 33) (place_in grid spot.column spot.row).at
 near_in grid spot w s =
     near_end (grid.place.at.x +ℤ (pos spot.column *ℤ grid.across.x)) (grid.place.at.y +ℤ (pos spot.column *ℤ grid.across.y)) spot.row spot.row grid.down.x grid.down.y (end_x grid spot w s) (end_y grid spot w s)
     (down_x grid spot w s) (down_y grid spot w s)
 
-pub place_is : (grid : ArrayGrid) (spot : Spot) (ax ay x y : ℤ) → ax ≡ grid.place.at.x +ℤ (pos spot.column *ℤ grid.across.x) → ay ≡ grid.place.at.y +ℤ (pos spot.column *ℤ grid.across.y)
+pub place_is : (grid : ItemGrid) (spot : Spot) (ax ay x y : ℤ) → ax ≡ grid.place.at.x +ℤ (pos spot.column *ℤ grid.across.x) → ay ≡ grid.place.at.y +ℤ (pos spot.column *ℤ grid.across.y)
     → x ≡ ax +ℤ (pos spot.row *ℤ grid.down.x) → y ≡ ay +ℤ (pos spot.row *ℤ grid.down.y)
     → ◌≡◌ {A = Place} (record { orient = grid.place.orient; at = record { x = x; y = y } }) (place_in grid spot.column spot.row)
 place_is grid spot ax ay x y ex ey fx fy =

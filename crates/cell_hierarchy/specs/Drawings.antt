@@ -32,7 +32,7 @@ abbrev pub kept_labels : Bool → List PlainLabel → List PlainLabel
 kept_labels true labels = labels
 kept_labels false labels = []
 
--- what the elements draw themselves
+-- what the elements draw themselves: their shapes, their labels in some order (none where labels are not kept), and the points of all their labels in the order of the elements
 pub record IsDrawingOf (layers : List Layer) (kept : Bool) (elements : List Element) (drawing : OwnDrawing) : Type 0 where
   pub shapes : AreOwnShapes layers elements drawing.shapes.items
   pub labels : IsPermutation (kept_labels kept (own_labels layers elements)) (map plain_label drawing.labels.items)

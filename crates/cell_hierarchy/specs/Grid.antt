@@ -4,17 +4,17 @@ use Rattle.or_geom.specs.declared.shape.Point.{Point}
 use Rattle.or_geom.specs.declared.place.Place.{Place}
 use Rattle.gds_library.specs.Writable.{IsWritableArray}
 use Rattle.cell_chains.specs.Instances.{Item, array_name, item_place}
-use Rattle.cell_hierarchy.specs.declared.grid.ArrayGrid.{ArrayGrid}
+use Rattle.cell_hierarchy.specs.declared.grid.ItemGrid.{ItemGrid}
 use Rattle.cell_hierarchy.specs.declared.grid.Spot.{Spot}
 
-abbrev pub IsWritableGrid : ArrayGrid → Type 0
+abbrev pub IsWritableGrid : ItemGrid → Type 0
 IsWritableGrid grid = IsWritableArray grid.place (pos grid.columns) (pos grid.rows) grid.across grid.down
 
-pub record IsSpotOf (grid : ArrayGrid) (spot : Spot) : Type 0 where
+pub record IsSpotOf (grid : ItemGrid) (spot : Spot) : Type 0 where
   pub in_columns : spot.column < grid.columns
   pub in_rows : spot.row < grid.rows
 
-abbrev pub place_in : ArrayGrid → ℕ → ℕ → Place
+abbrev pub place_in : ItemGrid → ℕ → ℕ → Place
 place_in grid column row = item_place grid.place column row grid.across grid.down
 
 -- the item in this column and row of the array that is the element at index n

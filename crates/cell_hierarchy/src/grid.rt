@@ -7,7 +7,7 @@ use or_geom::{Place, Point};
 
 /// An array of references: `across` leads from one column to the next, `down` from one row to the next.
 #[derive(Clone, Copy)]
-pub struct ArrayGrid {
+pub struct ItemGrid {
     pub place: Place,
     pub columns: u16,
     pub rows: u16,
@@ -41,7 +41,7 @@ fn end_of(steps: AxisSteps) -> i64
 }
 
 /// The place of an array's item.
-pub fn place_at(grid: ArrayGrid, spot: Spot) -> Place
+pub fn place_at(grid: ItemGrid, spot: Spot) -> Place
     requires writable { IsWritableGrid grid }
     requires spot { IsSpotOf grid spot }
     ensures is { result ≡ place_in grid spot.column spot.row }

@@ -6,6 +6,7 @@ ghost use Rattle.cell_hierarchy.specs.LabelLaws.{flat_label_equivalence, flat_la
 use crate::flat::Label;
 use std::cmp::Ordering;
 
+/// Labels are equal where the order finds no difference, so that repetitions stand side by side once they are sorted.
 impl PartialEq for Label<'_> {
     ghost eq = { eq_by_cmp flat_label_order };
 

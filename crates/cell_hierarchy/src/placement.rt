@@ -8,7 +8,7 @@ ghost use Rattle.cell_hierarchy.specs.Grid.{IsWritableGrid, IsSpotOf, place_in};
 ghost use Rattle.cell_hierarchy.specs.Placed.{path_join, IsPlacedBelow};
 
 use crate::arena::text_in;
-use crate::grid::{ArrayGrid, Spot, place_at};
+use crate::grid::{ItemGrid, Spot, place_at};
 use bumpalo::Bump;
 use cell_chains::{array_name, reference_name};
 use gds_library::Prop;
@@ -74,7 +74,7 @@ pub fn item_below<'b>(
     keeps_labels: bool,
     outer: &Placement<'b>,
     n: usize,
-    grid: ArrayGrid,
+    grid: ItemGrid,
     spot: Spot,
 ) -> Result<Placement<'b>, Memory>
     requires outer { IsNearPoint outer.now.place.at }

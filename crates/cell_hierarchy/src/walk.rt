@@ -1,5 +1,6 @@
 ghost use Rattle.std.specs.Prelude.{◌≡◌, ◌<◌, ℕ, List, OnOk};
 ghost use Rattle.cell_chains.specs.Hierarchy.{IsCellOf};
+ghost use Rattle.cell_chains.specs.Ordered.{AreAllBelow};
 ghost use Rattle.cell_hierarchy.specs.Below.{SomeBelow};
 ghost use Rattle.cell_hierarchy.specs.Grid.{IsWritableGrid, IsSpotOf};
 ghost use Rattle.cell_hierarchy.specs.Things.{GatheredGrows};
@@ -7,7 +8,7 @@ ghost use Rattle.cell_hierarchy.specs.Parts.{IsCellTree, IsPlacedAt, IsBelowAt, 
 ghost use Rattle.cell_hierarchy.specs.Parts.{IsOfCellIn, IsOfArrayItem};
 
 use crate::gathered::Gathered;
-use crate::grid::{ArrayGrid, Spot};
+use crate::grid::{ItemGrid, Spot};
 use crate::own::add_own;
 use crate::placement::{Placement, item_below, reference_below};
 use crate::tree::Tree;
@@ -22,7 +23,14 @@ use std::alloc::Global;
 pub struct ArrayBelow {
     pub n: usize,
     pub target: usize,
-    pub grid: ArrayGrid,
+    pub grid: ItemGrid,
+}
+
+/// The items of a column of an array: the rows are those of the array, in the order in which the items are visited.
+#[derive(Clone, Copy)]
+struct ColumnItems<'a> {
+    column: u16,
+    rows: &'a [u16],
 }
 
 /// The element at index `n` of a cell, and the cell to which it refers.
@@ -98,7 +106,7 @@ fn add_element<'b>(
             down,
             ..
         } => {
-            let grid = ArrayGrid {
+            let grid = ItemGrid {
                 place: *place,
                 columns: columns.unsigned_abs(),
                 rows: rows.unsigned_abs(),
@@ -111,8 +119,8 @@ fn add_element<'b>(
     }
 }
 
-/// Adds what the items of an array take over, where its cell stands there. Where labels are kept the columns come in the
-/// order of the items' names, and so do the rows of each: labels are then mostly in order before they are sorted.
+/// Adds what the items of an array take over, where its cell stands there. Where labels are kept the columns come in
+/// the order of the items' names, and so do the rows of each: labels are then mostly in order before they are sorted.
 #[cycle(walk)]
 fn add_array<'b>(
     alloc: Global,
@@ -130,8 +138,13 @@ fn add_array<'b>(
         (λ column. SomeBelow (IsOfArrayItem tree.now at.now array name column) array.grid.rows) array.grid.columns)) }
 {
     let columns = numbers_below(alloc, array.grid.columns, tree.keeps_labels)?;
+    let rows = numbers_below(alloc, array.grid.rows, tree.keeps_labels)?;
     for i in 0..columns.len() {
-        add_column(alloc, bump, tree, array, columns[i], at, out)?;
+        let items = ColumnItems {
+            column: columns[i],
+            rows: &rows,
+        };
+        add_column(alloc, bump, tree, array, items, at, out)?;
     }
     Ok(())
 }
@@ -143,22 +156,23 @@ fn add_column<'b>(
     bump: &'b Bump,
     tree: &Tree<'_, 'b>,
     array: ArrayBelow,
-    column: u16,
+    items: ColumnItems<'_>,
     at: &Placement<'b>,
     out: &mut Gathered<'b>,
 ) -> Result<(), Memory>
     requires tree { IsCellTree tree.now }
     requires at { IsBelowAt tree.now array.target at.now }
     requires writable { IsWritableGrid array.grid }
-    requires in_grid { column < array.grid.columns }
+    requires in_grid { items.column < array.grid.columns }
+    requires rows { AreAllBelow array.grid.rows items.rows.now }
     ensures { OnOk result ((name : List ℕ) → IsCellOf tree.now.structs.now tree.now.cells.now array.target name
-        → GatheredGrows out.old out.new (SomeBelow (IsOfArrayItem tree.now at.now array name column) array.grid.rows)) }
+        → GatheredGrows out.old out.new (SomeBelow
+        (IsOfArrayItem tree.now at.now array name items.entry.column) array.grid.rows)) }
 {
-    let rows = numbers_below(alloc, array.grid.rows, tree.keeps_labels)?;
-    for i in 0..rows.len() {
+    for row in items.rows {
         let spot = Spot {
-            column,
-            row: rows[i],
+            column: items.column,
+            row: *row,
         };
         add_item(alloc, bump, tree, array, spot, at, out)?;
     }

@@ -4,7 +4,6 @@ pub mod PlaceLaws
 pub mod LookupLaws
 pub mod EntryLaws
 pub mod CompareLaws
-pub mod NearLaws
 pub mod FindLaws
 pub mod RoleLaws
 pub mod TerminalLaws

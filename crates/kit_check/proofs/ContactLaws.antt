@@ -12,9 +12,9 @@ use Rattle.cell_roles.specs.declared.role.Role.{Role}
 use Rattle.cell_roles.specs.Roles.{all_roles, role_ports}
 use Rattle.cell_hierarchy.specs.Plain.{FlatLists}
 use Rattle.cell_hierarchy.proofs.OneListsLaws.{shapes_of_lists}
+use Rattle.cell_hierarchy.proofs.FlatNearLaws.{flat_near}
 use Rattle.leaf_shapes.proofs.PinLaws.{exists_at}
 use Rattle.leaf_tables.specs.declared.kit.Kit.{Kit}
-use Rattle.kit_rules.proofs.NearLaws.{flat_near}
 use Rattle.leaf_nets.specs.declared.leaves.LooseLeaf.{LooseLeaf}
 use Rattle.leaf_nets.specs.Loose.{IsLoose}
 use Rattle.leaf_nets.specs.Leaves.{IsLooseLeaf, AreLooseLeaves}

@@ -1,6 +1,5 @@
 mod CommandLaws
 mod RunLaws
-mod NearLaws
 mod WorkLaws
 mod OneAnswer
 mod OneRunLaws

@@ -1,16 +1,19 @@
-use Rattle.std.proofs.Common.{◌<◌, ◌≤◌, inl, inr, length, get_or, List, sym, subst, ap, arith}
+use Rattle.std.proofs.Common.{ℕ, ◌<◌, ◌≤◌, inl, inr, length, get_or, List, sym, subst, ap, arith}
 use Rattle.std.specs.List.{AllByRecursion}
+use Rattle.std.proofs.lemmas.Option.{slice_get-get_or}
 use Rattle.std.proofs.lemmas.Result.{on_ok_weaker}
 use Rattle.gds_library.specs.declared.library.Prop.{Prop}
 use Rattle.gds_library.specs.declared.library.Element.TheVariants.{Boundary, Path, Sref, Aref, Text}
 use Rattle.gds_library.specs.Writable.{IsWritableProp}
 use Rattle.cell_chains.specs.Instances.{reference_name}
 use Rattle.cell_chains.specs.Hierarchy.{referred_name}
+use Rattle.cell_chains.specs.Ordered.{AreAllBelow}
+use Rattle.cell_chains.proofs.OrderedLaws.{permuted_all}
 use Rattle.cell_hierarchy.specs.Below.{SomeBelow}
 use Rattle.cell_hierarchy.specs.Parts.{IsOfArrayItem}
 use Rattle.cell_hierarchy.specs.Placed.{IsPlacedBelow}
 use Rattle.cell_hierarchy.proofs.BelowLaws.{whole_abs}
-use Rattle.cell_hierarchy.proofs.GrowsLaws.{listed_below, grows_listed, grows_all}
+use Rattle.cell_hierarchy.proofs.GrowsLaws.{listed_at, listed_below, grows_listed, grows_all}
 use Rattle.cell_hierarchy.proofs.NearLaws.{short_within, short_near}
 use Rattle.cell_hierarchy.proofs.StepLaws.{near_in}
 use Rattle.cell_hierarchy.proofs.WalkLaws.{walked_read, live_at, so_far_begin, so_far_on, cell_done, item_placed}
@@ -116,56 +119,57 @@ pub add_array-add_column-requires : goal.add_array-add_column-requires
 add_array-add_column-requires t c =
     let len = c.len-i-end.ensures in
     let below = c.loop-i-test.true in
-    let lt : c.loop-i.i < length c.in_ok-columns.columns.items = omega (arith, len, below) in (
+    let columns = c.in_ok-columns.columns.items in
+    let lt : c.loop-i.i < length columns = omega (arith, len, below) in
+    let at = listed_at columns c.loop-i.i c.index.result.now lt c.index.ensures in
+    let in_grid = listed_below c.args.array.grid.columns columns c.loop-i.i c.index.result.now at (permuted_all c.args.array.grid.columns columns c.in_ok-columns.ensures) in
+    let rows = subst (λ (l : List ℕ). AreAllBelow c.args.array.grid.rows l) (sym c.deref.ensures.value) (permuted_all c.args.array.grid.rows c.in_ok-rows.rows.items c.in_ok-rows.ensures) in (
       omega (arith, c.decreases),
-      (c.requires.tree, (c.requires.at, (c.requires.writable, listed_below c.args.array.grid.columns c.in_ok-columns.columns.items c.loop-i.i c.index.result.now lt c.index.ensures c.in_ok-columns.ensures))),
+      (c.requires.tree, (c.requires.at, (c.requires.writable, (in_grid, rows)))),
     )
 
 pub add_array-loop-i-preserved : goal.add_array-loop-i-preserved
 add_array-loop-i-preserved t c =
     let len = c.len-i-end.ensures in
     let below = c.loop-i-test.true in
-    let lt : c.loop-i.i < length c.in_ok-columns.columns.items = omega (arith, len, below) in
-    λ name named. grows_listed (λ column. SomeBelow (IsOfArrayItem c.args.tree.now c.args.at.now c.args.array name column) c.args.array.grid.rows) c.in_ok-columns.columns.items c.loop-i.i c.index.result.now _ _ _ lt c.index.ensures
-    (c.loop-i.invariant name named) (c.in_ok-add_column.ensures name named)
+    let columns = c.in_ok-columns.columns.items in
+    let lt : c.loop-i.i < length columns = omega (arith, len, below) in
+    let at = listed_at columns c.loop-i.i c.index.result.now lt c.index.ensures in
+    λ name named. grows_listed (λ column. SomeBelow (IsOfArrayItem c.args.tree.now c.args.at.now c.args.array name column) c.args.array.grid.rows) columns c.loop-i.i c.index.result.now _ _ _ at (c.loop-i.invariant name named)
+    (c.in_ok-add_column.ensures name named)
 
 pub add_array-returns : goal.add_array-returns
 add_array-returns t c =
     let len = c.len-i-end.ensures in
     let over = c.loop-i-test.false in
-    let le : length c.in_ok-columns.columns.items ≤ c.loop-i.i = omega (arith, len, over) in
-    λ name named. grows_all (λ column. SomeBelow (IsOfArrayItem c.args.tree.now c.args.at.now c.args.array name column) c.args.array.grid.rows) c.in_ok-columns.columns.items c.args.array.grid.columns c.loop-i.i _ _ le c.in_ok-columns.ensures
-    (c.loop-i.invariant name named)
+    let columns = c.in_ok-columns.columns.items in
+    let le : length columns ≤ c.loop-i.i = omega (arith, len, over) in
+    let all = permuted_all c.args.array.grid.columns columns c.in_ok-columns.ensures in
+    λ name named. grows_all (λ column. SomeBelow (IsOfArrayItem c.args.tree.now c.args.at.now c.args.array name column) c.args.array.grid.rows) columns c.args.array.grid.columns c.loop-i.i _ _ le all (c.loop-i.invariant name named)
 
 pub add_column-add_item-requires : goal.add_column-add_item-requires
 add_column-add_item-requires t c =
-    let len = c.len-i-end.ensures in
-    let below = c.loop-i-test.true in
-    let lt : c.loop-i.i < length c.in_ok-rows.rows.items = omega (arith, len, below) in (
+    let rows = c.args.items.rows.now in
+    let i = c.loop-row.row-index in
+    let row = get_or rows i 0 in
+    let in_rows = listed_below c.args.array.grid.rows rows i row (slice_get-get_or rows i 0 c.loop-row-test.true) c.requires.rows in (
       omega (arith, c.decreases),
-      (
-        c.requires.tree,
-        (
-          c.requires.at,
-          (c.requires.writable, record { in_columns = c.requires.in_grid; in_rows = listed_below c.args.array.grid.rows c.in_ok-rows.rows.items c.loop-i.i c.index.result.now lt c.index.ensures c.in_ok-rows.ensures }),
-        ),
-      ),
+      (c.requires.tree, (c.requires.at, (c.requires.writable, record { in_columns = c.requires.in_grid; in_rows = in_rows }))),
     )
 
-pub add_column-loop-i-preserved : goal.add_column-loop-i-preserved
-add_column-loop-i-preserved t c =
-    let len = c.len-i-end.ensures in
-    let below = c.loop-i-test.true in
-    let lt : c.loop-i.i < length c.in_ok-rows.rows.items = omega (arith, len, below) in
-    λ name named. grows_listed (IsOfArrayItem c.args.tree.now c.args.at.now c.args.array name c.args.column) c.in_ok-rows.rows.items c.loop-i.i c.index.result.now _ _ _ lt c.index.ensures (c.loop-i.invariant name named)
-    (c.in_ok-add_item.ensures name named)
+pub add_column-loop-row-preserved : goal.add_column-loop-row-preserved
+add_column-loop-row-preserved t c =
+    let rows = c.args.items.rows.now in
+    let i = c.loop-row.row-index in
+    let at = slice_get-get_or rows i 0 c.loop-row-test.true in
+    λ name named. grows_listed (IsOfArrayItem c.args.tree.now c.args.at.now c.args.array name c.args.items.column) rows i (get_or rows i 0) _ _ _ at (c.loop-row.invariant name named) (c.in_ok-add_item.ensures name named)
 
 pub add_column-returns : goal.add_column-returns
 add_column-returns t c =
-    let len = c.len-i-end.ensures in
-    let over = c.loop-i-test.false in
-    let le : length c.in_ok-rows.rows.items ≤ c.loop-i.i = omega (arith, len, over) in
-    λ name named. grows_all (IsOfArrayItem c.args.tree.now c.args.at.now c.args.array name c.args.column) c.in_ok-rows.rows.items c.args.array.grid.rows c.loop-i.i _ _ le c.in_ok-rows.ensures (c.loop-i.invariant name named)
+    let rows = c.args.items.rows.now in
+    let over = c.loop-row-test.false in
+    let le : length rows ≤ c.loop-row.row-index = omega (arith, over) in
+    λ name named. grows_all (IsOfArrayItem c.args.tree.now c.args.at.now c.args.array name c.args.items.column) rows c.args.array.grid.rows c.loop-row.row-index _ _ le c.requires.rows (c.loop-row.invariant name named)
 
 pub add_item-add_cell-requires : goal.add_item-add_cell-requires
 add_item-add_cell-requires t c = (

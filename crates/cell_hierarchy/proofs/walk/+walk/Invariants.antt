@@ -29,6 +29,6 @@ abbrev pub invariant-add_array-loop-i : goal.invariant-add_array-loop-i
 invariant-add_array-loop-i l =
     (name : List ℕ) → IsCellOf l.tree.structs.now l.tree.cells.now l.fn.array.target name → GatheredGrows l.fn.out l.out (SomeBelow (AtListed (λ column. SomeBelow (IsOfArrayItem l.tree l.at l.fn.array name column) l.fn.array.grid.rows) l.columns.items) l.i)
 
-abbrev pub invariant-add_column-loop-i : goal.invariant-add_column-loop-i
-invariant-add_column-loop-i l =
-    (name : List ℕ) → IsCellOf l.tree.structs.now l.tree.cells.now l.fn.array.target name → GatheredGrows l.fn.out l.out (SomeBelow (AtListed (IsOfArrayItem l.tree l.at l.fn.array name l.fn.column) l.rows.items) l.i)
+abbrev pub invariant-add_column-loop-row : goal.invariant-add_column-loop-row
+invariant-add_column-loop-row l =
+    (name : List ℕ) → IsCellOf l.tree.structs.now l.tree.cells.now l.fn.array.target name → GatheredGrows l.fn.out l.out (SomeBelow (AtListed (IsOfArrayItem l.tree l.at l.fn.array name l.fn.items.column) l.fn.items.rows.now) l.row-index)

@@ -7,7 +7,7 @@ use Rattle.cell_hierarchy.proofs.FlatLaws.{labels_are_few}
 use Rattle.cell_hierarchy.proofs.FlatShapeLaws.{shapes_are_few}
 use Rattle.cell_hierarchy.proofs.OneListsLaws.{shapes_of_lists}
 use Rattle.cell_hierarchy.proofs.OneSetLaws.{one_set}
-use Rattle.kit_rules.proofs.NearLaws.{flat_near}
+use Rattle.cell_hierarchy.proofs.FlatNearLaws.{flat_near}
 use Rattle.kit_check.proofs.judge.flat_of.Goals as goal
 
 pub returns-clause-reach : goal.returns-clause-reach

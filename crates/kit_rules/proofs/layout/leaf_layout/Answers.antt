@@ -4,8 +4,8 @@ use Rattle.cell_hierarchy.proofs.OneFaultLaws.{fault_or_lists}
 use Rattle.cell_hierarchy.proofs.TotalLaws.{one_total}
 use Rattle.cell_hierarchy.proofs.OneListsLaws.{shapes_of_lists}
 use Rattle.cell_hierarchy.proofs.OneSetLaws.{one_set}
+use Rattle.cell_hierarchy.proofs.FlatNearLaws.{flat_near}
 use Rattle.kit_rules.proofs.KitLaws.{flat_of_cell}
-use Rattle.kit_rules.proofs.NearLaws.{flat_near}
 use Rattle.kit_rules.proofs.layout.leaf_layout.Goals as goal
 
 pub unreachable-requires : goal.unreachable-requires
