@@ -18,8 +18,8 @@ use Rattle.cell_hierarchy.specs.FlatSet.{IsMoved}
 use Rattle.label_binding.specs.declared.anchor.Anchor.{Anchor}
 use Rattle.net_extractor.specs.PlainNetLabel.{PlainNetLabel}
 use Rattle.label_binding.specs.Binding.{IsUnder, Binds}
+use Rattle.label_binding.specs.BoundPlaces.{label_anchor}
 use Rattle.label_binding.proofs.OneBindingLaws.{binds_some}
-use Rattle.leaf_shapes.specs.Candidates.{anchor_at}
 use Rattle.sram_netlist.specs.Nets.{Net}
 use Rattle.sram_netlist.specs.Netlist.{role, ports}
 use Rattle.good_nets.specs.Drawn.{BindsFor}
@@ -37,7 +37,7 @@ module _ (connections : List Connect) (s : Source) (flat : FlatLists) (labels : 
   -- The label of the port that binds the inner shape in the cell by itself, its row, and what it binds in the macro.
   pub record IsBoundPort (i : Standing s) (n : Net) (inner shape : Shape) : Type 0 where
     pub label : PlainLabel
-    pub own : Binds (leaf_lists s i.leaf).shapes (anchor_at label) inner
+    pub own : Binds (leaf_lists s i.leaf).shapes (label_anchor label) inner
     pub under : IsUnder (record { layer = label.layer; at = placed i.place label.at }) shape
     pub row : RowPin
     pub listed : Contains rows row

@@ -19,10 +19,10 @@ use Rattle.cell_hierarchy.specs.Plain.{FlatLists}
 use Rattle.cell_hierarchy.specs.FlatLists.{AreFlatLists}
 use Rattle.cell_hierarchy.proofs.OneListsLaws.{one_pair}
 use Rattle.label_binding.specs.Binding.{Binds}
+use Rattle.label_binding.specs.BoundPlaces.{label_anchor}
 use Rattle.leaf_shapes.specs.declared.demand.Metal.TheVariants.{M1}
 use Rattle.leaf_shapes.specs.declared.fit.Fit.{Fit}
 use Rattle.leaf_shapes.specs.declared.fit.Fit.TheVariants.{LowerRail, UpperRail}
-use Rattle.leaf_shapes.specs.Candidates.{anchor_at}
 use Rattle.leaf_shapes.specs.Demands.{draw, role_demands}
 use Rattle.leaf_shapes.specs.Fits.{FitsCell}
 use Rattle.leaf_shapes.specs.Pins.{CellDrawing}
@@ -138,7 +138,7 @@ module _ (kit : Kit) (is : IsKit kit) (pins : HaveRightPins kit) (role : Role) w
           label = b.label;
           listed = subst (λ (x : FlatLists). Contains x.labels b.label) same_lists (contained_at of.lists.labels p.place b.label b.there);
           of = b.of;
-          binds = subst (λ (x : FlatLists). Binds x.shapes (anchor_at b.label) (record { layer = pin.0.layer; rect = pin.0.rect })) same_lists b.binds;
+          binds = subst (λ (x : FlatLists). Binds x.shapes (label_anchor b.label) (record { layer = pin.0.layer; rect = pin.0.rect })) same_lists b.binds;
         };
       }
 

@@ -6,11 +6,12 @@ use Rattle.or_geom.specs.declared.shape.Shape.{Shape}
 use Rattle.or_geom.proofs.ListLaws.{contained_at}
 use Rattle.element_drawing.specs.PlainLabel.{PlainLabel}
 use Rattle.label_binding.specs.Binding.{Binds}
+use Rattle.label_binding.specs.BoundPlaces.{label_anchor}
 use Rattle.label_binding.specs.LowerCase.{in_lower_case}
 use Rattle.leaf_shapes.specs.declared.fault.PinFault.{PinFault}
 use Rattle.leaf_shapes.specs.declared.fault.PinFault.TheVariants.{PinMissing, PinLayer, EdgePin, Memory}
 use Rattle.leaf_shapes.specs.declared.pins.LeafPin.{LeafPin}
-use Rattle.leaf_shapes.specs.Candidates.{anchor_at, HasCandidate, IsFirstCandidate, IsLabelOfPin, NoCandidate}
+use Rattle.leaf_shapes.specs.Candidates.{HasCandidate, IsFirstCandidate, IsLabelOfPin, NoCandidate}
 use Rattle.leaf_shapes.specs.Demands.{PinDemand, metal_layer}
 use Rattle.leaf_shapes.specs.Fits.{FitsCell}
 use Rattle.leaf_shapes.specs.Pins.{CellDrawing, AreLeafPins, FirstLacks, IsDemanded, IsMet, IsOffLayer, IsOnMetal, IsPinFault, IsPinFor, LacksLayer}
@@ -33,20 +34,20 @@ decide_named pin label =
 module _ (P : Shape → Type 0) (each : (shape : Shape) → Decided (P shape)) (shapes : List Shape) (labels : List PlainLabel) (pin : List ℕ) where
   record Gives (label : PlainLabel) (shape : Shape) : Type 0 where
     pub of : IsLabelOfPin pin label
-    pub binds : Binds shapes (anchor_at label) shape
+    pub binds : Binds shapes (label_anchor label) shape
     pub has : P shape
 
   abbrev GivesNone : PlainLabel → Type 0
   GivesNone label = (shape : Shape) → Gives label shape → ⊥
 
-  of_bound : (label : PlainLabel) (shape : Shape) → IsLabelOfPin pin label → Decided (Binds shapes (anchor_at label) shape) → Decided (P shape)
+  of_bound : (label : PlainLabel) (shape : Shape) → IsLabelOfPin pin label → Decided (Binds shapes (label_anchor label) shape) → Decided (P shape)
       → (Gives label shape → ⊥) ⊎ Gives label shape
   of_bound label shape of (inl binds) (inl has) = inr (record { of = of; binds = binds; has = has })
   of_bound label shape of (inl binds) (inr lacks) = inl (λ g. lacks g.has)
   of_bound label shape of (inr not) has = inl (λ g. not g.binds)
 
   at_shape : (label : PlainLabel) (shape : Shape) → IsLabelOfPin pin label → Contains shapes shape → (Gives label shape → ⊥) ⊎ Gives label shape
-  at_shape label shape of listed = of_bound label shape of (decide_binds shapes (anchor_at label) shape listed) (each shape)
+  at_shape label shape of listed = of_bound label shape of (decide_binds shapes (label_anchor label) shape listed) (each shape)
 
   by_label : (label : PlainLabel) → Decided (IsLabelOfPin pin label) → GivesNone label ⊎ ((shape : Shape) × Gives label shape)
   by_label label (inr other) = inl (λ shape g. other g.of)

@@ -10,7 +10,8 @@ use Rattle.element_drawing.specs.PlainLabel.{PlainLabel}
 use Rattle.label_binding.specs.Binding.{Binds, IsUnder}
 use Rattle.leaf_shapes.specs.declared.fault.PinFault.TheVariants.{PinMissing, PinLayer, EdgePin, Memory}
 use Rattle.leaf_shapes.specs.declared.pins.LeafPin.{LeafPin}
-use Rattle.leaf_shapes.specs.Candidates.{anchor_at, BindsPinAt, IsFirstCandidate}
+use Rattle.label_binding.specs.BoundPlaces.{label_anchor}
+use Rattle.leaf_shapes.specs.Candidates.{BindsPinAt, IsFirstCandidate}
 use Rattle.leaf_shapes.specs.Demands.{PinDemand}
 use Rattle.kit_laws.specs.OneCell.{OutlinesAreUnique, LeafPinsAreUnique, PinFaultsAreUnique, PinFaultsExcludePins}
 use Rattle.leaf_shapes.specs.Pins.{CellDrawing, IsDemanded, IsMet, IsPinFor, AreLeafPins, IsFirstUnmet, FirstLacks, IsUnbound, IsOffLayer}
@@ -45,7 +46,7 @@ one_candidate P shapes labels pin s t rises a b =
     let place : a.place ≡ b.place = one_first Gives a.place b.place (s, a.bound, a.has) (t, b.bound, b.has) (λ k lt g. a.first k g.0 lt g.1 g.2) (λ k lt g. b.first k g.0 lt g.1 g.2) in
     let here = subst (λ (k : ℕ). slice_get labels k ≡ Some a.bound.label) place a.bound.there in
     let label : a.bound.label ≡ b.bound.label = one_at labels b.place a.bound.label b.bound.label here b.bound.there in
-    one_bound shapes (anchor_at b.bound.label) s t rises (subst (λ (l : PlainLabel). Binds shapes (anchor_at l) s) label a.bound.binds) b.bound.binds
+    one_bound shapes (label_anchor b.bound.label) s t rises (subst (λ (l : PlainLabel). Binds shapes (label_anchor l) s) label a.bound.binds) b.bound.binds
 
 one_pin : (cell : CellDrawing) → IsStrictlySortedBy shape_order cell.shapes → (demand : PinDemand) (a b : LeafPin) → IsPinFor cell demand a → IsPinFor cell demand b → a ≡ b
 one_pin cell rises demand a b p q =

@@ -15,10 +15,11 @@ use Rattle.cell_hierarchy.specs.FlatSet.{IsFlatLabel, IsMoved}
 use Rattle.label_binding.specs.declared.anchor.Anchor.{Anchor}
 use Rattle.net_extractor.specs.PlainNetLabel.{PlainNetLabel}
 use Rattle.label_binding.specs.Binding.{Binds}
+use Rattle.label_binding.specs.BoundPlaces.{label_anchor}
 use Rattle.net_extractor.specs.Extraction.{label_of, anchor_of, AreNetsUnder}
 use Rattle.label_binding.specs.LowerCase.{in_lower_case}
 use Rattle.label_binding.proofs.OneBindingLaws.{binds_some}
-use Rattle.leaf_shapes.specs.Candidates.{IsLabelOfPin, anchor_at}
+use Rattle.leaf_shapes.specs.Candidates.{IsLabelOfPin}
 use Rattle.sram_netlist.specs.Instances.{LeafInstance}
 use Rattle.sram_netlist.specs.Netlist.{role}
 use Rattle.sram_netlist.specs.Names.{leaf_path}
@@ -46,7 +47,7 @@ module _ (connections : List Connect) (s : Source) (flat : FlatLists) (by : IsSt
       → Binds flat.shapes (record { layer = l.layer; at = placed i.place l.at }) u → IsPortNet connections s flat i port u
   of_cell i port name l u named listed of binds =
       let right = by.right (role s.plan i.leaf) port name named in
-      let y = binds_some (leaf_lists s i.leaf).shapes (anchor_at l) (right.bound l listed of) in
+      let y = binds_some (leaf_lists s i.leaf).shapes (label_anchor l) (right.bound l listed of) in
       let t = has_image i.place y.0 in
       let there = (stated_are_parts connections s flat by).stands i y.0 t.0 (record { listed = y.1.listed; moved = t.1 }) in
       record {

@@ -16,7 +16,8 @@ use Rattle.leaf_shapes.specs.declared.fit.Fit.TheVariants.{Top, Bottom, TopAndBo
 use Rattle.leaf_shapes.specs.declared.pins.LeafPin.{LeafPin}
 use Rattle.element_drawing.specs.PlainLabel.{PlainLabel}
 use Rattle.label_binding.specs.Binding.{Binds}
-use Rattle.leaf_shapes.specs.Candidates.{IsLabelOfPin, anchor_at}
+use Rattle.label_binding.specs.BoundPlaces.{label_anchor}
+use Rattle.leaf_shapes.specs.Candidates.{IsLabelOfPin}
 use Rattle.leaf_shapes.specs.Demands.{PinDemand, draw, metal_layer, role_demands}
 use Rattle.leaf_shapes.specs.Pins.{CellDrawing, AreLeafPins}
 use Rattle.good_nets.proofs.LiftLaws.{of_cut}
@@ -147,7 +148,7 @@ port_conducts connections cell lists role pins joins shapes labels are port name
           label = b.label;
           listed = subst (λ (ls : List PlainLabel). Contains ls b.label) labels (contained_at cell.labels is.place b.label b.there);
           of = subst (λ (pin_name : List ℕ). IsLabelOfPin pin_name b.label) d.of b.of;
-          binds = subst (λ (ss : List Shape). Binds ss (anchor_at b.label) m) shapes b.binds;
+          binds = subst (λ (ss : List Shape). Binds ss (label_anchor b.label) m) shapes b.binds;
         };
       },
       subst (IsConductor connections) (sym is.has.0) (metal_conducts connections cell.wire joins d.demand.metal),

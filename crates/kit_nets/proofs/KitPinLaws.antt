@@ -9,10 +9,10 @@ use Rattle.cell_hierarchy.specs.Plain.{FlatLists}
 use Rattle.cell_hierarchy.proofs.OneListsLaws.{one_pair}
 use Rattle.cell_hierarchy.specs.FlatLists.{AreFlatLists}
 use Rattle.label_binding.specs.Binding.{Binds}
+use Rattle.label_binding.specs.BoundPlaces.{label_anchor}
 use Rattle.leaf_shapes.specs.declared.demand.Metal.{Metal}
 use Rattle.leaf_shapes.specs.declared.fit.Fit.{Fit}
 use Rattle.leaf_shapes.specs.declared.fit.CellSize.{CellSize}
-use Rattle.leaf_shapes.specs.Candidates.{anchor_at}
 use Rattle.leaf_shapes.specs.Demands.{draw, metal_layer, role_demands}
 use Rattle.leaf_shapes.specs.Fits.{FitsCell}
 use Rattle.leaf_tables.specs.declared.kit.Kit.{Kit}
@@ -64,7 +64,7 @@ module _ (kit : Kit) (is : IsKit kit) (known : (r : Role) → KnownLeaf kit r) (
             label = b.label;
             listed = subst (λ (x : FlatLists). Contains x.labels b.label) same (contained_at l.lists.labels f.place b.label b.there);
             of = b.of;
-            binds = subst (λ (x : Shape). Binds k.lists.shapes (anchor_at b.label) x) whole (subst (λ (x : FlatLists). Binds x.shapes (anchor_at b.label) shape) same b.binds);
+            binds = subst (λ (x : Shape). Binds k.lists.shapes (label_anchor b.label) x) whole (subst (λ (x : FlatLists). Binds x.shapes (label_anchor b.label) shape) same b.binds);
           };
         };
         fits = subst (FitsCell fit is.wire.width own) rect (subst (λ (z : CellSize). FitsCell fit is.wire.width z pin.0.rect) size f.has.1);

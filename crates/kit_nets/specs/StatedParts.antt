@@ -5,7 +5,8 @@ use Rattle.tech_rules.specs.Net.{AreOnOneNet}
 use Rattle.element_drawing.specs.PlainLabel.{PlainLabel}
 use Rattle.cell_hierarchy.specs.FlatSet.{IsMoved}
 use Rattle.label_binding.specs.Binding.{Binds}
-use Rattle.leaf_shapes.specs.Candidates.{IsLabelOfPin, anchor_at}
+use Rattle.label_binding.specs.BoundPlaces.{label_anchor}
+use Rattle.leaf_shapes.specs.Candidates.{IsLabelOfPin}
 use Rattle.or_geom.specs.declared.shape.Shape.{Shape}
 use Rattle.or_geom.specs.declared.place.Place.{Place}
 use Rattle.gds_library.specs.declared.library.Structure.{Structure}
@@ -81,5 +82,5 @@ pub record IsStatedBy (connections : List Connect) (s : Source) (flat : FlatList
 -- Labels of pins stay: what the label of an instance's pin binds among all shapes is on one net with what it binds in the cell by itself, as it stands there.
 abbrev pub DoLabelsStay : List Connect → Source → FlatLists → Type 0
 DoLabelsStay connections s flat =
-    (i : Standing s) (pin : List ℕ) (label : PlainLabel) (inner shape u : Shape) → Contains (role_ports (role s.plan i.leaf)) pin → Contains (leaf_lists s i.leaf).labels label → IsLabelOfPin pin label → Binds (leaf_lists s i.leaf).shapes (anchor_at label) inner → IsMoved i.place inner shape
+    (i : Standing s) (pin : List ℕ) (label : PlainLabel) (inner shape u : Shape) → Contains (role_ports (role s.plan i.leaf)) pin → Contains (leaf_lists s i.leaf).labels label → IsLabelOfPin pin label → Binds (leaf_lists s i.leaf).shapes (label_anchor label) inner → IsMoved i.place inner shape
     → Contains flat.shapes shape → Binds flat.shapes (record { layer = label.layer; at = placed i.place label.at }) u → AreOnOneNet connections flat.shapes u shape

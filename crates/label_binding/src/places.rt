@@ -9,11 +9,12 @@ use or_geom::Memory;
 use shape_bins::{Bins, near_order};
 use std::alloc::Global;
 
-/// So many labels are looked up as they are listed: to sort them first would take longer than it saves.
+/// Up to so many labels are looked up in the order in which they are listed, more of them in an order in which near ones
+/// follow one another: to bring fewer into that order would take longer than it saves.
 const FEW_LABELS: usize = 1_048_576;
 
 /// Where the label stands.
-fn anchor_of(label: &Label) -> Anchor
+fn label_anchor(label: &Label) -> Anchor
     ensures { result ≡ label_anchor (plain_label label.now) }
 {
     Anchor {
@@ -22,7 +23,7 @@ fn anchor_of(label: &Label) -> Anchor
     }
 }
 
-/// The places for a few labels, looked up as they are listed.
+/// The places for a few labels, looked up as they are listed. `Memory` comes where memory runs out.
 fn places_as_listed(
     alloc: Global,
     bins: &Bins,
@@ -32,13 +33,13 @@ fn places_as_listed(
 {
     let mut places = Vec::with_capacity(alloc, labels.len())?;
     for label in labels {
-        places.push(bound_shape(bins, anchor_of(label)))?;
+        places.push(bound_shape(bins, label_anchor(label)))?;
     }
     Ok(places)
 }
 
 /// The places for many labels. Near labels are looked up one after another: what one needs of the bins is mostly in the
-/// caches from the one before.
+/// caches from the one before. `Memory` comes where memory runs out.
 fn places_as_they_lie(
     alloc: Global,
     bins: &Bins,
@@ -51,7 +52,7 @@ fn places_as_they_lie(
     let mut places = vec![in alloc; None; labels.len()]?;
     for index in &order {
         let index = *index as usize;
-        places[index] = bound_shape(bins, anchor_of(&labels[index]));
+        places[index] = bound_shape(bins, label_anchor(&labels[index]));
     }
     Ok(places)
 }

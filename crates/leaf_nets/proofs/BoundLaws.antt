@@ -13,7 +13,7 @@ use Rattle.element_drawing.specs.PlainLabel.{PlainLabel}
 use Rattle.label_binding.specs.declared.anchor.Anchor.{Anchor}
 use Rattle.label_binding.specs.Binding.{Binds}
 use Rattle.label_binding.specs.Bound.{IsBoundAt}
-use Rattle.leaf_shapes.specs.Candidates.{anchor_at}
+use Rattle.label_binding.specs.BoundPlaces.{label_anchor}
 use Rattle.leaf_shapes.proofs.PlaceLaws.{at_contained, sorted_at}
 use Rattle.leaf_nets.specs.Numbers.{GivesNet}
 
@@ -56,5 +56,5 @@ bound_here shapes label i rises at = record {
 }
 
 -- and the number at this index is that of its net
-pub gives_here : (shapes : List Shape) (nets : List ℕ) (label : PlainLabel) (i n : ℕ) → IsStrictlySortedBy shape_order shapes → IsBoundAt shapes (anchor_at label) i → slice_get nets i ≡ Some n → GivesNet shapes nets label n
-gives_here shapes nets label i n rises at is = record { shape = at.shape; binds = bound_here shapes (anchor_at label) i rises at; has = record { place = i; there = at.there; is = is } }
+pub gives_here : (shapes : List Shape) (nets : List ℕ) (label : PlainLabel) (i n : ℕ) → IsStrictlySortedBy shape_order shapes → IsBoundAt shapes (label_anchor label) i → slice_get nets i ≡ Some n → GivesNet shapes nets label n
+gives_here shapes nets label i n rises at is = record { shape = at.shape; binds = bound_here shapes (label_anchor label) i rises at; has = record { place = i; there = at.there; is = is } }

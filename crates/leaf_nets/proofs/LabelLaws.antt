@@ -6,7 +6,8 @@ use Rattle.or_geom.specs.declared.shape.Shape.{Shape}
 use Rattle.or_geom.proofs.ListLaws.{contains_none}
 use Rattle.element_drawing.specs.PlainLabel.{PlainLabel}
 use Rattle.label_binding.specs.Binding.{BindsNone}
-use Rattle.leaf_shapes.specs.Candidates.{IsLabelOfPin, anchor_at}
+use Rattle.label_binding.specs.BoundPlaces.{label_anchor}
+use Rattle.leaf_shapes.specs.Candidates.{IsLabelOfPin}
 use Rattle.leaf_nets.specs.declared.pin.PinBinding.{PinBinding}
 use Rattle.leaf_nets.specs.declared.pin.PinBinding.TheVariants.{Unlabelled, On, Wrong}
 use Rattle.leaf_nets.specs.Numbers.{GivesNet, HasPinNet, IsPinBinding}
@@ -23,7 +24,7 @@ each_label : (P : PlainLabel → Type 0) (labels : List PlainLabel) (label : Pla
 each_label P labels label all here l h = elim (Contains-push_cases labels label l h) [ inl old ↦ all l old | inr is ↦ subst P is here ]
 
 -- the last label binds nothing
-pub last_unbound : (shapes : List Shape) (nets : List ℕ) (labels : List PlainLabel) (pin : List ℕ) (label : PlainLabel) → IsLabelOfPin pin label → BindsNone shapes (anchor_at label) → IsPinBinding shapes nets (labels ++ label ∷ []) pin Wrong
+pub last_unbound : (shapes : List Shape) (nets : List ℕ) (labels : List PlainLabel) (pin : List ℕ) (label : PlainLabel) → IsLabelOfPin pin label → BindsNone shapes (label_anchor label) → IsPinBinding shapes nets (labels ++ label ∷ []) pin Wrong
 last_unbound shapes nets labels pin label of none = inl (record { label = label; listed = Contains-push labels label; of = of; none = none })
 
 -- the last label is the first of its pin

@@ -13,7 +13,7 @@ use Rattle.tech_rules.specs.Net.{AreOnOneNet}
 use Rattle.element_drawing.specs.PlainLabel.{PlainLabel}
 use Rattle.cell_hierarchy.specs.Plain.{FlatLists}
 use Rattle.net_extractor.specs.ShapeNets.{AreShapeNets}
-use Rattle.leaf_shapes.specs.Candidates.{anchor_at}
+use Rattle.label_binding.specs.BoundPlaces.{label_anchor}
 use Rattle.leaf_shapes.proofs.PlaceLaws.{at_contained}
 use Rattle.leaf_nets.specs.declared.pin.PinBinding.TheVariants.{Unlabelled, On, Wrong}
 use Rattle.leaf_nets.specs.RightPins.{BindsForPin, IsRightPin, ArePinsRightBefore}
@@ -52,7 +52,7 @@ bound_for lists nets pin n h = record { label = h.label; listed = h.listed; of =
 -- a label gives one number
 given_once : (connections : List Connect) (lists : FlatLists) (nets : List ℕ) (label : PlainLabel) (m n : ℕ) → AreNumbered connections lists nets → GivesNet lists.shapes nets label m → GivesNet lists.shapes nets label n → m ≡ n
 given_once connections lists nets label m n numbered a b =
-    let same = one_bound lists.shapes (anchor_at label) a.shape b.shape numbered.rises a.binds b.binds in
+    let same = one_bound lists.shapes (label_anchor label) a.shape b.shape numbered.rises a.binds b.binds in
     one_number connections lists nets a.shape b.shape m n numbered a.has b.has (subst (λ (t : Shape). AreOnOneNet connections lists.shapes a.shape t) same (record { path = []; leads = refl }))
 
 -- A pin of which the labels are wrong isn't right.
@@ -81,7 +81,7 @@ bare_pin connections lists nets pins place pin none = record {
 number_is : (connections : List Connect) (lists : FlatLists) (nets : List ℕ) (pin : List ℕ) (n : ℕ) (s : Shape) → AreNumbered connections lists nets → IsOnNet lists.shapes nets lists.labels pin n → BindsForPin lists pin s → HasNetNumber lists.shapes nets s n
 number_is connections lists nets pin n s numbered on b =
     let g = on.all b.label b.listed b.of in
-    subst (λ (t : Shape). HasNetNumber lists.shapes nets t n) (one_bound lists.shapes (anchor_at b.label) g.shape s numbered.rises g.binds b.binds) g.has
+    subst (λ (t : Shape). HasNetNumber lists.shapes nets t n) (one_bound lists.shapes (label_anchor b.label) g.shape s numbered.rises g.binds b.binds) g.has
 
 -- One whose labels bind shapes of one number is, where no earlier pin has this number.
 pub single_pin : (connections : List Connect) (lists : FlatLists) (nets : List ℕ) (pins : List (List ℕ)) (place n : ℕ) (pin : List ℕ) → AreNumbered connections lists nets → IsPinBinding lists.shapes nets lists.labels pin (On n)

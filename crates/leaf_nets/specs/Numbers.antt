@@ -5,7 +5,8 @@ use Rattle.or_geom.specs.Gathering.{SomeHas}
 use Rattle.tech_rules.specs.declared.tech.Connect.{Connect}
 use Rattle.element_drawing.specs.PlainLabel.{PlainLabel}
 use Rattle.label_binding.specs.Binding.{Binds, BindsNone}
-use Rattle.leaf_shapes.specs.Candidates.{IsLabelOfPin, anchor_at}
+use Rattle.label_binding.specs.BoundPlaces.{label_anchor}
+use Rattle.leaf_shapes.specs.Candidates.{IsLabelOfPin}
 use Rattle.cell_hierarchy.specs.Plain.{FlatLists}
 use Rattle.leaf_nets.specs.Loose.{IsJoint}
 use Rattle.leaf_nets.specs.RightPins.{IsRightPin, ArePinsRightBefore, AreRightPins}
@@ -23,11 +24,11 @@ pub record HasNetNumber (shapes : List Shape) (nets : List ℕ) (shape : Shape) 
 -- the label binds a shape of this number
 pub record GivesNet (shapes : List Shape) (nets : List ℕ) (label : PlainLabel) (number : ℕ) : Type 0 where
   pub shape : Shape
-  pub binds : Binds shapes (anchor_at label) shape
+  pub binds : Binds shapes (label_anchor label) shape
   pub has : HasNetNumber shapes nets shape number
 
 abbrev pub IsNetNumberOf : List Shape → List ℕ → PlainLabel → Option ℕ → Type 0
-IsNetNumberOf shapes nets label net = MatchOption net (BindsNone shapes (anchor_at label)) (GivesNet shapes nets label)
+IsNetNumberOf shapes nets label net = MatchOption net (BindsNone shapes (label_anchor label)) (GivesNet shapes nets label)
 
 -- a label of the pin binds a shape of this number
 pub record HasPinNet (shapes : List Shape) (nets : List ℕ) (labels : List PlainLabel) (pin : List ℕ) (number : ℕ) : Type 0 where
@@ -41,7 +42,7 @@ pub record HasUnbound (shapes : List Shape) (labels : List PlainLabel) (pin : Li
   pub label : PlainLabel
   pub listed : Contains labels label
   pub of : IsLabelOfPin pin label
-  pub none : BindsNone shapes (anchor_at label)
+  pub none : BindsNone shapes (label_anchor label)
 
 -- labels of the pin bind shapes of two numbers
 pub record HasTwoNets (shapes : List Shape) (nets : List ℕ) (labels : List PlainLabel) (pin : List ℕ) : Type 0 where

@@ -5,19 +5,20 @@ use Rattle.tech_rules.specs.declared.tech.Connect.{Connect}
 use Rattle.tech_rules.specs.Net.{AreOnOneNet}
 use Rattle.element_drawing.specs.PlainLabel.{PlainLabel}
 use Rattle.label_binding.specs.Binding.{Binds, BindsNone}
+use Rattle.label_binding.specs.BoundPlaces.{label_anchor}
 use Rattle.cell_hierarchy.specs.Plain.{FlatLists}
-use Rattle.leaf_shapes.specs.Candidates.{IsLabelOfPin, anchor_at}
+use Rattle.leaf_shapes.specs.Candidates.{IsLabelOfPin}
 
 -- a label of the pin binds the shape
 pub record BindsForPin (lists : FlatLists) (pin : List ℕ) (shape : Shape) : Type 0 where
   pub label : PlainLabel
   pub listed : Contains lists.labels label
   pub of : IsLabelOfPin pin label
-  pub binds : Binds lists.shapes (anchor_at label) shape
+  pub binds : Binds lists.shapes (label_anchor label) shape
 
 -- each label of the pin binds a shape
 abbrev pub IsBound : FlatLists → List ℕ → Type 0
-IsBound lists pin = (label : PlainLabel) → Contains lists.labels label → IsLabelOfPin pin label → BindsNone lists.shapes (anchor_at label) → ⊥
+IsBound lists pin = (label : PlainLabel) → Contains lists.labels label → IsLabelOfPin pin label → BindsNone lists.shapes (label_anchor label) → ⊥
 
 -- all shapes that its labels bind are on one net
 abbrev pub IsOneNet : List Connect → FlatLists → List ℕ → Type 0

@@ -17,8 +17,9 @@ use Rattle.cell_hierarchy.specs.Plain.{plain_label}
 use Rattle.element_drawing.specs.PlainLabel.{PlainLabel}
 use Rattle.label_binding.specs.declared.anchor.Anchor.{Anchor}
 use Rattle.label_binding.specs.Binding.{IsUnder, Binds, BindsNone}
+use Rattle.label_binding.specs.BoundPlaces.{label_anchor}
 use Rattle.leaf_shapes.specs.declared.candidate.WantedShape.{WantedShape}
-use Rattle.leaf_shapes.specs.Candidates.{anchor_at, NoCandidate, IsFirstCandidate}
+use Rattle.leaf_shapes.specs.Candidates.{NoCandidate, IsFirstCandidate}
 use Rattle.leaf_shapes.specs.Wanted.{IsWanted, GivesShape, GivesNone}
 use Rattle.leaf_shapes.proofs.PlaceLaws.{EachBefore, at_contained, sorted_at}
 
@@ -29,12 +30,12 @@ not_self s t e less =
     not_both shape_order shape_total s s self self
 
 -- the first shape whose box contains the label's point is the one that it binds
-pub hit_binds : (shapes : List Shape) (label : PlainLabel) (place : ℕ) (s : Shape) → IsStrictlySortedBy shape_order shapes → slice_get shapes place ≡ Some s → IsFirstHit shapes label.layer (At label.at) 0 place → Binds shapes (anchor_at label) s
+pub hit_binds : (shapes : List Shape) (label : PlainLabel) (place : ℕ) (s : Shape) → IsStrictlySortedBy shape_order shapes → slice_get shapes place ≡ Some s → IsFirstHit shapes label.layer (At label.at) 0 place → Binds shapes (label_anchor label) s
 hit_binds shapes label place s rises here hit =
     let same : hit.hit.shape ≡ s = one_at shapes place hit.hit.shape s hit.hit.there here in
     record {
       listed = contained_at shapes place s here;
-      under = subst (IsUnder (anchor_at label)) same (record { on = hit.hit.on; holds = hit.hit.fits });
+      under = subst (IsUnder (label_anchor label)) same (record { on = hit.hit.on; holds = hit.hit.fits });
       first = λ other listed under less.
           let k = listed.0 in
           let at_k = at_contained shapes other listed in
@@ -46,7 +47,7 @@ hit_binds shapes label place s rises here hit =
     }
 
 -- and where there is none it binds none
-pub none_binds : (shapes : List Shape) (label : PlainLabel) → NoHitFrom shapes label.layer (At label.at) 0 → BindsNone shapes (anchor_at label)
+pub none_binds : (shapes : List Shape) (label : PlainLabel) → NoHitFrom shapes label.layer (At label.at) 0 → BindsNone shapes (label_anchor label)
 none_binds shapes label none s listed under =
     none listed.0 (omega arith) (record { shape = s; there = at_contained shapes s listed; on = under.on; fits = under.holds })
 
@@ -66,11 +67,11 @@ one_bound shapes label s t rises a b =
     ]
 
 -- a label that binds no shape gives none, nor does one that binds a shape which is not as wanted
-pub unbound_gives : (wanted : WantedShape) (shapes : List Shape) (pin : List ℕ) (label : PlainLabel) → BindsNone shapes (anchor_at label) → GivesNone wanted shapes pin label
+pub unbound_gives : (wanted : WantedShape) (shapes : List Shape) (pin : List ℕ) (label : PlainLabel) → BindsNone shapes (label_anchor label) → GivesNone wanted shapes pin label
 unbound_gives wanted shapes pin label none s g = none s g.binds.listed g.binds.under
 
-pub unwanted_gives : (wanted : WantedShape) (shapes : List Shape) (pin : List ℕ) (label : PlainLabel) (s : Shape) → IsStrictlySortedBy shape_order shapes → Binds shapes (anchor_at label) s → (IsWanted wanted s → ⊥) → GivesNone wanted shapes pin label
-unwanted_gives wanted shapes pin label s rises binds not t g = not (subst (IsWanted wanted) (one_bound shapes (anchor_at label) t s rises g.binds binds) g.is)
+pub unwanted_gives : (wanted : WantedShape) (shapes : List Shape) (pin : List ℕ) (label : PlainLabel) (s : Shape) → IsStrictlySortedBy shape_order shapes → Binds shapes (label_anchor label) s → (IsWanted wanted s → ⊥) → GivesNone wanted shapes pin label
+unwanted_gives wanted shapes pin label s rises binds not t g = not (subst (IsWanted wanted) (one_bound shapes (label_anchor label) t s rises g.binds binds) g.is)
 
 -- the label at a place
 pub plain_at : (labels : List Label) (i : ℕ) (label : Label) → slice_get labels i ≡ Some label → slice_get (map plain_label labels) i ≡ Some (plain_label label)

@@ -2,12 +2,9 @@
 use Rattle.std.specs.Prelude.{◌≡◌, ℕ, ◌<◌, List, [], slice_get, Some}
 use Rattle.or_geom.specs.declared.shape.Shape.{Shape}
 use Rattle.element_drawing.specs.PlainLabel.{PlainLabel}
-use Rattle.label_binding.specs.declared.anchor.Anchor.{Anchor}
 use Rattle.label_binding.specs.Binding.{Binds}
+use Rattle.label_binding.specs.BoundPlaces.{label_anchor}
 use Rattle.label_binding.specs.LowerCase.{in_lower_case}
-
-abbrev pub anchor_at : PlainLabel → Anchor
-anchor_at label = record { layer = label.layer; at = label.at }
 
 -- The label has the pin's name, without regard to case, and stands in the cell itself: the path of a label of a structure
 -- to which the cell refers isn't empty.
@@ -20,7 +17,7 @@ pub record BindsPinAt (shapes : List Shape) (labels : List PlainLabel) (pin : Li
   pub label : PlainLabel
   pub there : slice_get labels place ≡ Some label
   pub of : IsLabelOfPin pin label
-  pub binds : Binds shapes (anchor_at label) shape
+  pub binds : Binds shapes (label_anchor label) shape
 
 -- one of the shapes that the pin's labels bind has P
 pub record HasCandidate (P : Shape → Type 0) (shapes : List Shape) (labels : List PlainLabel) (pin : List ℕ) : Type 0 where

@@ -16,7 +16,7 @@ pub record PinDemand : Type 0 where
   pub fit : Fit
 
 abbrev pub plain_demand : PinRequirement → PinDemand
-plain_demand d = record { pin = d.0.now; metal = d.1; fit = d.2 }
+plain_demand d = record { pin = d.pin.now; metal = d.metal; fit = d.fit }
 
 abbrev pub draw : List ℕ → Metal → Fit → PinDemand
 draw pin metal fit = record { pin = pin; metal = metal; fit = fit }

@@ -5,7 +5,8 @@ use Rattle.leaf_shapes.specs.declared.candidate.WantedShape.{WantedShape}
 use Rattle.leaf_shapes.specs.declared.candidate.WantedShape.TheVariants.{Any, OnLayer, Fitting}
 use Rattle.element_drawing.specs.PlainLabel.{PlainLabel}
 use Rattle.label_binding.specs.Binding.{Binds}
-use Rattle.leaf_shapes.specs.Candidates.{anchor_at, IsLabelOfPin}
+use Rattle.label_binding.specs.BoundPlaces.{label_anchor}
+use Rattle.leaf_shapes.specs.Candidates.{IsLabelOfPin}
 use Rattle.leaf_shapes.specs.Fits.{FitsCell}
 
 abbrev pub IsWanted : WantedShape → Shape → Type 0
@@ -16,7 +17,7 @@ IsWanted (Fitting layer fit size wire) shape = (shape.layer ≡ layer) × FitsCe
 -- the label is one of the pin's and binds the shape, which is as wanted
 pub record GivesShape (wanted : WantedShape) (shapes : List Shape) (pin : List ℕ) (label : PlainLabel) (shape : Shape) : Type 0 where
   pub of : IsLabelOfPin pin label
-  pub binds : Binds shapes (anchor_at label) shape
+  pub binds : Binds shapes (label_anchor label) shape
   pub is : IsWanted wanted shape
 
 abbrev pub GivesNone : WantedShape → List Shape → List ℕ → PlainLabel → Type 0

@@ -2,9 +2,10 @@ ghost use Rattle.std.specs.Prelude.{◌≡◌, ◌↔◌, ◌<◌, IsTrue, Match
 ghost use Rattle.std.specs.List.Sorted.{IsStrictlySortedBy};
 ghost use Rattle.or_geom.specs.ShapeOrder.{shape_order};
 ghost use Rattle.cell_hierarchy.specs.Plain.{plain_label};
-ghost use Rattle.leaf_shapes.specs.Candidates.{anchor_at, HasCandidate, IsFirstCandidate, IsLabelOfPin, NoCandidate};
+ghost use Rattle.leaf_shapes.specs.Candidates.{HasCandidate, IsFirstCandidate, IsLabelOfPin, NoCandidate};
 ghost use Rattle.leaf_shapes.specs.Wanted.{GivesNone, GivesShape, IsWanted};
 ghost use Rattle.label_binding.specs.Binding.{Binds, BindsNone};
+ghost use Rattle.label_binding.specs.BoundPlaces.{label_anchor};
 
 use crate::fit::{CellSize, Fit};
 use cell_hierarchy::Label;
@@ -66,8 +67,8 @@ fn shape_at(shapes: &[Shape], place: usize) -> Shape
 /// The shape that the label binds, if it binds one.
 fn bound_shape(bins: &Bins, label: &Label) -> Option<Shape>
     requires { IsStrictlySortedBy shape_order bins.now }
-    ensures { MatchOption result (BindsNone bins.now (anchor_at (plain_label label.now)))
-        (Binds bins.now (anchor_at (plain_label label.now))) }
+    ensures { MatchOption result (BindsNone bins.now (label_anchor (plain_label label.now)))
+        (Binds bins.now (label_anchor (plain_label label.now))) }
 {
     let Some(place) = bins.first_at(label.layer, label.at) else {
         return None;

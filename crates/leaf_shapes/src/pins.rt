@@ -41,14 +41,13 @@ fn demanded_shape(
     ensures { let cell = drawing_of wire.now size bins.now labels.now in let d = plain_demand demand in MatchOption
         result (IsMet cell d → ⊥) (IsFirstCandidate (IsDemanded cell d) cell.shapes cell.labels d.pin) }
 {
-    let PinRequirement(pin, metal, fit) = demand;
     let wanted = WantedShape::Fitting {
-        layer: metal.layer(wire),
-        fit,
+        layer: demand.metal.layer(wire),
+        fit: demand.fit,
         size,
         wire: wire.width,
     };
-    first_candidate(bins, labels, pin, wanted)
+    first_candidate(bins, labels, demand.pin, wanted)
 }
 
 /// Whether the texts are the same.
@@ -69,11 +68,11 @@ fn lacks_layer(
     requires { IsStrictlySortedBy shape_order bins.now }
     ensures { IsTrue result ↔ LacksLayer wire.now bins.now (map plain_label labels.now) pin.now (plain_demand demand) }
 {
-    let PinRequirement(name, metal, _) = demand;
-    if !is_same(name, pin) {
+    if !is_same(demand.pin, pin) {
         return false;
     }
-    !has_candidate(bins, labels, pin, WantedShape::OnLayer(metal.layer(wire)))
+    let layer = demand.metal.layer(wire);
+    !has_candidate(bins, labels, pin, WantedShape::OnLayer(layer))
 }
 
 /// The demand at an index.
@@ -131,10 +130,10 @@ fn pin_fault(
 }
 
 fn leaf_pin(alloc: Global, demand: PinRequirement, shape: Shape) -> Result<LeafPin, Memory>
-    ensures { IfOk result (λ pin. (pin.pin ≡ demand.0.now) × (pin.layer ≡ shape.layer) × (pin.rect ≡ shape.rect)) }
+    ensures { IfOk result (λ pin. (pin.pin ≡ demand.pin.now) × (pin.layer ≡ shape.layer) × (pin.rect ≡ shape.rect)) }
 {
     Ok(LeafPin {
-        pin: Name::from_bytes(alloc, demand.0.as_bytes())?,
+        pin: Name::from_bytes(alloc, demand.pin.as_bytes())?,
         layer: shape.layer,
         rect: shape.rect,
     })
@@ -160,7 +159,7 @@ pub fn pin_shapes(
     for index in 0..all.len() {
         let demand = demand_at(all, index);
         let Some(shape) = demanded_shape(wire, size, bins, labels, demand) else {
-            return Err(pin_fault(alloc, wire, bins, labels, all, demand.0));
+            return Err(pin_fault(alloc, wire, bins, labels, all, demand.pin));
         };
         let pin = leaf_pin(alloc, demand, shape)?;
         pins.push(pin)?;

@@ -65,13 +65,13 @@ side_pins role nets place [] pins = []
 side_pins role nets place (d ∷ ds) [] = []
 side_pins role nets place (d ∷ ds) (p ∷ ps) = cond (is_at_side d.fit) (placed_pin (net_of (role_ports role) nets d.pin) place p.rect ∷ side_pins role nets place ds ps) (side_pins role nets place ds ps)
 
-abbrev pub edge_pins_of : Option Leaf → List LeafPin
-edge_pins_of None = []
-edge_pins_of (Some leaf) = leaf.pins
+abbrev pub pins_of_leaf : Option Leaf → List LeafPin
+pins_of_leaf None = []
+pins_of_leaf (Some leaf) = leaf.pins
 
 -- those of the role's leaf cell as it stands at the place, with its ports on these nets
 abbrev pub edge_pins : List Leaf → Role → List (List ℕ) → Place → List PartPin
-edge_pins leaves role nets place = side_pins role nets place (role_demands role) (edge_pins_of (leaf_in leaves role))
+edge_pins leaves role nets place = side_pins role nets place (role_demands role) (pins_of_leaf (leaf_in leaves role))
 
 -- Those of the leaf cells of a part, in turn: each of its role, on the nets of its instance in the part's subcircuit, and as it
 -- stands in the part's cell. (The three lists of a part are equally long.)

@@ -99,8 +99,8 @@ fn add_side_edges(
         let Some((pin, other_pins)) = pins.split_first() else {
             return Ok(());
         };
-        if is_at_side(demand.2) {
-            let net = net_of(leaf.role, nets, demand.0);
+        if is_at_side(demand.fit) {
+            let net = net_of(leaf.role, nets, demand.pin);
             add_pin_edge(alloc, net, leaf.place, pin, side, edges)?;
         }
         rest = others;

@@ -20,7 +20,8 @@ use Rattle.cell_hierarchy.specs.Plain.{FlatLists}
 use Rattle.cell_hierarchy.specs.FlatSet.{IsMoved}
 use Rattle.label_binding.specs.declared.anchor.Anchor.{Anchor}
 use Rattle.label_binding.specs.Binding.{IsUnder, Binds}
-use Rattle.leaf_shapes.specs.Candidates.{IsLabelOfPin, anchor_at}
+use Rattle.label_binding.specs.BoundPlaces.{label_anchor}
+use Rattle.leaf_shapes.specs.Candidates.{IsLabelOfPin}
 use Rattle.local_report.specs.Moved as shifted
 use Rattle.sram_netlist.specs.Nets.{Net}
 use Rattle.sram_netlist.specs.Netlist.{role}
@@ -54,7 +55,7 @@ use Rattle.seen_labels.proofs.WalkLaws.{touches_instance}
 use Rattle.seen_labels.proofs.StayLaws as st
 
 module _ (connections : List Connect) (s : Source) (by reach : ℤ) (is : IsSeenSource connections s by reach) (window : HasSeenWindow connections s) (flat : FlatLists) (hub : Net → Shape) (memory : IsJoinedMemory connections s flat hub) (inside : DoShapesStayInside s) (i : Standing s) (pin : List ℕ) (label : PlainLabel) (inner shape : Shape)
-    (has : Contains (role_ports (role s.plan i.leaf)) pin) (listed : Contains (leaf_lists s i.leaf).labels label) (of : IsLabelOfPin pin label) (binds : Binds (leaf_lists s i.leaf).shapes (anchor_at label) inner) (moved : IsMoved i.place inner shape) (there : Contains flat.shapes shape) (none : IsConductor connections shape.layer → ⊥) where
+    (has : Contains (role_ports (role s.plan i.leaf)) pin) (listed : Contains (leaf_lists s i.leaf).labels label) (of : IsLabelOfPin pin label) (binds : Binds (leaf_lists s i.leaf).shapes (label_anchor label) inner) (moved : IsMoved i.place inner shape) (there : Contains flat.shapes shape) (none : IsConductor connections shape.layer → ⊥) where
   abbrev sm : Source
   sm = small connections s by reach is window
 

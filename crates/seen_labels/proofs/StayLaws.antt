@@ -18,7 +18,8 @@ use Rattle.element_drawing.specs.PlainLabel.{PlainLabel}
 use Rattle.cell_hierarchy.specs.Plain.{FlatLists}
 use Rattle.cell_hierarchy.specs.FlatSet.{IsMoved}
 use Rattle.label_binding.specs.Binding.{Binds}
-use Rattle.leaf_shapes.specs.Candidates.{IsLabelOfPin, anchor_at}
+use Rattle.label_binding.specs.BoundPlaces.{label_anchor}
+use Rattle.leaf_shapes.specs.Candidates.{IsLabelOfPin}
 use Rattle.sram_netlist.specs.Nets.{Net}
 use Rattle.sram_netlist.specs.Netlist.{role, ports}
 use Rattle.good_places.specs.Beside.{moved_place}
@@ -80,7 +81,7 @@ module _ (connections : List Connect) (s : Source) (by reach : ℤ) (is : IsSeen
 
   -- A label of an instance's pin, and what it binds in the cell by itself
 
-  module _ (i : Standing s) (pin : List ℕ) (label : PlainLabel) (inner shape : Shape) (has : Contains (role_ports (role s.plan i.leaf)) pin) (listed : Contains (leaf_lists s i.leaf).labels label) (of : IsLabelOfPin pin label) (binds : Binds (leaf_lists s i.leaf).shapes (anchor_at label) inner)
+  module _ (i : Standing s) (pin : List ℕ) (label : PlainLabel) (inner shape : Shape) (has : Contains (role_ports (role s.plan i.leaf)) pin) (listed : Contains (leaf_lists s i.leaf).labels label) (of : IsLabelOfPin pin label) (binds : Binds (leaf_lists s i.leaf).shapes (label_anchor label) inner)
       (moved : IsMoved i.place inner shape) (there : Contains flat.shapes shape) where
     pub at : (port : ℕ) × (slice_get (role_ports (role s.plan i.leaf)) port ≡ Some pin)
     at = item_at (role_ports (role s.plan i.leaf)) pin has
@@ -121,7 +122,7 @@ module _ (connections : List Connect) (s : Source) (by reach : ℤ) (is : IsSeen
       same_point = one_is.place label.at
 
       abbrev pub Labelled : Role → Type 0
-      Labelled r = Contains (role_ports r) pin × Contains (s.lists r).labels label × Binds (s.lists r).shapes (anchor_at label) inner
+      Labelled r = Contains (role_ports r) pin × Contains (s.lists r).labels label × Binds (s.lists r).shapes (label_anchor label) inner
 
       pub labelled : Labelled (role sm.plan one.leaf)
       labelled = subst Labelled (sym one_role) (has, listed, binds)

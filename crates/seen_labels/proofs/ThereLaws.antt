@@ -18,8 +18,9 @@ use Rattle.cell_hierarchy.specs.Plain.{FlatLists}
 use Rattle.cell_hierarchy.specs.FlatSet.{IsMoved}
 use Rattle.label_binding.specs.declared.anchor.Anchor.{Anchor}
 use Rattle.label_binding.specs.Binding.{Binds}
+use Rattle.label_binding.specs.BoundPlaces.{label_anchor}
 use Rattle.label_binding.proofs.OneBindingLaws.{binds_some}
-use Rattle.leaf_shapes.specs.Candidates.{IsLabelOfPin, anchor_at}
+use Rattle.leaf_shapes.specs.Candidates.{IsLabelOfPin}
 use Rattle.local_report.specs.Moved as moved
 use Rattle.good_places.specs.Beside.{moved_place}
 use Rattle.good_places.proofs.MoveLaws.{moved_taken}
@@ -53,7 +54,7 @@ shape_there connections s w f dx dy i one is at x a m of layer shifted = record 
 -- A label of a pin, which binds a shape on a conductor, that begins at the label's point as the instance stands: then whatever lies under it on the
 -- layer is on one net with the shape, where labels stay.
 pub under_label : (connections : List Connect) (w : Source) (flat : FlatLists) → DoLabelsStay connections w flat → (j : Standing w) (pin : List ℕ) (label : PlainLabel) (inner shape v : Shape) (p : Point)
-    → Contains (role_ports (role w.plan j.leaf)) pin → Contains (leaf_lists w j.leaf).labels label → IsLabelOfPin pin label → Binds (leaf_lists w j.leaf).shapes (anchor_at label) inner → IsMoved j.place inner shape
+    → Contains (role_ports (role w.plan j.leaf)) pin → Contains (leaf_lists w j.leaf).labels label → IsLabelOfPin pin label → Binds (leaf_lists w j.leaf).shapes (label_anchor label) inner → IsMoved j.place inner shape
     → placed j.place label.at ≡ p → IsConductor connections shape.layer → Contains flat.shapes shape → IsIn shape.rect p → p.x ≤ℤ shape.rect.x1 → Contains flat.shapes v → v.layer ≡ shape.layer → IsIn v.rect p → AreOnOneNet connections flat.shapes shape v
 under_label connections w flat stays j pin label inner shape v p has listed of binds moved at conductor there holds begins among same held =
     by_lt_z v.rect.x1 p.x

@@ -1,19 +1,19 @@
 -- Places that are sorted.
-use Rattle.std.proofs.Common.{◌≡◌, ℕ, zero, suc, ◌-◌, ◌+◌, ◌<◌, ◌≤◌, List, [], ◌∷◌, ◌++◌, map, length, sym, ap, subst, ◌∙◌, arith}
+use Rattle.std.proofs.Common.{◌≡◌, ℕ, suc, ◌-◌, ◌+◌, ◌≤◌, List, [], ◌∷◌, ◌++◌, map, length, sym, ap, subst, ◌∙◌, arith}
 use Rattle.std.specs.Prelude.{Contains}
 use Rattle.std.specs.List.{range_with_len}
 use Rattle.std.specs.List.Sorted.{IsPermutation}
 use Rattle.std.proofs.lemmas.List.{map-append}
-use Rattle.std.proofs.lemmas.List.FromFn.{length-range_with_len, get_or-range_with_len}
+use Rattle.std.proofs.lemmas.List.FromFn.{length-range_with_len}
 use Rattle.std.proofs.lemmas.List.Sorted.{Contains-permutation, IsPermutation-map, IsPermutation-sym, length_permutation}
-use Rattle.cell_chains.proofs.OrderedLaws.{range_more, in_range, range_has}
+use Rattle.or_geom.proofs.RangeLaws.{range_more, in_range, range_has}
 use Rattle.shape_bins.specs.Order.{place_of_key, IsOrderAdded}
 
 pub keys_more : (keys : List ℕ) (key begin place : ℕ) → begin ≤ place → map place_of_key keys ≡ range_with_len begin (place - begin) → place_of_key key ≡ place → map place_of_key (keys ++ key ∷ []) ≡ range_with_len begin (place + 1 - begin)
 keys_more keys key begin place above is at =
     let step : place + 1 - begin ≡ suc (place - begin) = omega (arith, above) in
     let here : begin + (place - begin) ≡ place_of_key key = omega (arith, above, at) in
-    map-append place_of_key keys (key ∷ []) ∙ (ap (λ (l : List ℕ). l ++ place_of_key key ∷ []) is ∙ (ap (λ (k : ℕ). range_with_len begin (place - begin) ++ k ∷ []) (sym here) ∙ (sym (range_more begin (place - begin)) ∙ ap (range_with_len begin) (sym step))))
+    map-append place_of_key keys (key ∷ []) ∙ (ap (λ (l : List ℕ). l ++ place_of_key key ∷ []) is ∙ (sym (range_more begin (place - begin) (place_of_key key) here) ∙ ap (range_with_len begin) (sym step)))
 
 pub order_added : (keys sorted old new : List ℕ) (begin end : ℕ) → begin ≤ end → IsPermutation keys sorted → map place_of_key keys ≡ range_with_len begin (end - begin) → new ≡ old ++ map place_of_key sorted
     → IsOrderAdded begin end old new

@@ -13,7 +13,7 @@ use Rattle.or_geom.specs.Containing.{HoldsRect}
 use Rattle.tile_checker.specs.ClearArea.{IsClearArea}
 use Rattle.tile_checker.specs.Seen.{AreTrueNotes}
 use Rattle.tile_checker.specs.Candidates.{AreTrueCandidates}
-use Rattle.tile_checker.specs.declared.candidates.Candidates.{Candidates}
+use Rattle.tile_checker.specs.declared.candidates.KeptCandidates.{KeptCandidates}
 use Rattle.tile_checker.specs.WideArea.{IsWideArea, IsSeen}
 use Rattle.tile_checker.specs.declared.clear.ClearArea.{ClearArea}
 use Rattle.tile_checker.specs.declared.notes.Notes.{Notes}
@@ -60,7 +60,7 @@ pub nothing_seen : (shapes : List Shape) (notes : Notes) → notes.wide ≡ None
 nothing_seen shapes notes wide clear candidates = record {
   wide = subst (λ (a : Option WideArea). IsSeen shapes a) (sym wide) tt;
   clear = subst (λ (a : Option ClearArea). IfSome a (IsClearArea shapes)) (sym clear) tt;
-  candidates = subst (λ (k : Option Candidates). IfSome k (AreTrueCandidates shapes)) (sym candidates) tt;
+  candidates = subst (λ (k : Option KeptCandidates). IfSome k (AreTrueCandidates shapes)) (sym candidates) tt;
 }
 
 -- a covered box of the frame is such an area

@@ -55,9 +55,6 @@ reachable_in (t ∷ ts) s all h = elim (contains_cases t ts s h) [
 item_is : {X : Type 0} (xs : List X) (i : ℕ) (d : X) → i < length xs → get_or xs i d ≡ get_or xs i (get_or xs i d)
 item_is xs i d lt = sym (get_or_from_slice_get xs i (get_or xs i d) (get_or xs i d) (slice_get-get_or xs i d lt))
 
-pub rest_item : {X : Type 0} (xs : List X) (i : ℕ) (d : X) → i < length xs → drop i xs ≡ get_or xs i d ∷ drop (i + 1) xs
-rest_item xs i d lt = rest_at xs i (get_or xs i d) lt (item_is xs i d lt)
-
 pub item_in : {X : Type 0} (xs : List X) (i : ℕ) (d : X) → i < length xs → Contains xs (get_or xs i d)
 item_in xs i d lt = (i, lt, sym (item_is xs i d lt))
 

@@ -116,7 +116,7 @@ decide_violation rules shapes v minimums reach = by (slice_get rules v.rule) ref
           ]
     ]
 
--- All that may be a violation.
+-- All possible violations of the rules before a number.
 abbrev entry : ℕ → Shape → Option Shape → Violation
 entry n a b = record { rule = n; first = a; second = b }
 
@@ -128,9 +128,9 @@ abbrev of_number : ℕ → List Shape → List Shape → List Violation
 of_number n [] shapes = []
 of_number n (a ∷ firsts) shapes = with_first n a shapes ++ of_number n firsts shapes
 
-abbrev candidates : ℕ → List Shape → List Violation
-candidates zero shapes = []
-candidates (suc n) shapes = of_number n shapes shapes ++ candidates n shapes
+abbrev possible_violations : ℕ → List Shape → List Violation
+possible_violations zero shapes = []
+possible_violations (suc n) shapes = of_number n shapes shapes ++ possible_violations n shapes
 
 alone_in : (n : ℕ) (a : Shape) (bs : List Shape) → Contains (with_first n a bs) (entry n a None)
 alone_in n a [] = contains_first (entry n a None) []
@@ -154,15 +154,15 @@ first_in n (c ∷ cs) shapes a v h k = elim (contains_cases c cs a h) [
   | inr later ↦ Contains-append_right (with_first n c shapes) (of_number n cs shapes) v (first_in n cs shapes a v later k)
 ]
 
-number_in : (n : ℕ) (shapes : List Shape) (m : ℕ) (v : Violation) → m < n → Contains (of_number m shapes shapes) v → Contains (candidates n shapes) v
+number_in : (n : ℕ) (shapes : List Shape) (m : ℕ) (v : Violation) → m < n → Contains (of_number m shapes shapes) v → Contains (possible_violations n shapes) v
 number_in zero shapes m v lt h = absurd (omega (arith, lt))
 number_in (suc n) shapes m v lt h = elim (below_or m n (omega (arith, lt))) [
-  | inl less ↦ Contains-append_right (of_number n shapes shapes) (candidates n shapes) v (number_in n shapes m v less h)
-  | inr same ↦ Contains-append_left (of_number n shapes shapes) (candidates n shapes) v (subst (λ (k : ℕ). Contains (of_number k shapes shapes) v) same h)
+  | inl less ↦ Contains-append_right (of_number n shapes shapes) (possible_violations n shapes) v (number_in n shapes m v less h)
+  | inr same ↦ Contains-append_left (of_number n shapes shapes) (possible_violations n shapes) v (subst (λ (k : ℕ). Contains (of_number k shapes shapes) v) same h)
 ]
 
-candidate : (rules : List Rule) (shapes : List Shape) (v : Violation) → IsViolation rules shapes v → Contains (candidates (length rules) shapes) v
-candidate rules shapes v w =
+violation_is_possible : (rules : List Rule) (shapes : List Shape) (v : Violation) → IsViolation rules shapes v → Contains (possible_violations (length rules) shapes) v
+violation_is_possible rules shapes v w =
     number_in (length rules) shapes v.rule v (slice_get_within rules v.rule w.rule w.numbered)
     (first_in v.rule shapes shapes v.first v w.first (second_in v.rule v.first shapes v.second w.second))
 
@@ -262,5 +262,5 @@ sift P decide (c ∷ cs) =
 
 pub reports_are_there : ReportsAreThere
 reports_are_there rules shapes minimums reach =
-    let s = sift (IsViolation rules shapes) (λ v. decide_violation rules shapes v minimums reach) (candidates (length rules) shapes) in
-    (s.0, record { rises = s.1.rises; only = λ v h. ((s.1.has v).0 h).1; each = λ v w. (s.1.has v).1 (candidate rules shapes v w, w) })
+    let s = sift (IsViolation rules shapes) (λ v. decide_violation rules shapes v minimums reach) (possible_violations (length rules) shapes) in
+    (s.0, record { rises = s.1.rises; only = λ v h. ((s.1.has v).0 h).1; each = λ v w. (s.1.has v).1 (violation_is_possible rules shapes v w, w) })

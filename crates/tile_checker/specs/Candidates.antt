@@ -5,7 +5,7 @@ use Rattle.or_geom.specs.declared.shape.Shape.{Shape}
 use Rattle.or_geom.specs.Containing.{HoldsRect}
 use Rattle.shape_bins.specs.Meets.{Meet}
 use Rattle.tile_checker.specs.declared.candidates.Candidate.{Candidate}
-use Rattle.tile_checker.specs.declared.candidates.Candidates.{Candidates}
+use Rattle.tile_checker.specs.declared.candidates.KeptCandidates.{KeptCandidates}
 
 -- the shape at this place, with the place
 pub record IsCandidateAt (shapes : List Shape) (place : ℕ) (candidate : Candidate) : Type 0 where
@@ -32,7 +32,7 @@ pub record AreCandidatesOver (shapes : List Shape) (layer : ℕ) (area : Rect) (
   pub are : AreCandidates shapes layer asked candidates
 
 -- what is kept, if it isn't too much, are those that it says
-pub record AreTrueCandidates (shapes : List Shape) (kept : Candidates) : Type 0 where
+pub record AreTrueCandidates (shapes : List Shape) (kept : KeptCandidates) : Type 0 where
   pub listed : IfSome kept.list (λ candidates. AreCandidates shapes kept.layer kept.asked candidates.items)
 
 -- the place of one that meets the area

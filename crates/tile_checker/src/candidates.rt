@@ -22,9 +22,9 @@ pub struct Candidate {
     pub rect: Rect,
 }
 
-/// The shapes of a layer that meet an area.
+/// The candidates that are kept: the shapes of a layer that meet an area.
 #[derive(Drop)]
-pub struct Candidates {
+pub struct KeptCandidates {
     pub layer: u16,
     pub asked: Rect,
     /// None where they are too many to be kept.
@@ -67,7 +67,7 @@ fn list_of(
 }
 
 /// Whether what is kept is of this layer and this tile.
-fn is_about(candidates: &Option<Candidates>, layer: u16, tile: Rect) -> bool {
+fn is_about(candidates: &Option<KeptCandidates>, layer: u16, tile: Rect) -> bool {
     match candidates {
         Some(kept) => kept.layer == layer && kept.asked == tile,
         None => false,
@@ -86,7 +86,7 @@ fn renew(bins: &Bins, layer: u16, tile: Rect, notes: &mut Notes) -> Result<(), M
     notes.near.clear();
     bins.add_near(layer, tile, &mut notes.near)?;
     let list = list_of(notes.alloc, bins, layer, tile, &mut notes.near)?;
-    notes.candidates = Some(Candidates {
+    notes.candidates = Some(KeptCandidates {
         layer,
         asked: tile,
         list,
@@ -97,7 +97,7 @@ fn renew(bins: &Bins, layer: u16, tile: Rect, notes: &mut Notes) -> Result<(), M
 /// The list that is kept, if it has all shapes of the layer that meet the area.
 fn kept_over<'n>(
     _bins: &Bins,
-    kept: &'n Option<Candidates>,
+    kept: &'n Option<KeptCandidates>,
     layer: u16,
     area: Rect,
 ) -> Option<&'n [Candidate]>

@@ -1,6 +1,6 @@
 ghost use Rattle.std.specs.Prelude.{◌≡◌, [], None};
 
-use crate::candidates::Candidates;
+use crate::candidates::KeptCandidates;
 use crate::clear::ClearArea;
 use crate::violation::Violation;
 use crate::width::WideArea;
@@ -21,7 +21,7 @@ pub struct Notes {
     /// The clear box found last, for the same reason.
     pub clear: Option<ClearArea>,
     /// The shapes of one layer that meet the tile, from which the partners of its first shapes are listed.
-    pub candidates: Option<Candidates>,
+    pub candidates: Option<KeptCandidates>,
 }
 
 impl Notes {

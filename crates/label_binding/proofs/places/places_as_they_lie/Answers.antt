@@ -13,7 +13,7 @@ index_mut-requires c =
 pub loop-index-preserved : goal.loop-index-preserved
 loop-index-preserved c = record {
   order = c.loop-index.invariant.order;
-  found = found_next c.args.bins.now c.args.labels.now c.loop-index.places.items c.deref-index-items.result.now c.loop-index.index-index _ c.bound_shape.result c.loop-index.invariant.order c.loop-index-test.true (found_by c.args.bins.now (get_or c.args.labels.now (get_or c.deref-index-items.result.now c.loop-index.index-index 0) _) c.anchor_of.result c.bound_shape.result c.anchor_of.ensures c.bound_shape.ensures) c.loop-index.invariant.found;
+  found = found_next c.args.bins.now c.args.labels.now c.loop-index.places.items c.deref-index-items.result.now c.loop-index.index-index _ c.bound_shape.result c.loop-index.invariant.order c.loop-index-test.true (found_by c.args.bins.now (get_or c.args.labels.now (get_or c.deref-index-items.result.now c.loop-index.index-index 0) _) c.label_anchor.result c.bound_shape.result c.label_anchor.ensures c.bound_shape.ensures) c.loop-index.invariant.found;
 }
 
 pub returns : goal.returns

@@ -11,6 +11,6 @@ pub returns : goal.returns
 returns c =
     let width : to_z w64 (of_z w64 c.args.wire.now.width) ≡ c.args.wire.now.width = omega (arith, ints) in
     let Found : ℕ → ℤ → Type 0 = λ layer w. MatchOption c.first_candidate.result
-    (NoCandidate (IsWanted (Fitting layer c.args.demand.2 c.args.size w)) c.args.bins.now (map plain_label c.args.labels.now) c.args.demand.0.now)
-    (IsFirstCandidate (IsWanted (Fitting layer c.args.demand.2 c.args.size w)) c.args.bins.now (map plain_label c.args.labels.now) c.args.demand.0.now) in
+    (NoCandidate (IsWanted (Fitting layer c.args.demand.fit c.args.size w)) c.args.bins.now (map plain_label c.args.labels.now) c.args.demand.pin.now)
+    (IsFirstCandidate (IsWanted (Fitting layer c.args.demand.fit c.args.size w)) c.args.bins.now (map plain_label c.args.labels.now) c.args.demand.pin.now) in
     subst (λ (layer : ℕ). Found layer c.args.wire.now.width) c.layer.ensures (subst (λ (w : ℤ). Found c.layer.result w) width c.first_candidate.ensures)

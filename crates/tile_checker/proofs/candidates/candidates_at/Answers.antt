@@ -2,7 +2,8 @@ use Rattle.std.proofs.Common.{refl}
 use Rattle.std.proofs.lemmas.List.{drop_all}
 use Rattle.or_geom.proofs.AddsLaws.{adds_one}
 use Rattle.or_geom.proofs.GatheringLaws.{gather_goes_on, gather_ends}
-use Rattle.tile_checker.proofs.PlaceLaws.{rest_item, item_in}
+use Rattle.or_geom.proofs.ListLaws.{rest_item}
+use Rattle.tile_checker.proofs.PlaceLaws.{item_in}
 use Rattle.tile_checker.proofs.OwnerLaws.{inside_read, place_read}
 use Rattle.tile_checker.proofs.CandidateLaws.{same_at}
 use Rattle.tile_checker.proofs.candidates.candidates_at.Goals as goal

@@ -1,6 +1,7 @@
 use Rattle.std.proofs.lemmas.List.{drop_all}
 use Rattle.or_geom.proofs.GatheringLaws.{gather_goes_on, gather_ends}
-use Rattle.tile_checker.proofs.PlaceLaws.{rest_item, item_in}
+use Rattle.or_geom.proofs.ListLaws.{rest_item}
+use Rattle.tile_checker.proofs.PlaceLaws.{item_in}
 use Rattle.tile_checker.proofs.OwnerLaws.{from_place, inside_read, place_read}
 use Rattle.tile_checker.proofs.in_tile.add_of_firsts.Goals as goal
 

@@ -1,9 +1,9 @@
 use Rattle.std.proofs.Common.{refl, arith}
 use Rattle.std.proofs.lemmas.List.{drop_all}
-use Rattle.or_geom.proofs.ListLaws.{contained_at}
+use Rattle.or_geom.proofs.ListLaws.{contained_at, rest_item}
 use Rattle.or_geom.proofs.AddsLaws.{adds_one}
 use Rattle.or_geom.proofs.GatheringLaws.{gather_skips, gather_goes_on, gather_ends}
-use Rattle.tile_checker.proofs.PlaceLaws.{rest_item, item_in, reachable_in}
+use Rattle.tile_checker.proofs.PlaceLaws.{item_in, reachable_in}
 use Rattle.tile_checker.proofs.PairLaws.{partner_inside, partner_read, same_second}
 use Rattle.tile_checker.proofs.space.add_pairs.Goals as goal
 
