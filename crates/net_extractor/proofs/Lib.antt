@@ -1,4 +1,3 @@
-mod RestLaws
 pub mod AreaLaws
 pub mod MappedLaws
 pub mod NetLaws

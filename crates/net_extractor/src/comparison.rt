@@ -1,7 +1,8 @@
-ghost use Rattle.std.specs.Prelude.{◌≡◌, ◌↔◌, ◌<◌, length, map, slice_get, Some, None, IfOk, IfSome};
+ghost use Rattle.std.specs.Prelude.{◌≡◌, ◌↔◌, ◌<◌, length, map, slice_get, Some, None, IfOk, IfSome, MatchOption};
 ghost use Rattle.net_extractor.specs.Conflicts.{AreConflictPins, IsDifferenceOf};
 ghost use Rattle.net_extractor.specs.Difference.{AreAlike};
-ghost use Rattle.net_extractor.specs.FirstDifference.{IsFirstDifference, name_of_label, name_of_pin};
+ghost use Rattle.net_extractor.specs.FirstDifference.{AreNoStrangers, IsFirstDifference, IsStrangerAt, name_of_label, name_of_pin};
+ghost use Rattle.net_extractor.specs.PinNets.{IsPinNets};
 ghost use Rattle.net_extractor.specs.PlainNetLabel.{PlainNetLabel};
 ghost use Rattle.net_extractor.specs.PlainNets.{plain_net};
 
@@ -54,23 +55,28 @@ fn named(alloc: Global, pins: &[RowPin], conflict: Conflict) -> Result<NetDiff, 
     }
 }
 
-/// The first difference of labels and pins.
-fn first_difference(
+/// The first difference of labels and pins, where the nets of the pins and the first stranger are known.
+pub fn first_difference(
     alloc: Global,
     labels: &[NetLabel],
     pins: &[RowPin],
+    nets: PinNets,
+    stranger: Option<usize>,
 ) -> Result<Option<NetDiff>, Memory>
+    requires nets { IsPinNets (map plain_net labels.now) pins.now nets }
+    requires stranger { MatchOption stranger (AreNoStrangers (map plain_net labels.now) pins.now)
+        (IsStrangerAt (map plain_net labels.now) pins.now) }
     ensures none { IfOk result (λ found. (found ≡ None) ↔ AreAlike (map plain_net labels.now) pins.now) }
     ensures first { IfOk result (λ found. IfSome found (IsFirstDifference (map plain_net labels.now) pins.now)) }
 {
-    let nets = match pin_nets(alloc, labels, pins)? {
+    let nets = match nets {
         PinNets::Unlabelled(place) => {
             let pin = pin_name(alloc, &pins[place])?;
             return Ok(Some(NetDiff::Unlabelled { pin }));
         }
         PinNets::All(nets) => nets,
     };
-    if let Some(place) = first_stranger(alloc, labels, pins)? {
+    if let Some(place) = stranger {
         let pin = label_name(alloc, labels, place)?;
         return Ok(Some(NetDiff::Stranger { pin }));
     }
@@ -89,5 +95,9 @@ pub fn compare(alloc: Global, nets: &Nets, rows: &Rows) -> Result<Option<NetDiff
     ensures first { IfOk result (λ found. IfSome found (IsFirstDifference (map plain_net nets.now.labels)
         rows.now.pins)) }
 {
-    first_difference(alloc, nets.labels.as_slice(), rows.pins.as_slice())
+    let labels = nets.labels.as_slice();
+    let pins = rows.pins.as_slice();
+    let found = pin_nets(alloc, labels, pins)?;
+    let stranger = first_stranger(alloc, labels, pins)?;
+    first_difference(alloc, labels, pins, found, stranger)
 }

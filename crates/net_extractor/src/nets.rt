@@ -2,10 +2,10 @@ ghost use Rattle.std.specs.Prelude.{◌≡◌, ◌+◌, ◌^◌, ◌<◌, ◌≤
 ghost use Rattle.std.specs.List.Sorted.{IsStrictlySortedBy};
 ghost use Rattle.or_geom.specs.ShapeOrder.{shape_order};
 ghost use Rattle.cell_hierarchy.specs.Plain.{plain_label};
-ghost use Rattle.label_binding.specs.BoundPlaces.{label_anchor, IsFoundUnder};
+ghost use Rattle.label_binding.specs.BoundPlaces.{label_anchor, AreBoundPlaces, IsFoundUnder};
 ghost use Rattle.net_extractor.specs.Entries.{IsNetOf};
 ghost use Rattle.net_extractor.specs.Extraction.{AreNets, AreNetsUnder};
-ghost use Rattle.net_extractor.specs.Numbering.{AreRootsWithin};
+ghost use Rattle.net_extractor.specs.Numbering.{AreRootsWithin, IsNumbering};
 ghost use Rattle.net_extractor.specs.PlainNets.{plain_net};
 
 use crate::label::{NetLabel, Nets};
@@ -42,24 +42,36 @@ fn label_at<'b>(labels: &'b [Label<'b>], index: usize) -> &'b Label<'b>
     &labels[index]
 }
 
-/// The nets of the labels, over the shapes of the bins.
-fn nets_of<'b>(
+/// The place that stands at an index.
+fn place_at(places: &[Option<usize>], index: usize) -> Option<usize>
+    requires { index < length places.now }
+    ensures { slice_get places.now index ≡ Some result }
+{
+    places[index]
+}
+
+/// The nets of the labels, which bind the shapes at these places. The nets of the shapes have no numbers yet.
+pub fn numbered_nets<'b>(
     alloc: Global,
-    connections: &[Connect],
+    _connections: &[Connect],
     bins: &Bins,
     labels: &'b [Label<'b>],
+    places: &[Option<usize>],
+    numbering: Numbering,
 ) -> Result<Nets<'b>, Memory>
     requires rises { IsStrictlySortedBy shape_order bins.now }
     requires few { length labels.now ≤ 2 ^ 22 }
-    ensures { IfOk result (λ nets. AreNetsUnder connections.now bins.now (map plain_label labels.now)
+    requires places { AreBoundPlaces bins.now labels.now places.now }
+    requires numbered { IsNumbering _connections.now bins.now numbering }
+    requires next { numbering.next ≡ 0 }
+    ensures { IfOk result (λ nets. AreNetsUnder _connections.now bins.now (map plain_label labels.now)
         (map plain_net nets.labels)) }
 {
-    let places = bound_places(alloc, bins, labels)?;
-    let mut numbering = no_numbers(alloc, connections, bins)?;
+    let mut numbering = numbering;
     let mut entries = Items::new(alloc);
     for index in 0..labels.len() {
         let label = label_at(labels, index);
-        let net = net_of(bins, label, places[index], &mut numbering);
+        let net = net_of(bins, label, place_at(places, index), &mut numbering);
         entries.push(NetLabel { label, net })?;
     }
     Ok(Nets { labels: entries })
@@ -84,5 +96,8 @@ pub fn extract<'b, R: Threads + Sync>(
     ensures { IfOk result (λ nets. AreNets tech.now flat.now.shapes.now
         (map plain_label flat.now.labels.now) (map plain_net nets.labels)) }
 {
-    nets_of(alloc, tech.connects.as_slice(), bins, flat.labels)
+    let connections = tech.connects.as_slice();
+    let places = bound_places(alloc, bins, flat.labels)?;
+    let numbering = no_numbers(alloc, connections, bins)?;
+    numbered_nets(alloc, connections, bins, flat.labels, &places, numbering)
 }

@@ -13,24 +13,35 @@ ghost use Rattle.command_steps.specs.Outcome.{UnlessMemory, is_read_failed, is_u
 
 use crate::inputs::{Inputs, LayoutInput};
 use bumpalo::Bump;
-use cell_hierarchy::{Flat, Sorter, flatten, flatten_shapes_by};
+use cell_hierarchy::{Flat, Sorter, flatten_by, flatten_shapes_by};
 use device_command::answer_devices;
 use kit_command::answer_kit;
-use net_extractor::{Nets, compare, extract};
+use net_extractor::Nets;
 use netlist::{Deck, Rows};
 use or_geom::{Memory, Name};
+use parallel_nets::{compare_by, extract_by};
 use parallel_sort::WorkerSorter;
 use reply_lines::{Refusal, Reply, comparison_reply, nets_reply, report_of};
-use shape_bins::{index, index_by};
+use shape_bins::index_by;
 use spice_netlist::flat_rows;
 use std::alloc::Global;
 use std::thread::Threads;
 use tech_rules::{RoleName, Tech};
 use tile_checker::{Gate, Violation, check_all};
 
+/// `nets` and `compare` are not told how many workers they have: two threads share the nets, and lists are sorted by as
+/// many threads as there are processors.
+const NET_WORKERS: u8 = 2;
+
 /// The flat shapes and labels of the structure, in the arena.
-fn flat_of<'b>(alloc: Global, bump: &'b Bump, layout: &LayoutInput) -> Result<Flat<'b>, Refusal>
-    requires { IsReadLayout layout.now }
+fn flat_of<'b, S: Sorter>(
+    sorter: &S,
+    alloc: Global,
+    bump: &'b Bump,
+    layout: &LayoutInput,
+) -> Result<Flat<'b>, Refusal>
+    requires ready { S.ready sorter.now }
+    requires read { IsReadLayout layout.now }
     ensures flat { UnlessMemory (AreFlatListsIn layout.now) result }
     ensures rises { IfOk result (λ flat. IsStrictlySortedBy shape_order flat.shapes.now) }
     ensures few { IfOk result (λ flat. length flat.shapes.now ≤ 16777216) }
@@ -38,7 +49,8 @@ fn flat_of<'b>(alloc: Global, bump: &'b Bump, layout: &LayoutInput) -> Result<Fl
     ensures read { is_read_failed result ≡ false }
     ensures words { is_usage_outcome result ≡ false }
 {
-    flatten(alloc, bump, &layout.lib, &layout.tech, &layout.top).map_err(Refusal::Flatten)
+    let flat = flatten_by(sorter, alloc, bump, &layout.lib, &layout.tech, &layout.top);
+    flat.map_err(Refusal::Flatten)
 }
 
 /// The flat shapes of the structure alone, in the arena.
@@ -74,8 +86,12 @@ fn nets_of<'b, R: Threads + Sync>(
     requires few_labels { length flat.now.labels.now ≤ 2 ^ 22 }
     ensures { IfOk result (λ nets. AreNetsOf tech.now (lists_of flat.now) (map plain_net nets.labels)) }
 {
-    let bins = index(alloc, bump, flat)?;
-    extract(rt, alloc, tech, flat, &bins)
+    let sorter = WorkerSorter {
+        rt,
+        workers: NET_WORKERS,
+    };
+    let bins = index_by(&sorter, alloc, bump, flat)?;
+    extract_by(rt, alloc, tech, flat, &bins, NET_WORKERS)
 }
 
 /// The violations of the rules over a flat layout, by as many workers.
@@ -157,7 +173,11 @@ fn answer_nets<R: Threads + Sync>(
     ensures words { is_usage_outcome result ≡ false }
 {
     let bump = Bump::new(alloc);
-    let flat = flat_of(alloc, &bump, layout)?;
+    let sorter = WorkerSorter {
+        rt,
+        workers: NET_WORKERS,
+    };
+    let flat = flat_of(&sorter, alloc, &bump, layout)?;
     let nets = nets_of(rt, alloc, &bump, &layout.tech, &flat)?;
     Ok(nets_reply(alloc, layout.tech.layers.as_slice(), nets.labels.as_slice())?)
 }
@@ -176,10 +196,14 @@ fn answer_compare<R: Threads + Sync>(
     ensures words { is_usage_outcome result ≡ false }
 {
     let bump = Bump::new(alloc);
-    let flat = flat_of(alloc, &bump, layout)?;
+    let sorter = WorkerSorter {
+        rt,
+        workers: NET_WORKERS,
+    };
+    let flat = flat_of(&sorter, alloc, &bump, layout)?;
     let rows = rows_of(alloc, layout, deck)?;
     let nets = nets_of(rt, alloc, &bump, &layout.tech, &flat)?;
-    let difference = compare(alloc, &nets, &rows)?;
+    let difference = compare_by(rt, alloc, &nets, &rows, NET_WORKERS)?;
     Ok(comparison_reply(alloc, &difference)?)
 }
 

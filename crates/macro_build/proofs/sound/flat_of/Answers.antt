@@ -6,11 +6,11 @@ use Rattle.cell_hierarchy.proofs.FlatLaws.{labels_are_few}
 use Rattle.cell_hierarchy.proofs.FlatShapeLaws.{shapes_are_few}
 use Rattle.cell_hierarchy.proofs.OneListsLaws.{shapes_of_lists}
 use Rattle.cell_hierarchy.proofs.OneSetLaws.{one_set}
+use Rattle.cell_hierarchy.proofs.FlatNearLaws.{flat_near}
 use Rattle.port_lists.specs.Held.{held_of}
 use Rattle.macro_build.specs.Built.{IsBuildFault}
 use Rattle.macro_build.proofs.CheckLaws.{flatten_cause}
 use Rattle.macro_build.proofs.FaultLaws.{told_ok, told_err}
-use Rattle.kit_rules.proofs.NearLaws.{flat_near}
 use Rattle.macro_build.proofs.sound.flat_of.Goals as goal
 
 pub returns-clause-reach : goal.returns-clause-reach

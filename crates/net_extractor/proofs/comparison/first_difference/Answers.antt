@@ -9,39 +9,39 @@ use Rattle.net_extractor.proofs.comparison.first_difference.Goals as goal
 
 pub returns-in-Unlabelled-clause-none : goal.returns-in-Unlabelled-clause-none
 returns-in-Unlabelled-clause-none c =
-    let lack = rw c.in-Unlabelled.is at c.in_ok-place.ensures in
+    let lack = rw c.in-Unlabelled.is at c.requires.nets in
     differ (map plain_net c.args.labels.now) c.args.pins.now (Unlabelled c.in_ok-pin-in-Unlabelled.pin)
     (unlabelled (map plain_net c.args.labels.now) c.args.pins.now c.in-Unlabelled.place c.index-pins-place.result c.in_ok-pin-in-Unlabelled.pin lack
     (slice_get_read c.args.pins.now _ c.in-Unlabelled.place c.index-pins-place.result refl (slice_get_within c.args.pins.now c.in-Unlabelled.place lack.pin lack.first.here) c.index-pins-place.is) c.in_ok-pin-in-Unlabelled.ensures)
 
 pub returns-in-Unlabelled-clause-first : goal.returns-in-Unlabelled-clause-first
 returns-in-Unlabelled-clause-first c =
-    let lack = rw c.in-Unlabelled.is at c.in_ok-place.ensures in
+    let lack = rw c.in-Unlabelled.is at c.requires.nets in
     unlabelled (map plain_net c.args.labels.now) c.args.pins.now c.in-Unlabelled.place c.index-pins-place.result c.in_ok-pin-in-Unlabelled.pin lack
     (slice_get_read c.args.pins.now _ c.in-Unlabelled.place c.index-pins-place.result refl (slice_get_within c.args.pins.now c.in-Unlabelled.place lack.pin lack.first.here) c.index-pins-place.is) c.in_ok-pin-in-Unlabelled.ensures
 
 pub label_name-requires : goal.label_name-requires
 label_name-requires c =
-    let s = rw c.in-Some.is at c.in_ok-place-2.ensures in
+    let s = rw c.in-Some.is at c.requires.stranger in
     let sized = length-map c.args.labels.now plain_net in
     let lt = slice_get_within (map plain_net c.args.labels.now) c.in-Some.place s.label s.first.here in
     omega (arith, sized, lt)
 
 pub returns-in-Some-clause-none : goal.returns-in-Some-clause-none
 returns-in-Some-clause-none c =
-    let s = rw c.in-Some.is at c.in_ok-place-2.ensures in
+    let s = rw c.in-Some.is at c.requires.stranger in
     differ (map plain_net c.args.labels.now) c.args.pins.now (Stranger c.in_ok-pin.pin)
-    (stranger (map plain_net c.args.labels.now) c.args.pins.now c.in-Some.place s.label c.in_ok-pin.pin (labelled_all (map plain_net c.args.labels.now) c.args.pins.now c.in-All.nets.items (rw c.in-All.is at c.in_ok-place.ensures)) s s.first.here (c.in_ok-pin.ensures s.label s.first.here))
+    (stranger (map plain_net c.args.labels.now) c.args.pins.now c.in-Some.place s.label c.in_ok-pin.pin (labelled_all (map plain_net c.args.labels.now) c.args.pins.now c.in-All.nets.items (rw c.in-All.is at c.requires.nets)) s s.first.here (c.in_ok-pin.ensures s.label s.first.here))
 
 pub returns-in-Some-clause-first : goal.returns-in-Some-clause-first
 returns-in-Some-clause-first c =
-    let s = rw c.in-Some.is at c.in_ok-place-2.ensures in
-    stranger (map plain_net c.args.labels.now) c.args.pins.now c.in-Some.place s.label c.in_ok-pin.pin (labelled_all (map plain_net c.args.labels.now) c.args.pins.now c.in-All.nets.items (rw c.in-All.is at c.in_ok-place.ensures)) s s.first.here (c.in_ok-pin.ensures s.label s.first.here)
+    let s = rw c.in-Some.is at c.requires.stranger in
+    stranger (map plain_net c.args.labels.now) c.args.pins.now c.in-Some.place s.label c.in_ok-pin.pin (labelled_all (map plain_net c.args.labels.now) c.args.pins.now c.in-All.nets.items (rw c.in-All.is at c.requires.nets)) s s.first.here (c.in_ok-pin.ensures s.label s.first.here)
 
 pub returns-in_default-conflict-clause-none : goal.returns-in_default-conflict-clause-none
 returns-in_default-conflict-clause-none c =
     alike (map plain_net c.args.labels.now) c.args.pins.now
-    (record { labelled = labelled_all (map plain_net c.args.labels.now) c.args.pins.now c.in-All.nets.items (rw c.in-All.is at c.in_ok-place.ensures); placed = rw c.in_default.is at c.in_ok-place-2.ensures })
+    (record { labelled = labelled_all (map plain_net c.args.labels.now) c.args.pins.now c.in-All.nets.items (rw c.in-All.is at c.requires.nets); placed = rw c.in_default.is at c.requires.stranger })
     (rw c.in_default-conflict.is at c.in_ok-conflict.ensures)
 
 pub named-requires : goal.named-requires
@@ -51,11 +51,11 @@ pub returns-clause-none : goal.returns-clause-none
 returns-clause-none c =
     differ (map plain_net c.args.labels.now) c.args.pins.now c.in_ok-difference.difference
     (conflict_first (map plain_net c.args.labels.now) c.args.pins.now c.in-Some-conflict.conflict c.in_ok-difference.difference
-    (record { labelled = labelled_all (map plain_net c.args.labels.now) c.args.pins.now c.in-All.nets.items (rw c.in-All.is at c.in_ok-place.ensures); placed = rw c.in_default.is at c.in_ok-place-2.ensures })
+    (record { labelled = labelled_all (map plain_net c.args.labels.now) c.args.pins.now c.in-All.nets.items (rw c.in-All.is at c.requires.nets); placed = rw c.in_default.is at c.requires.stranger })
     (rw c.in-Some-conflict.is at c.in_ok-conflict.ensures) c.in_ok-difference.ensures)
 
 pub returns-clause-first : goal.returns-clause-first
 returns-clause-first c =
     conflict_first (map plain_net c.args.labels.now) c.args.pins.now c.in-Some-conflict.conflict c.in_ok-difference.difference
-    (record { labelled = labelled_all (map plain_net c.args.labels.now) c.args.pins.now c.in-All.nets.items (rw c.in-All.is at c.in_ok-place.ensures); placed = rw c.in_default.is at c.in_ok-place-2.ensures })
+    (record { labelled = labelled_all (map plain_net c.args.labels.now) c.args.pins.now c.in-All.nets.items (rw c.in-All.is at c.requires.nets); placed = rw c.in_default.is at c.requires.stranger })
     (rw c.in-Some-conflict.is at c.in_ok-conflict.ensures) c.in_ok-difference.ensures

@@ -3,10 +3,9 @@ use Rattle.std.proofs.lemmas.List.{drop_all}
 use Rattle.std.proofs.lemmas.Option.{slice_get-get_or}
 use Rattle.or_geom.specs.declared.shape.Shape.{Shape}
 use Rattle.or_geom.specs.Gathering.{SomeHas}
-use Rattle.or_geom.proofs.ListLaws.{contained_at, one_at}
+use Rattle.or_geom.proofs.ListLaws.{contained_at, one_at, rest_item}
 use Rattle.net_extractor.specs.declared.run.RunShape.{RunShape}
 use Rattle.net_extractor.specs.Contacts.{IsInContactTo, IsInContactAt}
-use Rattle.net_extractor.proofs.RestLaws.{rest_item}
 use Rattle.net_extractor.proofs.JoinLaws.{joins_as, joining_goes_on, joining_ends}
 use Rattle.net_extractor.proofs.contacts.join_places.Goals as goal
 

@@ -1,7 +1,7 @@
 use Rattle.std.proofs.Common.{◌+◌, ◌∙◌, get_or, drop}
 use Rattle.std.proofs.lemmas.List.{drop_all}
 use Rattle.net_extractor.specs.RunPairs.{IsOverPairOf}
-use Rattle.net_extractor.proofs.RestLaws.{rest_item}
+use Rattle.or_geom.proofs.ListLaws.{rest_item}
 use Rattle.net_extractor.proofs.JoinLaws.{joining_begins, joining_goes_on, joining_ends}
 use Rattle.net_extractor.proofs.roots.join_over_layers.Goals as goal
 

@@ -32,24 +32,24 @@ few_labels layout flat is =
     omega (arith, few, same)
 
 pub returns-clause-flat : goal.returns-clause-flat
-returns-clause-flat c =
+returns-clause-flat g c =
     let layout = c.args.layout.now in
-    said_outcome (IsFlat layout) (IsFlatteningFault layout) Flatten c.flatten.result c.map_err.result c.flatten.ensures.flat c.flatten.ensures.fault c.map_err.ensures.cases
+    said_outcome (IsFlat layout) (IsFlatteningFault layout) Flatten c.flatten_by-flat.result c.map_err.result c.flatten_by-flat.ensures.flat c.flatten_by-flat.ensures.fault c.map_err.ensures.cases
 
 pub returns-clause-rises : goal.returns-clause-rises
-returns-clause-rises c =
+returns-clause-rises g c =
     let layout = c.args.layout.now in
-    let flat = said_value (IsFlat layout) Flatten c.flatten.result c.map_err.result c.flatten.ensures.flat c.map_err.ensures.cases in
+    let flat = said_value (IsFlat layout) Flatten c.flatten_by-flat.result c.map_err.result c.flatten_by-flat.ensures.flat c.map_err.ensures.cases in
     IfOk-weaker c.map_err.result (IsFlat layout) (λ flat. IsStrictlySortedBy shape_order flat.shapes.now) (λ flat is. is.shapes_rise) flat
 
 pub returns-clause-few : goal.returns-clause-few
-returns-clause-few c =
+returns-clause-few g c =
     let layout = c.args.layout.now in
-    let flat = said_value (IsFlat layout) Flatten c.flatten.result c.map_err.result c.flatten.ensures.flat c.map_err.ensures.cases in
-    IfOk-weaker c.map_err.result (IsFlat layout) (λ flat. length flat.shapes.now ≤ 16777216) (few layout c.requires) flat
+    let flat = said_value (IsFlat layout) Flatten c.flatten_by-flat.result c.map_err.result c.flatten_by-flat.ensures.flat c.map_err.ensures.cases in
+    IfOk-weaker c.map_err.result (IsFlat layout) (λ flat. length flat.shapes.now ≤ 16777216) (few layout c.requires.read) flat
 
 pub returns-clause-few_labels : goal.returns-clause-few_labels
-returns-clause-few_labels c =
+returns-clause-few_labels g c =
     let layout = c.args.layout.now in
-    let flat = said_value (IsFlat layout) Flatten c.flatten.result c.map_err.result c.flatten.ensures.flat c.map_err.ensures.cases in
+    let flat = said_value (IsFlat layout) Flatten c.flatten_by-flat.result c.map_err.result c.flatten_by-flat.ensures.flat c.map_err.ensures.cases in
     IfOk-weaker c.map_err.result (IsFlat layout) (λ flat. length flat.labels.now ≤ 2 ^ 22) (few_labels layout) flat
