@@ -22,8 +22,7 @@ use Rattle.kit_nets.specs.StatedParts.{Source, Standing}
 use Rattle.kit_nets.proofs.ChannelDrawnLaws.{box_there}
 use Rattle.kit_nets.proofs.ColumnHubLaws.{zero_times}
 use Rattle.moved_nets.specs.Moved.{slice_net}
-use Rattle.seen_pairs.specs.Counterpart.{IsOfSlices, leaf_bank, number_of, right_by, slices_up}
-use Rattle.small_rows.specs.Few.{IsAmongFew}
+use Rattle.seen_pairs.specs.Counterpart.{IsOfSlices, leaf_bank, right_by, slices_up}
 use Rattle.small_wires.specs.Seen.{IsNearZone}
 use Rattle.seen_pairs.specs.Window.{IsSeenSource, HasSeenWindow}
 use Rattle.small_wires.proofs.AnchorLaws.{Anchored, joiner_left, end_right, rail_left, columns_same, width_here, width_there, columns_some, rows_same}
@@ -63,11 +62,8 @@ module _ (connections : List Connect) (s : Source) (by reach : ℤ) (is : IsSeen
   abbrev b : ℕ
   b = leaf_bank i.leaf
 
-  abbrev chosen : (m : ℕ) × IsAmongFew s.plan.word_size window.word (number_of i.leaf) m
-  chosen = first.chosen connections s by reach is window i of
-
   abbrev m : ℕ
-  m = chosen.0
+  m = (first.chosen connections s by reach is window i of).0
 
   abbrev dx : ℤ
   dx = right_by s.plan s.kit f g b m

@@ -20,7 +20,7 @@ use Rattle.good_places.proofs.NumberLaws.{banks_before}
 use Rattle.good_wires.specs.Spaced.{AreApart}
 use Rattle.good_wires.specs.Channels.{ArePinsApart}
 use Rattle.good_wires.proofs.LayerLaws.{metals_differ, cuts_differ, cut_no_metal}
-use Rattle.wire_nets.proofs.ToldLaws.{told_back, box_left, box_right, box_below, box_above}
+use Rattle.wire_nets.proofs.ToldLaws.{told_back, box_left, box_right, box_below, box_above, behind}
 use Rattle.good_places.proofs.LaidLaws.{pitch_low}
 
 -- cuts in the middle of squares that are a pitch apart
@@ -31,6 +31,12 @@ vias_left wire cut x y u v s t sizes a b le =
   where
     go : (x u m c s w : ℤ) → c <ℤ w → (x +ℤ (w +ℤ s)) ≤ℤ u → (((x +ℤ m) +ℤ c) +ℤ s) ≤ℤ (u +ℤ m)
     go x u m c s w n le = omega (arith, ints, n, le)
+
+-- a track ends a space before a higher one
+pub lower_track : (low : ℤ) (wire : Wire) (t v : ℕ) → AreSizes wire → t < v → ((track_y low wire t +ℤ wire.width) +ℤ wire.space) ≤ℤ track_y low wire v
+lower_track low wire t v sizes lt = go low wire.width wire.space (pos t *ℤ pitch wire) (pos v *ℤ pitch wire) (banks_before t v (pitch wire) lt (pitch_low wire sizes)) where
+  go : (low w s t v : ℤ) → (t +ℤ (w +ℤ s)) ≤ℤ v → (((low +ℤ (s +ℤ t)) +ℤ w) +ℤ s) ≤ℤ (low +ℤ (s +ℤ v))
+  go low w s t v le = omega (arith, ints, le)
 
 module _ (ch : Channel) (wire : Wire) (intervals : List Interval) (track : List ℕ) (tracks : ℕ) (sizes : AreSizes wire) (seven : AreSevenLayers wire) (assigned : IsAssignment (pitch wire) intervals track) (top : ArePinsApart wire ch.top) (bottom : ArePinsApart wire ch.bottom) where
   abbrev Told : ℕ → ℕ → Shape → Shape → Type 0
@@ -49,14 +55,6 @@ module _ (ch : Channel) (wire : Wire) (intervals : List Interval) (track : List 
   one_track : (i j t v : ℕ) (a b : Interval) → i ≡ j → HasTrack intervals track i a t → HasTrack intervals track j b v → t ≡ v
   one_track i j t v a b e p q = one_at track i t v p.on (subst (λ (k : ℕ). slice_get track k ≡ Some v) (sym e) q.on)
 
-  lower_track : (t v : ℕ) → t < v → ((y_of t +ℤ wire.width) +ℤ wire.space) ≤ℤ y_of v
-  lower_track t v lt = go ch.low wire.width wire.space (pos t *ℤ pitch wire) (pos v *ℤ pitch wire) (banks_before t v (pitch wire) lt (pitch_low wire sizes)) where
-    go : (low w s t v : ℤ) → (t +ℤ (w +ℤ s)) ≤ℤ v → (((low +ℤ (s +ℤ t)) +ℤ w) +ℤ s) ≤ℤ (low +ℤ (s +ℤ v))
-    go low w s t v le = omega (arith, ints, le)
-
-  behind : (x u w s : ℤ) → (x +ℤ (w +ℤ s)) ≤ℤ u → ((x +ℤ w) +ℤ s) ≤ℤ u
-  behind x u w s le = omega (arith, ints, le)
-
   abbrev metal : ℕ → ℕ
   metal k = slice_index wire.metals k
 
@@ -64,9 +62,9 @@ module _ (ch : Channel) (wire : Wire) (intervals : List Interval) (track : List 
   trunks i j t v a b s u p q is at = elim (cases_eq i j) [
     | inl e ↦ inl e
     | inr differ ↦ elim (cases_lt t v) [
-      | inl lt ↦ box_below wire.space (metal 2) (metal 2) a.left (y_of t) (a.right +ℤ wire.width) (y_of t +ℤ wire.width) b.left (y_of v) (b.right +ℤ wire.width) (y_of v +ℤ wire.width) s u is at (lower_track t v lt)
+      | inl lt ↦ box_below wire.space (metal 2) (metal 2) a.left (y_of t) (a.right +ℤ wire.width) (y_of t +ℤ wire.width) b.left (y_of v) (b.right +ℤ wire.width) (y_of v +ℤ wire.width) s u is at (lower_track ch.low wire t v sizes lt)
       | inr ge ↦ elim (cases_lt v t) [
-        | inl lt ↦ box_above wire.space (metal 2) (metal 2) a.left (y_of t) (a.right +ℤ wire.width) (y_of t +ℤ wire.width) b.left (y_of v) (b.right +ℤ wire.width) (y_of v +ℤ wire.width) s u is at (lower_track v t lt)
+        | inl lt ↦ box_above wire.space (metal 2) (metal 2) a.left (y_of t) (a.right +ℤ wire.width) (y_of t +ℤ wire.width) b.left (y_of v) (b.right +ℤ wire.width) (y_of v +ℤ wire.width) s u is at (lower_track ch.low wire v t sizes lt)
         | inr le ↦
             let e : v ≡ t = omega (arith, ge, le) in
             elim (assigned.apart i j t a b differ p (subst (HasTrack intervals track j b) e q)) [

@@ -15,14 +15,14 @@ use Rattle.sram_netlist.specs.Nets.{Net, Vdd, Gnd}
 use Rattle.macro_layout.specs.LayoutKit.{LayoutKit}
 use Rattle.macro_layout.specs.Places.{Floorplan, bit_height}
 use Rattle.macro_layout.specs.Floorplan.{Tracks, column_channel_y, column_role, upper_y, write_height}
-use Rattle.macro_layout.specs.Wires.{IsBar, IsPowerBarAt, IsGroundBarAt, row_y}
+use Rattle.macro_layout.specs.Wires.{IsPowerBarAt, IsGroundBarAt, row_y}
 use Rattle.macro_layout.specs.Stated.{IsShifted}
 use Rattle.good_places.proofs.NumberLaws.{all_of, times_low}
 use Rattle.good_wires.specs.Spaced.{AreApart}
 use Rattle.good_wires.specs.Drawn.{IsDrawnMemory}
-use Rattle.good_wires.proofs.LayerLaws.{metals_differ, cut_no_metal}
 use Rattle.good_wires.proofs.LevelLaws.{Levels, levels, pitch_low}
-use Rattle.joined_nets.specs.WireNets.{in_bank, IsBankWireOf, IsWireOfNet}
+use Rattle.joined_nets.specs.WireNets.{in_bank, IsWireOfNet}
+use Rattle.wire_nets.proofs.KindLaws as kinds
 use Rattle.wire_nets.proofs.StackLaws.{IsStack, AreOver, PowerHeight, GroundHeight, stack_told}
 use Rattle.wire_nets.specs.Named.{AreToldApart, AreHighCells}
 use Rattle.sram_netlist.proofs.Bounds.{written_all}
@@ -33,12 +33,6 @@ module _ (plan : Organization) (kit : LayoutKit) (wire : Wire) (tracks : Tracks)
 
   abbrev metal : ℕ → ℕ
   metal k = slice_index wire.metals k
-
-  no_metal : (k : ℕ) (n : ℕ) → k < 4 → (k ≡ 0 → ⊥) → n ≡ metal k → n ≡ metal 0 → ⊥
-  no_metal k n lt other e z = metals_differ wire k 0 m.seven lt (omega arith) other (sym e ∙ z)
-
-  no_cut : (k : ℕ) (n : ℕ) → k < 3 → n ≡ slice_index wire.cuts k → n ≡ metal 0 → ⊥
-  no_cut k n lt e z = cut_no_metal wire k 0 m.seven lt (omega arith) (sym e ∙ z)
 
   stack : IsStack wire.width (pos (kit.height Inv)) f.write_y f.sense_y (column_channel_y kit f) f.column_y f.array_y f.precharge_y (upper_y kit f)
   stack = record {
@@ -144,11 +138,11 @@ module _ (plan : Organization) (kit : LayoutKit) (wire : Wire) (tracks : Tracks)
 
   -- no wire of a channel stands on the first metal
   no_channel : (ch : Channel) (count number t : ℕ) (interval : Interval) (s : Shape) → s.layer ≡ metal 0 → IsWireOf ch wire count number interval t s → ⊥
-  no_channel ch count number t interval s on (inl trunk) = no_metal 2 s.layer (omega arith) (λ e. omega (arith, e)) trunk.on on
-  no_channel ch count number t interval s on (inr (inl (x, p, inl box))) = no_metal 3 s.layer (omega arith) (λ e. omega (arith, e)) box.on on
-  no_channel ch count number t interval s on (inr (inl (x, p, inr via))) = no_cut 2 s.layer (omega arith) via.on on
-  no_channel ch count number t interval s on (inr (inr (x, p, inl box))) = no_metal 1 s.layer (omega arith) (λ e. omega (arith, e)) box.on on
-  no_channel ch count number t interval s on (inr (inr (x, p, inr via))) = no_cut 1 s.layer (omega arith) via.on on
+  no_channel ch count number t interval s on is = by (kinds.channel_box plan kit wire tracks f 0 m.seven (omega arith) ch count number interval t s on is) where
+    by : kinds.IsChannelBox plan kit wire tracks f 0 ch count number interval t s → ⊥
+    by (inl (other, trunk)) = omega (arith, other)
+    by (inr (inl (other, x, p, box))) = omega (arith, other)
+    by (inr (inr (other, x, p, box))) = omega (arith, other)
 
   -- a joiner with this upper edge, in its bank
   joiner : (b : ℕ) (n name : Net) (inner s : Shape) (top left right : ℤ) → n ≡ in_bank b name → name ≡ Gnd → IsShifted (pos b *ℤ f.bank_width) (pos 0) inner s → IsBox (metal 0) left (top -ℤ wire.width) right top inner → Ground (top -ℤ wire.width) → IsFlatWire n s
@@ -170,31 +164,22 @@ module _ (plan : Organization) (kit : LayoutKit) (wire : Wire) (tracks : Tracks)
       end : (s i t w : ℤ) → s ≡ i +ℤ pos 0 → i ≡ t → s ≡ (t -ℤ w) +ℤ w
       end s i t w a d = omega (arith, ints, a, d)
 
-  bank_kind : (b : ℕ) (n name : Net) (inner s : Shape) → n ≡ in_bank b name → IsShifted (pos b *ℤ f.bank_width) (pos 0) inner s → s.layer ≡ metal 0 → IsBankWireOf plan kit wire tracks f name inner → IsFlatWire n s
-  bank_kind b n name inner s is sh on (inl channel) = absurd (no_channel channel.channel tracks.column channel.number channel.drawn.t channel.drawn.interval inner (sym sh.layer ∙ on) channel.drawn.wires)
-  bank_kind b n name inner s is sh on (inr (inl tap)) = elim tap.drawn [
-    | inl box ↦ absurd (no_metal 2 s.layer (omega arith) (λ e. omega (arith, e)) (sh.layer ∙ box.on) on)
-    | inr via ↦ absurd (no_cut 2 s.layer (omega arith) (sh.layer ∙ via.on) on)
-  ]
-  bank_kind b n name inner s is sh on (inr (inr (inl rail))) = absurd (no_metal 3 s.layer (omega arith) (λ e. omega (arith, e)) (sh.layer ∙ rail.drawn.on) on)
-  bank_kind b n name inner s is sh on (inr (inr (inr (inl out)))) = absurd (no_metal 3 s.layer (omega arith) (λ e. omega (arith, e)) (sh.layer ∙ out.drawn.on) on)
-  bank_kind b n name inner s is sh on (inr (inr (inr (inr (gnd, inl box))))) = joiner b n name inner s f.sense_y _ _ is gnd sh box.1 (inr (inr (inr (inr (inl (written_over box.0, refl))))))
-  bank_kind b n name inner s is sh on (inr (inr (inr (inr (gnd, inr box))))) = joiner b n name inner s f.array_y _ _ is gnd sh box (inr (inr (inr (inr (inr refl)))))
-
-  trunk_elsewhere : (x y u v : ℤ) (s : Shape) → s.layer ≡ metal 0 → IsBox (metal 1) x y u v s → ⊥
-  trunk_elsewhere x y u v s on box = no_metal 1 s.layer (omega arith) (λ e. omega (arith, e)) box.on on
-
-  bar_kind : (n : Net) (trunk x y : ℤ) (s : Shape) → s.layer ≡ metal 0 → IsBar wire trunk x y s → ((n ≡ Vdd) × Power y) ⊎ ((n ≡ Gnd) × Ground y) → IsFlatWire n s
-  bar_kind n trunk x y s on (inl box) kind = record { y = y; low = box.low; high = box.high; kind = kind }
-  bar_kind n trunk x y s on (inr via) kind = absurd (no_cut 0 s.layer (omega arith) via.on on)
+  bank_kind : (b : ℕ) (n name : Net) (inner s : Shape) → n ≡ in_bank b name → IsShifted (pos b *ℤ f.bank_width) (pos 0) inner s → kinds.IsBankBox plan kit wire tracks f 0 name inner → IsFlatWire n s
+  bank_kind b n name inner s is sh (inl tap) = let other = tap.0 in absurd (omega (arith, other))
+  bank_kind b n name inner s is sh (inr (inl upper)) = let other = upper.0 in absurd (omega (arith, other))
+  bank_kind b n name inner s is sh (inr (inr (none, gnd, inl box))) = joiner b n name inner s f.sense_y _ _ is gnd sh box.1 (inr (inr (inr (inr (inl (written_over box.0, refl))))))
+  bank_kind b n name inner s is sh (inr (inr (none, gnd, inr box))) = joiner b n name inner s f.array_y _ _ is gnd sh box (inr (inr (inr (inr (inr refl)))))
 
   on_first : (n : Net) (s : Shape) → s.layer ≡ metal 0 → IsWireOfNet plan kit wire tracks f n s → IsFlatWire n s
-  on_first n s on (inl (inl channel)) = absurd (no_channel channel.channel tracks.main channel.number channel.drawn.t channel.drawn.interval s on channel.drawn.wires)
-  on_first n s on (inl (inr (inl (is, inl trunk)))) = absurd (trunk_elsewhere _ _ _ _ s on trunk)
-  on_first n s on (inl (inr (inl (is, inr (x, y, at, bar))))) = bar_kind n _ x y s on bar (inl (is, power x y at))
-  on_first n s on (inl (inr (inr (is, inl trunk)))) = absurd (trunk_elsewhere _ _ _ _ s on trunk)
-  on_first n s on (inl (inr (inr (is, inr (x, y, at, bar))))) = bar_kind n _ x y s on bar (inr (is, ground x y at))
-  on_first n s on (inr banks) = bank_kind banks.bank n banks.net banks.inner s banks.named banks.shifted on banks.is
+  on_first n s on is = by (kinds.on_metal plan kit wire tracks f 0 m.seven (omega arith) n s on is) where
+    by : kinds.IsOnMetal plan kit wire tracks f 0 n s → IsFlatWire n s
+    by (inl channel) = absurd (no_channel channel.channel tracks.main channel.number channel.drawn.t channel.drawn.interval s on channel.drawn.wires)
+    by (inr (inl w)) = absurd (no_channel w.is.channel tracks.column w.is.number w.is.drawn.t w.is.drawn.interval w.inner w.layer w.is.drawn.wires)
+    by (inr (inr (inl (inl (is, inl (other, trunk)))))) = absurd (omega (arith, other))
+    by (inr (inr (inl (inr (is, inl (other, trunk)))))) = absurd (omega (arith, other))
+    by (inr (inr (inl (inl (is, inr (none, x, y, at, box)))))) = record { y = y; low = box.low; high = box.high; kind = inl (is, power x y at) }
+    by (inr (inr (inl (inr (is, inr (none, x, y, at, box)))))) = record { y = y; low = box.low; high = box.high; kind = inr (is, ground x y at) }
+    by (inr (inr (inr w))) = bank_kind w.bank n w.net w.inner s w.named w.shifted w.is
 
   over_apart : (n k : Net) (s u : Shape) (a : IsFlatWire n s) (c : IsFlatWire k u) → AreOver wire.width a.y c.y → (n ≡ k) ⊎ AreApart (pos 1) s.rect u.rect
   over_apart n k s u a c (inl below) = let p = a.high in let q = c.low in inr (inr (inr (inl (go s.rect.y2 u.rect.y1 a.y c.y wire.width p q below)))) where
