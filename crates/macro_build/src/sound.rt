@@ -82,7 +82,8 @@ fn rows_and_nets<'b, R: Threads + Sync>(
         requires { ArePlanNumbers (numbers_of order.now.plan.now) × IsMacro order.now.kit.now order.now.plan.now
             (held_of order.now.contents) order.now.name.now made.now }
         ensures { IfOk result (λ rows. AreFlatRows (all_subckts order.entry.now.kit.now made.entry.now)
-            order.entry.now.name.now (leaf_names order.entry.now.kit.now (held_of order.entry.now.contents)) rows.pins) }
+            order.entry.now.name.now (leaf_names order.entry.now.kit.now (held_of order.entry.now.contents))
+            rows.pins) }
     { rows_of(alloc, order, made) };
     let nets = || -> Result<Nets, Memory>
         requires { IsStrictlySortedBy shape_order flat.now.shapes.now × (bins.now ≡ flat.now.shapes.now)

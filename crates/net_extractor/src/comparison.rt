@@ -1,7 +1,8 @@
 ghost use Rattle.std.specs.Prelude.{◌≡◌, ◌↔◌, ◌<◌, length, map, slice_get, Some, None, IfOk, IfSome, MatchOption};
 ghost use Rattle.net_extractor.specs.Conflicts.{AreConflictPins, IsDifferenceOf};
 ghost use Rattle.net_extractor.specs.Difference.{AreAlike};
-ghost use Rattle.net_extractor.specs.FirstDifference.{AreNoStrangers, IsFirstDifference, IsStrangerAt, name_of_label, name_of_pin};
+ghost use Rattle.net_extractor.specs.FirstDifference.{AreNoStrangers, IsFirstDifference, IsStrangerAt};
+ghost use Rattle.net_extractor.specs.FirstDifference.{name_of_label, name_of_pin};
 ghost use Rattle.net_extractor.specs.PinNets.{IsPinNets};
 ghost use Rattle.net_extractor.specs.PlainNetLabel.{PlainNetLabel};
 ghost use Rattle.net_extractor.specs.PlainNets.{plain_net};

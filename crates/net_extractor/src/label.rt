@@ -2,7 +2,7 @@ use cell_hierarchy::Label;
 use or_geom::Items;
 
 /// A label of the flat layout and its net, if it binds a shape. The label stays where it lies: a layout has millions.
-#[derive(Clone, Copy, Debug)]
+#[derive(Clone, Copy)]
 pub struct NetLabel<'b> {
     pub label: &'b Label<'b>,
     /// The number of its net, from 0 by first appearance.
@@ -10,7 +10,7 @@ pub struct NetLabel<'b> {
 }
 
 /// The labels of a layout with their nets.
-#[derive(Debug, Drop)]
+#[derive(Drop)]
 pub struct Nets<'b> {
     pub labels: Items<NetLabel<'b>>,
 }

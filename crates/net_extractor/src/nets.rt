@@ -50,7 +50,8 @@ fn place_at(places: &[Option<usize>], index: usize) -> Option<usize>
     places[index]
 }
 
-/// The nets of the labels, which bind the shapes at these places. The nets of the shapes have no numbers yet.
+/// The nets of the labels, which bind the shapes at these places. The nets of the shapes, under these connections, have
+/// no numbers yet.
 pub fn numbered_nets<'b>(
     alloc: Global,
     _connections: &[Connect],

@@ -5,8 +5,8 @@ ghost use Rattle.std.specs.Prelude.{Ok, IfOk};
 
 use std::thread::{Threads, join};
 
-/// What two computations give: where there is more than one worker they run in two threads, else one after the other in
-/// the thread that calls. The error of the first comes before that of the second.
+/// What two computations give if both succeed: where there is more than one worker they run in two threads, else one
+/// after the other in the thread that calls. Of two errors that of the first is kept; nothing is claimed of an error.
 pub fn try_join_by<
     R: Threads,
     F: FnOnce() -> Result<A, E> + Send,
