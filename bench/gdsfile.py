@@ -74,8 +74,8 @@ def write(name, data):
 
 
 def measured(words, limit=120, stack=None):
-    """Status, user seconds, wall seconds, MiB at most, and lines printed; of a run that is ended after `limit` seconds of processor time, and
-    may have so many KiB of stack."""
+    """Status, seconds of processor time (user and system), wall seconds, MiB at most, and lines printed; of a run that is ended after `limit`
+    seconds of processor time, and may have so many KiB of stack."""
     read, sent = os.pipe()
     start = time.time()
     pid = os.fork()
@@ -92,4 +92,4 @@ def measured(words, limit=120, stack=None):
         while chunk := pipe.read(1 << 20):
             lines += chunk.count(b"\n")
     _, status, used = os.wait4(pid, 0)
-    return os.waitstatus_to_exitcode(status), used.ru_utime, time.time() - start, used.ru_maxrss / 1024, lines
+    return os.waitstatus_to_exitcode(status), used.ru_utime + used.ru_stime, time.time() - start, used.ru_maxrss / 1024, lines
