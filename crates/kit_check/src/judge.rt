@@ -25,9 +25,9 @@ use gds_library::Library;
 use leaf_contacts::has_loose_contact;
 use leaf_nets::LooseLeaf;
 use leaf_tables::{Kit, PartFault};
-use net_extractor::{compare, extract};
 use netlist::Deck;
 use or_geom::{Memory, Name};
+use parallel_nets::{compare_by, extract_by};
 use shape_bins::{Bins, index};
 use std::alloc::Global;
 use std::thread::Threads;
@@ -98,9 +98,9 @@ pub fn differs<'b, R: Threads + Sync>(
     ensures { IfOk result (λ found. MatchBool found (DifferIn kit.now name.now made.now (lists_of flat.now))
         (MatchIn kit.now name.now made.now (lists_of flat.now))) }
 {
-    let nets = extract(rt, alloc, &kit.tech, flat, bins)?;
+    let nets = extract_by(rt, alloc, &kit.tech, flat, bins, 1)?;
     let rows = rows_of(alloc, kit, name, made)?;
-    Ok(compare(alloc, &nets, &rows)?.is_some())
+    Ok(compare_by(rt, alloc, &nets, &rows, 1)?.is_some())
 }
 
 /// Whether a loose shape of a leaf cell touches a shape outside of its instance.

@@ -5,6 +5,7 @@ mod cells;
 mod contact;
 mod levels;
 mod marks;
+mod places;
 mod references;
 mod stand;
 mod touching;

@@ -1,4 +1,4 @@
-ghost use Rattle.std.specs.Prelude.{◌≡◌, ◌↔◌, ◌≢◌, ◌⊎◌, ◌++◌, ◌∷◌, [], List, Contains, IfOk, IsTrue, Some, length};
+ghost use Rattle.std.specs.Prelude.{◌≡◌, ◌↔◌, ◌≢◌, ◌⊎◌, ◌++◌, ◌∷◌, [], List, Contains, IfOk, IsTrue, Some, length, slice_get};
 ghost use Rattle.std.specs.Prelude.{true, false};
 ghost use Rattle.std.specs.List.Sorted.{IsStrictlySortedBy};
 ghost use Rattle.std.specs.Option.{option_copied};
@@ -11,6 +11,7 @@ ghost use Rattle.or_geom.specs.Reachable.{AreReachable};
 ghost use Rattle.leaf_contacts.specs.Stands.{AreReachedCells};
 
 use crate::cells::{ReachedCells, summary_at};
+use crate::places::{FoundPlaces, place_of};
 use crate::stand::{ReferenceStep, Stand, are_same};
 use or_geom::{Memory, Shape};
 use std::alloc::Global;
@@ -69,22 +70,21 @@ fn mark_with<'b>(mark: Option<Mark<'b>>, instance: Option<&'b [ReferenceStep]>) 
     }
 }
 
-/// Marks a shape of the flat layout as one that stands in the instance.
+/// Marks the shape of the flat layout that stands at a place as one that stands in the instance.
 fn mark_shape<'b>(
-    shapes: &[Shape],
-    shape: Shape,
+    _shapes: &[Shape],
+    _shape: Shape,
+    place: usize,
     instance: Option<&'b [ReferenceStep]>,
     marks: &mut [Option<Mark<'b>>],
 )
-    requires rises { IsStrictlySortedBy shape_order shapes.now }
-    requires listed { Contains shapes.now shape }
-    requires sized { length marks.old ≡ length shapes.now }
-    ensures { (entries : List ShapeEntry) → AreMarks shapes.now entries marks.old
-        → AreMarks shapes.now (entries ++ shape_entry shape (option_copied instance.entry) ∷ []) marks.new }
+    requires rises { IsStrictlySortedBy shape_order _shapes.now }
+    requires there { slice_get _shapes.now place ≡ Some _shape }
+    requires sized { length marks.old ≡ length _shapes.now }
+    ensures { (entries : List ShapeEntry) → AreMarks _shapes.now entries marks.old
+        → AreMarks _shapes.now (entries ++ shape_entry _shape (option_copied instance.entry) ∷ []) marks.new }
 {
-    if let Ok(index) = shapes.binary_search(&shape) {
-        marks[index] = Some(mark_with(marks[index], instance));
-    }
+    marks[place] = Some(mark_with(marks[place], instance));
 }
 
 /// Marks the shapes that a cell draws itself where it stands.
@@ -92,6 +92,7 @@ fn mark_stand<'b>(
     own: &[Shape],
     shapes: &[Shape],
     stand: &Stand<'b>,
+    found: &mut FoundPlaces,
     marks: &mut [Option<Mark<'b>>],
 )
     requires rises { IsStrictlySortedBy shape_order shapes.now }
@@ -103,12 +104,15 @@ fn mark_stand<'b>(
         × ((entries : List ShapeEntry) → AreMarks shapes.now entries marks.old
         → AreMarks shapes.now (entries ++ added) marks.new) }
 {
-    for shape in own {
+    for number in 0..own.len() {
+        let shape = own[number];
         let moved = Shape {
             layer: shape.layer,
             rect: stand.place.apply(shape.rect),
         };
-        mark_shape(shapes, moved, stand.instance, marks);
+        let place = place_of(shapes, moved, found.next_place(number));
+        found.keep_place(number, place);
+        mark_shape(shapes, moved, place, stand.instance, marks);
     }
 }
 
@@ -126,9 +130,10 @@ pub fn marks_of<'b>(
         × AreMarks shapes.now entries marks.items) }
 {
     let mut marks = vec![in alloc; None; shapes.len()]?;
+    let mut found = FoundPlaces::new(alloc)?;
     for stand in stands {
         let summary = summary_at(tree.summaries, stand.cell);
-        mark_stand(&summary.shapes, shapes, stand, &mut marks);
+        mark_stand(&summary.shapes, shapes, stand, &mut found, &mut marks);
     }
     Ok(marks)
 }

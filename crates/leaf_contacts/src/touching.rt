@@ -60,7 +60,7 @@ fn touch(connections: &[Connect], a: Shape, b: Shape) -> bool
 }
 
 /// Whether the shapes are one.
-fn is_same(a: Shape, b: Shape) -> bool
+pub fn is_same(a: Shape, b: Shape) -> bool
     ensures { IsTrue result ↔ (a ≡ b) }
 {
     a == b

@@ -9,10 +9,9 @@ ghost use Rattle.net_extractor.specs.PlainNets.{plain_net};
 
 use crate::conflicts::{Conflict, first_conflict};
 use crate::difference::{NetDiff, PinName};
-use crate::label::{NetLabel, Nets};
-use crate::pins::{PinNets, pin_nets};
-use crate::strangers::first_stranger;
-use netlist::{RowPin, Rows};
+use crate::label::NetLabel;
+use crate::pins::PinNets;
+use netlist::RowPin;
 use or_geom::{Memory, Name};
 use std::alloc::Global;
 
@@ -56,7 +55,9 @@ fn named(alloc: Global, pins: &[RowPin], conflict: Conflict) -> Result<NetDiff, 
     }
 }
 
-/// The first difference of labels and pins, where the nets of the pins and the first stranger are known.
+/// The first difference of the labels of a layout and the pins of a netlist, or None exactly where there is none; the
+/// nets of the pins and the first stranger are known. First comes the first pin without a bound label, then the first
+/// stranger; then pin by pin what is open or short.
 pub fn first_difference(
     alloc: Global,
     labels: &[NetLabel],
@@ -87,18 +88,4 @@ pub fn first_difference(
     };
     let difference = named(alloc, pins, conflict)?;
     Ok(Some(difference))
-}
-
-/// The first difference of the labels of a layout and the rows of a netlist, or None exactly where there is none. First
-/// comes the first pin without a bound label, then the first stranger; then pin by pin what is open or short.
-pub fn compare(alloc: Global, nets: &Nets, rows: &Rows) -> Result<Option<NetDiff>, Memory>
-    ensures none { IfOk result (λ found. (found ≡ None) ↔ AreAlike (map plain_net nets.now.labels) rows.now.pins) }
-    ensures first { IfOk result (λ found. IfSome found (IsFirstDifference (map plain_net nets.now.labels)
-        rows.now.pins)) }
-{
-    let labels = nets.labels.as_slice();
-    let pins = rows.pins.as_slice();
-    let found = pin_nets(alloc, labels, pins)?;
-    let stranger = first_stranger(alloc, labels, pins)?;
-    first_difference(alloc, labels, pins, found, stranger)
 }

@@ -22,13 +22,13 @@ mod sets;
 mod strangers;
 mod walk;
 
-pub use comparison::{compare, first_difference};
+pub use comparison::first_difference;
 pub use difference::{NetDiff, PinName};
 pub use label::{NetLabel, Nets};
 pub use laws::{differences_are_unique, differences_exclude_alike, nets_are_unique};
 pub use links::{connects, is_conductor};
 pub use net_numbers::shape_nets;
-pub use nets::{extract, numbered_nets};
+pub use nets::numbered_nets;
 pub use numbering::{Numbering, no_numbers};
 pub use pins::{PinNets, pin_nets};
 pub use strangers::first_stranger;

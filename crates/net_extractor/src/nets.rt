@@ -4,19 +4,17 @@ ghost use Rattle.or_geom.specs.ShapeOrder.{shape_order};
 ghost use Rattle.cell_hierarchy.specs.Plain.{plain_label};
 ghost use Rattle.label_binding.specs.BoundPlaces.{label_anchor, AreBoundPlaces, IsFoundUnder};
 ghost use Rattle.net_extractor.specs.Entries.{IsNetOf};
-ghost use Rattle.net_extractor.specs.Extraction.{AreNets, AreNetsUnder};
+ghost use Rattle.net_extractor.specs.Extraction.{AreNetsUnder};
 ghost use Rattle.net_extractor.specs.Numbering.{AreRootsWithin, IsNumbering};
 ghost use Rattle.net_extractor.specs.PlainNets.{plain_net};
 
 use crate::label::{NetLabel, Nets};
-use crate::numbering::{Numbering, no_numbers, number_at};
-use cell_hierarchy::{Flat, Label};
-use label_binding::bound_places;
+use crate::numbering::{Numbering, number_at};
+use cell_hierarchy::Label;
 use or_geom::{Items, Memory};
 use shape_bins::Bins;
 use std::alloc::Global;
-use std::thread::Threads;
-use tech_rules::{Connect, Tech};
+use tech_rules::Connect;
 
 /// The number of the net of the shape that a label binds, if it binds one: `place` is where that stands.
 fn net_of(
@@ -50,8 +48,12 @@ fn place_at(places: &[Option<usize>], index: usize) -> Option<usize>
     places[index]
 }
 
-/// The nets of the labels, which bind the shapes at these places. The nets of the shapes, under these connections, have
-/// no numbers yet.
+/// The nets of the labels, which bind the shapes at these places: one entry for each label, in order. The net is none
+/// exactly where the label binds no shape, two nets are equal exactly where the bound shapes are on one net, and the
+/// numbers run from 0 by first appearance. The nets of the shapes, under these connections, have no numbers yet. The
+/// shapes are in order and distinct, `bins` is their index, and there are at most 2^22 labels.
+///
+/// The memory grows with the labels, which are not copied themselves.
 pub fn numbered_nets<'b>(
     alloc: Global,
     _connections: &[Connect],
@@ -76,29 +78,4 @@ pub fn numbered_nets<'b>(
         entries.push(NetLabel { label, net })?;
     }
     Ok(Nets { labels: entries })
-}
-
-/// The nets of the labels: one entry for each label, in order. The net is none exactly where the label binds no shape,
-/// two nets are equal exactly where the bound shapes are on one net, and the numbers run from 0 by first appearance.
-/// The shapes are in order and distinct, `bins` is their index, and there are at most 2^22 labels.
-///
-/// The memory grows with the shapes and labels, and not with the pairs of shapes that touch. The labels themselves are
-/// not copied.
-pub fn extract<'b, R: Threads + Sync>(
-    _rt: &R,
-    alloc: Global,
-    tech: &Tech,
-    flat: &Flat<'b>,
-    bins: &Bins,
-) -> Result<Nets<'b>, Memory>
-    requires rises { IsStrictlySortedBy shape_order flat.now.shapes.now }
-    requires bins { bins.now ≡ flat.now.shapes.now }
-    requires few { length flat.now.labels.now ≤ 2 ^ 22 }
-    ensures { IfOk result (λ nets. AreNets tech.now flat.now.shapes.now
-        (map plain_label flat.now.labels.now) (map plain_net nets.labels)) }
-{
-    let connections = tech.connects.as_slice();
-    let places = bound_places(alloc, bins, flat.labels)?;
-    let numbering = no_numbers(alloc, connections, bins)?;
-    numbered_nets(alloc, connections, bins, flat.labels, &places, numbering)
 }

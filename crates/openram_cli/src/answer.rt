@@ -29,9 +29,17 @@ use std::thread::Threads;
 use tech_rules::{RoleName, Tech};
 use tile_checker::{Gate, Violation, check_all};
 
-/// `nets` and `compare` are not told how many workers they have: two threads share the nets, and lists are sorted by as
+/// `nets` and `compare` are not told how many workers they have: a few threads share the nets, and lists are sorted by as
 /// many threads as there are processors.
 const NET_WORKERS: u8 = 2;
+
+/// What sorts and shares the work of `nets` and `compare`.
+fn net_sorter<R: Threads>(rt: &R) -> WorkerSorter<'_, R> {
+    WorkerSorter {
+        rt,
+        workers: NET_WORKERS,
+    }
+}
 
 /// The flat shapes and labels of the structure, in the arena.
 fn flat_of<'b, S: Sorter>(
@@ -75,7 +83,7 @@ fn shapes_of<'b, S: Sorter>(
 
 /// The labels of a flat layout with their nets.
 fn nets_of<'b, R: Threads + Sync>(
-    rt: &R,
+    sorter: &WorkerSorter<'_, R>,
     alloc: Global,
     bump: &'b Bump,
     tech: &Tech,
@@ -86,12 +94,8 @@ fn nets_of<'b, R: Threads + Sync>(
     requires few_labels { length flat.now.labels.now ≤ 2 ^ 22 }
     ensures { IfOk result (λ nets. AreNetsOf tech.now (lists_of flat.now) (map plain_net nets.labels)) }
 {
-    let sorter = WorkerSorter {
-        rt,
-        workers: NET_WORKERS,
-    };
-    let bins = index_by(&sorter, alloc, bump, flat)?;
-    extract_by(rt, alloc, tech, flat, &bins, NET_WORKERS)
+    let bins = index_by(sorter, alloc, bump, flat)?;
+    extract_by(sorter.rt, alloc, tech, flat, &bins, sorter.workers)
 }
 
 /// The violations of the rules over a flat layout, by as many workers.
@@ -173,12 +177,9 @@ fn answer_nets<R: Threads + Sync>(
     ensures words { is_usage_outcome result ≡ false }
 {
     let bump = Bump::new(alloc);
-    let sorter = WorkerSorter {
-        rt,
-        workers: NET_WORKERS,
-    };
+    let sorter = net_sorter(rt);
     let flat = flat_of(&sorter, alloc, &bump, layout)?;
-    let nets = nets_of(rt, alloc, &bump, &layout.tech, &flat)?;
+    let nets = nets_of(&sorter, alloc, &bump, &layout.tech, &flat)?;
     Ok(nets_reply(alloc, layout.tech.layers.as_slice(), nets.labels.as_slice())?)
 }
 
@@ -196,13 +197,10 @@ fn answer_compare<R: Threads + Sync>(
     ensures words { is_usage_outcome result ≡ false }
 {
     let bump = Bump::new(alloc);
-    let sorter = WorkerSorter {
-        rt,
-        workers: NET_WORKERS,
-    };
+    let sorter = net_sorter(rt);
     let flat = flat_of(&sorter, alloc, &bump, layout)?;
     let rows = rows_of(alloc, layout, deck)?;
-    let nets = nets_of(rt, alloc, &bump, &layout.tech, &flat)?;
+    let nets = nets_of(&sorter, alloc, &bump, &layout.tech, &flat)?;
     let difference = compare_by(rt, alloc, &nets, &rows, NET_WORKERS)?;
     Ok(comparison_reply(alloc, &difference)?)
 }

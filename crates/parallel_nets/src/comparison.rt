@@ -34,8 +34,9 @@ fn pins_and_stranger<R: Threads>(
     try_join_by(rt, workers, nets, stranger)
 }
 
-/// The first difference of the labels of a layout and the rows of a netlist, as `compare` of `net_extractor` gives it.
-/// With more than one worker the nets of pins are looked up while strangers are looked for.
+/// The first difference of the labels of a layout and the rows of a netlist, or None exactly where there is none. First
+/// comes the first pin without a bound label, then the first stranger; then pin by pin what is open or short. With more
+/// than one worker the nets of pins are looked up while strangers are looked for.
 pub fn compare_by<R: Threads>(
     rt: &R,
     alloc: Global,

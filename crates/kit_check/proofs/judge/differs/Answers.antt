@@ -13,4 +13,4 @@ returns g c =
     let made = c.args.made.now in
     let lists = lists_of c.args.flat.now in
     subst (λ (b : Bool). MatchBool b (DifferIn kit name made lists) (MatchIn kit name made lists)) (sym c.is_some.ensures)
-    (differ_or_match kit name made lists (map plain_net c.in_ok-nets.nets.labels) c.in_ok-rows.rows.pins c.in_ok-compare.field-0 (record { nets = c.in_ok-nets.ensures; netlist = c.in_ok-rows.ensures }) c.in_ok-compare.ensures.none)
+    (differ_or_match kit name made lists (map plain_net c.in_ok-nets.nets.labels) c.in_ok-rows.rows.pins c.in_ok-compare_by.field-0 (record { nets = c.in_ok-nets.ensures; netlist = c.in_ok-rows.ensures }) c.in_ok-compare_by.ensures.none)
