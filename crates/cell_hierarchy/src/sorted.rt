@@ -35,8 +35,8 @@ fn sort_labels<'b, S: Sorter>(sorter: &S, labels: &mut Vec<Label<'b>, &'b Bump>)
     sorter.sort_labels(labels.as_mut_slice());
 }
 
-/// Drops repetitions from a sorted list in an arena. What compares as equal has to be equal for nothing to be lost, which
-/// the premise of `keeps` says of the type.
+/// Drops repetitions from a sorted list in an arena. What compares as equal has to be equal for nothing to be lost,
+/// which the premise of `keeps` says of the type.
 fn drop_repetitions<T: Ord + Drop>(list: &mut Vec<T, &Bump>)
     requires { IsSorted T.cmp list.old.items }
     ensures rises { IsStrictlySortedBy T.cmp list.new.items }

@@ -103,8 +103,8 @@ fn is_matching<'b, R: Threads + Sync, M: Maker>(
     Ok(!differs)
 }
 
-/// Whether a flat macro passes the quick check: what is looked at is in order, and no loose shape of a leaf cell touches
-/// a shape outside of its instance.
+/// Whether a flat macro passes the quick check: what is looked at is in order, and no loose shape of a leaf cell
+/// touches a shape outside of its instance.
 fn flat_passes<'b, R: Threads + Sync, M: Maker>(
     rt: &R,
     alloc: Global,

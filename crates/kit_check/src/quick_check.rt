@@ -42,9 +42,9 @@ fn pass_windows<R: Threads + Sync, M: Maker + Sync>(
     windows_pass(rt, alloc, &trial, &windows, usize::from(workers))
 }
 
-/// Whether a kit passes the quick check, by 1 to 64 workers: as `weakness`, but the rules of five in nine of the windows
-/// are looked at, and the nets of seven. For macros as a build assembles them it suffices that a kit passes: then it is
-/// good. That a good kit passes isn't claimed. Who gets false asks `weakness`.
+/// Whether a kit passes the quick check, by 1 to 64 workers: as `weakness`, but the rules of five in nine of the
+/// windows are looked at, and the nets of seven. For macros as a build assembles them it suffices that a kit passes:
+/// then it is good. That a good kit passes isn't claimed. Who gets false asks `weakness`.
 ///
 /// `Memory`: an answer or a list could not be made.
 pub fn passes_quick_check<R: Threads + Sync, M: Maker + Sync>(

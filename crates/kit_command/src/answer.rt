@@ -16,8 +16,8 @@ use reply_lines::{Refusal, Reply};
 use std::alloc::Global;
 use std::thread::Threads;
 
-/// The first weakness of a kit, if it has one. A kit that passes the quick check has none: only of one that doesn't, all
-/// windows are looked at.
+/// The first weakness of a kit, if it has one. A kit that passes the quick check has none: only of one that doesn't,
+/// all windows are looked at.
 fn first_weakness<R: Threads + Sync>(
     rt: &R,
     alloc: Global,
@@ -29,8 +29,8 @@ fn first_weakness<R: Threads + Sync>(
     requires at_most { workers ≤ 64 }
     ensures { IfOk result (IsWeakness IsAssembled kit.now) }
 {
-    // The calls do nothing when the program runs: their contracts are the laws by which macros can be flattened, no name
-    // is taken, and a kit that passes the quick check is good.
+    // The calls do nothing when the program runs: their contracts are the laws by which macros can be flattened, no
+    // name is taken, and a kit that passes the quick check is good.
     macros_are_whole();
     macros_have_rows();
     unused_names_are_free();

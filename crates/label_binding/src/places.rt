@@ -9,8 +9,8 @@ use or_geom::Memory;
 use shape_bins::{Bins, near_order};
 use std::alloc::Global;
 
-/// Up to so many labels are looked up in the order in which they are listed, more of them in an order in which near ones
-/// follow one another: to bring fewer into that order would take longer than it saves.
+/// Up to so many labels are looked up in the order in which they are listed, more of them in an order in which near
+/// ones follow one another: to bring fewer into that order would take longer than it saves.
 const FEW_LABELS: usize = 1_048_576;
 
 /// Where the label stands.

@@ -1,5 +1,5 @@
-ghost use Rattle.std.specs.Prelude.{◌≡◌, ◌↔◌, ◌≢◌, ◌⊎◌, ◌++◌, ◌∷◌, [], List, Contains, IfOk, IsTrue, Some, length, slice_get};
-ghost use Rattle.std.specs.Prelude.{true, false};
+ghost use Rattle.std.specs.Prelude.{◌≡◌, ◌↔◌, ◌≢◌, ◌⊎◌, ◌++◌, ◌∷◌, [], List, Contains, IfOk, IsTrue, Some, length};
+ghost use Rattle.std.specs.Prelude.{slice_get, true, false};
 ghost use Rattle.std.specs.List.Sorted.{IsStrictlySortedBy};
 ghost use Rattle.std.specs.Option.{option_copied};
 ghost use Rattle.or_geom.specs.declared.shape.Shape.{Shape};

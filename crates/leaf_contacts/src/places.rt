@@ -16,8 +16,8 @@ struct LastPlaces {
     before: usize,
 }
 
-/// Where the shapes of the cells that were met last stand in the flat layout, by their numbers in the cell. The items of
-/// an array come one after another, and the places of their shapes are mostly equally far apart, so that the next is
+/// Where the shapes of the cells that were met last stand in the flat layout, by their numbers in the cell. The items
+/// of an array come one after another, and the places of their shapes are mostly equally far apart, so that the next is
 /// guessed from the last two. It is a guess: nothing stands on its being right.
 #[derive(Drop)]
 pub struct FoundPlaces {

@@ -160,8 +160,8 @@ fn layout_nets<'b, R: Threads + Sync, G: Gate + Sync>(
     nets_within_rules(sorter, alloc, gate, order, made, &flat, &bins)
 }
 
-/// The rows of the macro's netlist, and the nets of its layout, which breaks no rule. With more than one worker the rows
-/// are made beside all that is done with the layout.
+/// The rows of the macro's netlist, and the nets of its layout, which breaks no rule. With more than one worker the
+/// rows are made beside all that is done with the layout.
 fn rows_and_nets<'b, R: Threads + Sync, G: Gate + Sync>(
     sorter: &WorkerSorter<'_, R>,
     alloc: Global,

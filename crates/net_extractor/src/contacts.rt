@@ -55,8 +55,8 @@ pub fn join_places(
     requires places { (place : ℕ) → Contains places.now place → place < length shapes.now }
     requires run { ArePlacesBelow (length above.old) run.now }
     requires falls { IsFalling above.old }
-    ensures { JoinsSets (λ a b. SomeHas (λ place. IsInContactAt contact shapes.now run.now place a b) places.now) above.old
-        above.new }
+    ensures { JoinsSets (λ a b. SomeHas (λ place. IsInContactAt contact shapes.now run.now place a b) places.now)
+        above.old above.new }
 {
     for place in places {
         let shape = shape_at(shapes, *place);

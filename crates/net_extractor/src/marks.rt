@@ -1,8 +1,8 @@
 ghost use Rattle.std.specs.Prelude.{◌≡◌, ◌<◌, ◌^◌, ℕ, List, length, IsTrue, IfOk, IfSome};
 ghost use Rattle.shape_bins.specs.Nodes.{IsNodeOver};
 ghost use Rattle.net_extractor.specs.Contacts.{ArePlacesBelow};
-ghost use Rattle.net_extractor.specs.Marks.{AreMarkedSets, AreNodeMarks, AreAllTogether, AreRunWith, AreWith, IsFirstWith};
-ghost use Rattle.net_extractor.specs.Marks.{IsInnerOneSet, IsInnerWith, IsNodeOneSet, IsRunWithFirst, IsRunWithNode};
+ghost use Rattle.net_extractor.specs.Marks.{AreMarkedSets, AreNodeMarks, AreAllTogether, AreRunWith, AreWith};
+ghost use Rattle.net_extractor.specs.Marks.{IsFirstWith, IsInnerOneSet, IsInnerWith, IsNodeOneSet, IsRunWithFirst, IsRunWithNode};
 ghost use Rattle.net_extractor.specs.Sets.{AreSameSets, IsFalling};
 
 use crate::run::RunShape;
@@ -111,8 +111,8 @@ fn are_children_with(
     true
 }
 
-/// Whether the children of this node, which is no leaf, are marked and have one root. Then all shapes below it are of one
-/// set.
+/// Whether the children of this node, which is no leaf, are marked and have one root. Then all shapes below it are of
+/// one set.
 fn is_inner_one_set(forest: Forest<'_>, at: usize, marks: &[bool], above: &mut [u32]) -> bool
     requires sets { AreMarkedSets forest above.old marks.now }
     requires inside { at < length forest.nodes.now }

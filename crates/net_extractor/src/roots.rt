@@ -18,8 +18,8 @@ use shape_bins::{Bins, Forest};
 use std::alloc::Global;
 use tech_rules::Connect;
 
-/// Lists that are used again for each run: its shapes, the layers that its layer connects as a cut, and what is found in
-/// a leaf.
+/// Lists that are used again for each run: its shapes, the layers that its layer connects as a cut, and what is found
+/// in a leaf.
 #[derive(Drop)]
 struct Scratch {
     own: Vec<RunShape>,
@@ -112,8 +112,8 @@ fn join_run(
 ) -> Result<(), Memory>
     requires sets { AreMarkedSets forest above.old marks.old }
     requires run { AreOfRun forest.shapes.now run scratch.old.own.items }
-    ensures { OnOk result (JoinsMarked (IsRunPair connections.now forest.entry.shapes.now scratch.old.own.items) forest.entry
-        above.old above.new marks.new) }
+    ensures { OnOk result (JoinsMarked (IsRunPair connections.now forest.entry.shapes.now scratch.old.own.items)
+        forest.entry above.old above.new marks.new) }
 {
     scratch.layers.clear();
     add_cut_to(connections, run.layer, &mut scratch.layers)?;
@@ -138,8 +138,8 @@ fn join_run(
     Ok(())
 }
 
-/// Joins the shapes of the run that begins at a position of the forest's order with those that they touch on their layer
-/// or as cuts, and answers where the run ends.
+/// Joins the shapes of the run that begins at a position of the forest's order with those that they touch on their
+/// layer or as cuts, and answers where the run ends.
 fn join_from(
     connections: &[Connect],
     forest: Forest<'_>,

@@ -73,8 +73,8 @@ fn step(
     Ok(at + 1)
 }
 
-/// Joins the run's shapes with all shapes of the layer that are in contact with them. `places` is used for what is found
-/// in a leaf.
+/// Joins the run's shapes with all shapes of the layer that are in contact with them. `places` is used for what is
+/// found in a leaf.
 pub fn join_contacts(
     forest: Forest<'_>,
     search: Search<'_>,
@@ -84,7 +84,8 @@ pub fn join_contacts(
 ) -> Result<(), Memory>
     requires sets { AreMarkedSets forest above.old marks.old }
     requires run { AreOfRun forest.shapes.now search.run search.own.now }
-    ensures { OnOk result (JoinsMarked (IsSearched forest.entry search.entry) forest.entry above.old above.new marks.new) }
+    ensures { OnOk result (JoinsMarked (IsSearched forest.entry search.entry) forest.entry above.old above.new
+        marks.new) }
 {
     let range = nodes_of(forest, search.layer);
     let mut at = range.first;

@@ -29,8 +29,8 @@ use std::thread::Threads;
 use tech_rules::{RoleName, Tech};
 use tile_checker::{Gate, Violation, check_all};
 
-/// `nets` and `compare` are not told how many workers they have: a few threads share the nets, and lists are sorted by as
-/// many threads as there are processors.
+/// `nets` and `compare` are not told how many workers they have: a few threads share the nets, and lists are sorted by
+/// as many threads as there are processors.
 const NET_WORKERS: u8 = 2;
 
 /// What sorts and shares the work of `nets` and `compare`.

@@ -92,9 +92,9 @@ impl<'b> Bins<'b> {
         rect_at(self.forest, layer, cell)
     }
 
-    /// A box that the layer covers and that holds the unit cell with this lower left corner: of those that are known the
-    /// largest is taken, though nothing is claimed of its size. None says nothing: only boxes are known that many shapes
-    /// fill together.
+    /// A box that the layer covers and that holds the unit cell with this lower left corner: of those that are known
+    /// the largest is taken, though nothing is claimed of its size. None says nothing: only boxes are known that many
+    /// shapes fill together.
     pub fn filled_at(&self, layer: u16, cell: Point) -> Option<ClearBox>
         ensures { IfSome result (IsClearBox self.now layer cell) }
     {

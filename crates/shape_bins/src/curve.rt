@@ -51,10 +51,10 @@ fn spread(bits: u32) -> u32 {
     (bits | (bits << 1)) & 0x5555_5555
 }
 
-/// Where the point, whose coordinates have 16 bits, stands on Hilbert's curve, which fills the plane: what stands near on
-/// the curve lies near. How the curve is turned at a bit depends on all bits above it. It is found for all bits at once:
-/// for pairs of them, then for four, eight and sixteen, which takes a tenth of the time of one after another. Nothing is
-/// claimed of the number: each order of the shapes gives the same answers.
+/// Where the point, whose coordinates have 16 bits, stands on Hilbert's curve, which fills the plane: what stands near
+/// on the curve lies near. How the curve is turned at a bit depends on all bits above it. It is found for all bits at
+/// once: for pairs of them, then for four, eight and sixteen, which takes a tenth of the time of one after another.
+/// Nothing is claimed of the number: each order of the shapes gives the same answers.
 pub fn curve_at(x: u32, y: u32) -> u32 {
     let turns = joined(joined(joined(turns_of(x, y), 2), 4), 8);
     let swap = turns.swap ^ (turns.swap >> 1);

@@ -3,7 +3,8 @@ ghost use Rattle.or_geom.specs.Adds.{Adds};
 ghost use Rattle.or_geom.specs.Gathering.{SomeGives};
 ghost use Rattle.shape_bins.specs.Hits.{IsNearShape};
 ghost use Rattle.tile_checker.specs.Firsts.{ArePlaces};
-ghost use Rattle.tile_checker.specs.Candidates.{IsCandidateAt, AreCandidates, AreCandidatesOver, AreTrueCandidates, MeetsAt};
+ghost use Rattle.tile_checker.specs.Candidates.{IsCandidateAt, AreCandidates, AreCandidatesOver, AreTrueCandidates};
+ghost use Rattle.tile_checker.specs.Candidates.{MeetsAt};
 ghost use Rattle.tile_checker.specs.Seen.{AreTrueNotes};
 
 use crate::first::shape_at;

@@ -138,9 +138,9 @@ fn add_pairs(
 }
 
 /// Lists the places of the partner's shapes that meet the area, but for some that break no rule of this minimum with
-/// the first shape. These lie with it in one box, so that their layer covers the gap between them, or are no nearer than
-/// the minimum, as all shapes outside of a box are whose clearance isn't less. A box of such clearance is kept in the
-/// notes, since the next shapes often lie in it too. No other is: the bins may know a larger one round these.
+/// the first shape. These lie with it in one box, so that their layer covers the gap between them, or are no nearer
+/// than the minimum, as all shapes outside of a box are whose clearance isn't less. A box of such clearance is kept in
+/// the notes, since the next shapes often lie in it too. No other is: the bins may know a larger one round these.
 fn list_partners(
     bins: &Bins,
     partner: u16,

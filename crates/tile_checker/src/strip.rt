@@ -1,8 +1,8 @@
 ghost use Rattle.std.specs.Prelude.{◌≤ℤ◌, ◌<ℤ◌, ◌+ℤ◌};
 ghost use Rattle.or_geom.specs.Covered.{HasCell};
 ghost use Rattle.shape_bins.specs.Layers.{rects_on};
-ghost use Rattle.tile_checker.specs.Strips.{IsFrameHull, HaveCell, IsRaisedBy, IsLoweredBy, HasCommonRows, IsStripThrough};
-ghost use Rattle.tile_checker.specs.Strips.{IsUpwardStrip, IsDownward, IsStripAt};
+ghost use Rattle.tile_checker.specs.Strips.{IsFrameHull, HaveCell, IsRaisedBy, IsLoweredBy, HasCommonRows};
+ghost use Rattle.tile_checker.specs.Strips.{IsStripThrough, IsUpwardStrip, IsDownward, IsStripAt};
 
 use crate::frame::Frame;
 use or_geom::{Point, Rect};
