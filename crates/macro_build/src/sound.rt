@@ -88,6 +88,25 @@ fn check_rules<'b, R: Threads + Sync, G: Gate + Sync>(
     }
 }
 
+/// The nets of a flat layout.
+fn flat_nets<'b, R: Threads + Sync>(
+    sorter: &WorkerSorter<'_, R>,
+    alloc: Global,
+    order: &Order,
+    flat: &Flat<'b>,
+    bins: &Bins<'b>,
+) -> Result<Nets<'b>, BuildFault>
+    requires rises { IsStrictlySortedBy shape_order flat.now.shapes.now }
+    requires bins { bins.now ≡ flat.now.shapes.now }
+    requires few { length flat.now.labels.now ≤ 2 ^ 22 }
+    ensures { MatchResult result (λ nets. AreNets order.now.kit.now.tech flat.now.shapes.now
+        (map plain_label flat.now.labels.now) (map plain_net nets.labels))
+        (IsBuildFault order.now.kit.now order.now.plan.now (held_of order.now.contents) order.now.name.now) }
+{
+    let tech = &order.kit.tech;
+    Ok(extract_by(sorter.rt, alloc, tech, flat, bins, sorter.workers)?)
+}
+
 /// The nets of a flat layout that breaks no rule. With more than one worker they are extracted while the rules are
 /// checked.
 fn nets_within_rules<'b, R: Threads + Sync, G: Gate + Sync>(
@@ -130,10 +149,7 @@ fn nets_within_rules<'b, R: Threads + Sync, G: Gate + Sync>(
             (map plain_label flat.entry.now.labels.now) (map plain_net nets.labels))
             (IsBuildFault order.entry.now.kit.now order.entry.now.plan.now (held_of order.entry.now.contents)
             order.entry.now.name.now) }
-    {
-        let tech = &order.kit.tech;
-        Ok(extract_by(sorter.rt, alloc, tech, flat, bins, sorter.workers)?)
-    };
+    { flat_nets(sorter, alloc, order, flat, bins) };
     let (_, nets) = try_join_by(sorter.rt, sorter.workers, rules, nets)?;
     Ok(nets)
 }
